@@ -1,0 +1,161 @@
+-- Warshall's closure: n rows of arcs, with one element after the other as a way through, represent the order of the arcs. For any n.
+-- Assumes nothing.
+use mathlib.Core.Path.{_≡_, sym, ap, _∙_}
+use mathlib.Core.Bool.{true, _&&_, _||_}
+use mathlib.Core.List.{List}
+use mathlib.Core.Logic.{_⊎_, inl, inr, ⊎-elim, _↔_}
+use Prim.Native.Nat.{ℕ, zero, suc, _^_, _<_}
+use native.Mathlib.Decide.{decLt}
+use native.Mathlib.Omega.{arith}
+use lib.Bits.{bitOr, or-lt}
+use lib.Pow.{pow-pos}
+use lib.ListN.{length}
+use Rattle.words.specs.Bits.{bit}
+use Rattle.words.specs.Loops.{upto}
+use Rattle.words.specs.Tables.{table}
+use Rattle.words.proofs.Tests.{clash, or-says, and-says, cond-has, below-suc}
+use Rattle.words.proofs.Bits.{bit-above}
+use Rattle.words.proofs.Tables.{updated, length-table, getD-table}
+use Rattle.order.specs.Before.{Before, last, Drawn}
+use Rattle.order.specs.Rows.{row, after, Represents, passed, passing}
+use Rattle.order.proofs.Before.{before-trans, before-least}
+use Rattle.order.proofs.Represents.{row-past, after-past, bit-cond}
+
+-- what holds of the rows when the elements below k have been ways through: arcs are there, what is there is a way, and ways through an
+-- element below k are there
+pub record Closing (n : ℕ) (A : ℕ → ℕ → Type 0) (k : ℕ) (rows : List ℕ) : Type 0 where
+  pub long : length rows ≡ n
+  pub fit : (i : ℕ) → row rows i < 2 ^ n
+  pub holds : (i j : ℕ) → A i j → after rows i j ≡ true
+  pub sound : (i j : ℕ) → after rows i j ≡ true → Before A i j
+  pub through : (p : ℕ) → p < k → (i j : ℕ) → after rows i p ≡ true → after rows p j ≡ true → after rows i j ≡ true
+
+module _ (n : ℕ) (rows : List ℕ) (long : length rows ≡ n) (k : ℕ) where
+  pass-row : ℕ → ℕ
+  pass-row i = passed k (row rows k) (row rows i)
+
+  pass-table : passing n k rows ≡ table n (λ i. passed k (row rows k) (row rows i))
+  pass-table = updated (λ i w. passed k (row rows k) w) n rows long
+
+  pass-long : length (passing n k rows) ≡ n
+  pass-long = ap length pass-table ∙ length-table n (λ i. passed k (row rows k) (row rows i))
+
+  row-pass : (i : ℕ) → i < n → row (passing n k rows) i ≡ passed k (row rows k) (row rows i)
+  row-pass i h = ap (λ (l : List ℕ). row l i) pass-table ∙ getD-table n (λ i. passed k (row rows k) (row rows i)) i 0 h
+
+  -- after the pass i is before j where it was, or was before k and k before j
+  abbrev Passed : ℕ → ℕ → Type 0
+  Passed i j = (after rows i j ≡ true) ⊎ ((after rows i k ≡ true) × (after rows k j ≡ true))
+
+  below : (i j : ℕ) → after rows i j ≡ true → i < n
+  below i j e = go (decLt i n)
+    where
+      go : Dec (i < n) → i < n
+      go (yes h) = h
+      go (no h) = clash e (after-past n rows i j long (omega arith))
+
+  after-pass : (i j : ℕ) → (after (passing n k rows) i j ≡ true) ↔ Passed i j
+  after-pass i j = at (decLt i n)
+    where
+      same : i < n → after (passing n k rows) i j ≡ after rows i j || (after rows i k && after rows k j)
+      same h = ap (λ (w : ℕ). bit w j) (row-pass i h) ∙ bit-cond (after rows i k) (row rows i) (row rows k) j
+
+      says : (after rows i j || (after rows i k && after rows k j) ≡ true) ↔ Passed i j
+      says = (
+        (λ e. ⊎-elim inl (λ f. inr (and-says (after rows i k) (after rows k j) .0 f)) (or-says (after rows i j) (after rows i k && after rows k j) .0 e)),
+        (λ p. or-says (after rows i j) (after rows i k && after rows k j) .1 (⊎-elim inl (λ q. inr (and-says (after rows i k) (after rows k j) .1 q)) p)),
+      )
+
+      at : Dec (i < n) → (after (passing n k rows) i j ≡ true) ↔ Passed i j
+      at (yes h) = ((λ e. says .0 (sym (same h) ∙ e)), (λ p. same h ∙ says .1 p))
+      at (no h) = (
+        (λ e. clash e (after-past n (passing n k rows) i j pass-long (omega arith))),
+        ⊎-elim (λ e. absurd (h (below i j e))) (λ p. absurd (h (below i k (p .0)))),
+      )
+
+module _ (n : ℕ) (A : ℕ → ℕ → Type 0) (k : ℕ) (rows : List ℕ) (c : Closing n A k rows) where
+  pass-fit : (i : ℕ) → row (passing n k rows) i < 2 ^ n
+  pass-fit i = at (decLt i n)
+    where
+      at : Dec (i < n) → row (passing n k rows) i < 2 ^ n
+      at (yes h) =
+          rw (row-pass n rows (c .long) k i h)
+          (cond-has (λ w. w < 2 ^ n) (after rows i k) (bitOr (row rows i) (row rows k)) (row rows i) (λ e. or-lt n (row rows i) (row rows k) (c .fit i) (c .fit k)) (λ e. c .fit i))
+      at (no h) = rw (row-past n (passing n k rows) i (pass-long n rows (c .long) k) (omega arith)) (pow-pos n)
+
+  -- the pass changes neither who is before k, nor what k is before
+  to-k : (i : ℕ) → Passed n rows (c .long) k i k → after rows i k ≡ true
+  to-k i = ⊎-elim (λ e. e) (λ p. p .0)
+
+  from-k : (j : ℕ) → Passed n rows (c .long) k k j → after rows k j ≡ true
+  from-k j = ⊎-elim (λ e. e) (λ p. p .1)
+
+  through-here : (i j : ℕ) → Passed n rows (c .long) k i k → Passed n rows (c .long) k k j → Passed n rows (c .long) k i j
+  through-here i j p q = inr (to-k i p, from-k j q)
+
+  through-earlier : (p : ℕ) → p < k → (i j : ℕ) → Passed n rows (c .long) k i p → Passed n rows (c .long) k p j → Passed n rows (c .long) k i j
+  through-earlier p h i j (inl a) (inl b) = inl (c .through p h i j a b)
+  through-earlier p h i j (inl a) (inr b) = inr (c .through p h i k a (b .0), b .1)
+  through-earlier p h i j (inr a) (inl b) = inr (a .0, c .through p h k j (a .1) b)
+  through-earlier p h i j (inr a) (inr b) = inr (a .0, b .1)
+
+  pub pass-closing : Closing n A (suc k) (passing n k rows)
+  pass-closing =
+      record {
+        long = pass-long n rows (c .long) k;
+        fit = pass-fit;
+        holds = λ i j a. after-pass n rows (c .long) k i j .1 (inl (c .holds i j a));
+        sound = λ i j e.
+            ⊎-elim (c .sound i j) (λ p. before-trans (c .sound i k (p .0)) (c .sound k j (p .1))) (after-pass n rows (c .long) k i j .0 e);
+        through =
+            below-suc (λ p. (i j : ℕ) → after (passing n k rows) i p ≡ true → after (passing n k rows) p j ≡ true → after (passing n k rows) i j ≡ true) k
+            (λ p h i j a b. says i j (through-earlier p h i j (said i p a) (said p j b)))
+            (λ i j a b. says i j (through-here i j (said i k a) (said k j b)));
+      }
+    where
+      said : (i j : ℕ) → after (passing n k rows) i j ≡ true → Passed n rows (c .long) k i j
+      said i j = after-pass n rows (c .long) k i j .0
+
+      says : (i j : ℕ) → Passed n rows (c .long) k i j → after (passing n k rows) i j ≡ true
+      says i j = after-pass n rows (c .long) k i j .1
+
+-- n rows of n digits are where it starts
+pub closing-start : (n : ℕ) (rows : List ℕ) → length rows ≡ n → ((i : ℕ) → row rows i < 2 ^ n) → Closing n (Drawn n (after rows)) 0 rows
+closing-start n rows long fit =
+    record {
+      long = long;
+      fit = fit;
+      holds = λ i j d. d .drawn;
+      sound = λ i j e. last (record { from = below n rows long 0 i j e; to = to i j e; drawn = e });
+      through = λ p h. absurd (omega arith);
+    }
+  where
+    to : (i j : ℕ) → after rows i j ≡ true → j < n
+    to i j e = go (decLt j n)
+      where
+        go : Dec (j < n) → j < n
+        go (yes h) = h
+        go (no h) = clash e (bit-above n (row rows i) j (fit i) (omega arith))
+
+-- and at the end every way is there
+pub closing-end : (n : ℕ) (arcs rows : List ℕ) → Closing n (Drawn n (after arcs)) n rows → Represents n rows (Drawn n (after arcs))
+closing-end n arcs rows c =
+    record {
+      long = c .long;
+      fit = c .fit;
+      means = λ i j. (c .sound i j, λ b. reached i j b);
+    }
+  where
+    leads : (i j k : ℕ) → (j < n) × (after rows i j ≡ true) → (k < n) × (after rows j k ≡ true) → (k < n) × (after rows i k ≡ true)
+    leads i j k p q = (q .0, c .through j (p .0) i k (p .1) (q .1))
+
+    reached : (i j : ℕ) → Before (Drawn n (after arcs)) i j → after rows i j ≡ true
+    reached i j b = before-least (λ x y. (y < n) × (after rows x y ≡ true)) (λ x y d. (d .to, c .holds x y d)) leads b .1
+
+pub closed : (n : ℕ) (rows : List ℕ) → length rows ≡ n → ((i : ℕ) → row rows i < 2 ^ n) → Represents n (upto (passing n) n rows) (Drawn n (after rows))
+unfolding upto
+closed n rows long fit = closing-end n rows (upto (passing n) n rows) (run n)
+  where
+    run : (k : ℕ) → Closing n (Drawn n (after rows)) k (upto (passing n) k rows)
+    run zero = closing-start n rows long fit
+    run (suc k) = pass-closing n (Drawn n (after rows)) k (upto (passing n) k rows) (run k)

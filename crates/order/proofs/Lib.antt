@@ -1,0 +1,8 @@
+-- Laws of the definitions of `specs/`, which callers cite; whoever builds on an order needs nothing else.
+pub mod Before
+pub mod Nodes
+pub mod Sets
+pub mod Represents
+pub mod Closure
+pub mod Arcs
+pub mod Orders

@@ -1,0 +1,139 @@
+-- Laws of orders of 64 elements: each says what arcs an order is the order of. Whoever builds on an order cites these. Assumes nothing.
+use mathlib.Core.Path.{_≡_, refl, sym, ap, _∙_}
+use mathlib.Core.Bool.{Bool, true, false, _||_}
+use mathlib.Core.List.{List, [], _∷_, _++_, List·Memᴰ·head, List·Memᴰ·tail, List·Memᴰ·cases-cons, List·Memᴰ·append-cases, List·Memᴰ·eq-of-singleton, Memᴰ·append-left, Memᴰ·append-right}
+use mathlib.Core.Logic.{_⊎_, inl, inr, ⊎-elim, _↔_, Iff·symm}
+use Prim.Native.Nat.{ℕ, _^_, _≤_, _<_}
+use lib.Bits.{bitOr}
+use lib.ListN.{length}
+use Rattle.words.specs.Bits.{bit}
+use Rattle.words.specs.Loops.{upto}
+use Rattle.words.proofs.Bits.{bit-or}
+use Rattle.words.proofs.Tests.{or-says}
+use Rattle.words.proofs.Tables.{getD-table}
+use Rattle.order.specs.Before.{Before, Joined, Acyclic, With, NoArc, Within, Drawn, Arc, arc, _∈_, In}
+use Rattle.order.specs.Rows.{row, after, Represents, grow, rowsOf, arcsIn, passing}
+use Rattle.order.specs.Orders.{OrderOf, isBefore, emptyOrder, extended, circleOf, orderOf, Direct, orderIn, joinedRows}
+use Rattle.order.specs.declared.Order.{Order}
+use Rattle.order.proofs.Before.{before-same, before-implied, drawn-within}
+use Rattle.order.proofs.Represents
+use Rattle.order.proofs.Closure.{closed}
+use Rattle.order.proofs.Arcs.{rows-represent, arcs-drawn}
+
+abbrev ofRows : List ℕ → Order
+ofRows rs = record { rows = rs }
+
+-- ---- the order without arcs, and one arc more
+
+pub empty-order : OrderOf emptyOrder NoArc
+empty-order = Represents.empty-represents 64
+
+pub extended-order : (o : Order) {A : ℕ → ℕ → Type 0} (x y : ℕ) → OrderOf o A → x < 64 → y < 64 → OrderOf (extended o x y) (With A x y)
+unfolding extended
+extended-order o x y r hx hy = Represents.grow-represents 64 (o .rows) x y r hx hy
+
+-- ---- what an order of arcs says
+
+module _ {o : Order} {A : ℕ → ℕ → Type 0} (r : OrderOf o A) where
+  pub order-means : (i j : ℕ) → (isBefore o i j ≡ true) ↔ Before A i j
+  order-means = r .means
+
+  pub before? : (i j : ℕ) → Dec (Before A i j)
+  before? = Represents.before? r
+
+  pub order-trans : (i j k : ℕ) → isBefore o i j ≡ true → isBefore o j k ≡ true → isBefore o i k ≡ true
+  order-trans = Represents.after-trans r
+
+  pub order-free : Acyclic A → (i : ℕ) → isBefore o i i ≡ false
+  order-free = Represents.after-free r
+
+  pub circle-le : circleOf o ≤ 64
+  unfolding circleOf
+  circle-le = Represents.circle-le r
+
+  -- no circle is found exactly where there is none
+  pub circle-none : (circleOf o ≡ 64) ↔ Acyclic A
+  unfolding circleOf
+  circle-none = Represents.circle-none r
+
+  -- the element that is found is before itself, and none below it is
+  pub circle-lowest : circleOf o < 64 → Before A (circleOf o) (circleOf o) × ((i : ℕ) → i < circleOf o → Before A i i → ⊥)
+  unfolding circleOf
+  circle-lowest = Represents.circle-some r
+
+  -- arcs that lead the same ways have the same order, however they are given
+  pub order-same : {B : ℕ → ℕ → Type 0} {p : Order} → OrderOf p B → ((i j : ℕ) → Before A i j ↔ Before B i j) → o ≡ p
+  order-same {p = p} s same = ap ofRows (Represents.represents-once r (p .rows) s same)
+
+  -- adding an arc that is implied changes nothing
+  pub order-implied : (x y : ℕ) → x < 64 → y < 64 → Before A x y → extended o x y ≡ o
+  order-implied x y hx hy b =
+      sym (order-same (extended-order o x y r hx hy) (λ i j. Iff·symm (before-implied implied i j)))
+    where
+      implied : (i j : ℕ) → (i ≡ x) × (j ≡ y) → Before A i j
+      implied i j e = rw (e .0, e .1) b
+
+-- ---- the order of a list of arcs
+
+order-rows : (arcs : List Arc) → orderOf arcs ≡ record { rows = rowsOf 64 arcs }
+unfolding orderOf extended rowsOf
+order-rows [] = refl
+order-rows (a ∷ arcs) = ap (λ (o : Order). ofRows (grow 64 (o .rows) (a .from) (a .to))) (order-rows arcs)
+
+pub list-order : (arcs : List Arc) → Within 64 (In arcs) → OrderOf (orderOf arcs) (In arcs)
+list-order arcs w = rw (order-rows arcs) (rows-represent 64 arcs w)
+
+-- the same arcs, in any order and any number of times, give the same order
+pub list-same : (xs ys : List Arc) → Within 64 (In xs) → ((a : Arc) → (a ∈ xs) ↔ (a ∈ ys)) → orderOf xs ≡ orderOf ys
+list-same xs ys w same =
+    order-same (list-order xs w) (list-order ys (λ i j m. w i j (same (arc i j) .1 m))) (before-same (λ i j. same (arc i j)))
+
+-- so an arc may as well be added last
+pub list-snoc : (arcs : List Arc) (a : Arc) → Within 64 (In (a ∷ arcs)) → orderOf (arcs ++ a ∷ []) ≡ extended (orderOf arcs) (a .from) (a .to)
+unfolding orderOf
+list-snoc arcs a w = sym (list-same (a ∷ arcs) (arcs ++ a ∷ []) w (λ b. (there b, back b)))
+  where
+    there : (b : Arc) → b ∈ (a ∷ arcs) → b ∈ (arcs ++ a ∷ [])
+    there b m = ⊎-elim (λ e. Memᴰ·append-right arcs (List·Memᴰ·head e)) (λ k. Memᴰ·append-left (a ∷ []) k) (List·Memᴰ·cases-cons m)
+
+    back : (b : Arc) → b ∈ (arcs ++ a ∷ []) → b ∈ (a ∷ arcs)
+    back b m = ⊎-elim (λ k. List·Memᴰ·tail k) (λ k. List·Memᴰ·head (List·Memᴰ·eq-of-singleton k)) (List·Memᴰ·append-cases arcs m)
+
+-- ---- the order of arcs that are given as rows
+
+pub direct-order : (rows : List ℕ) → OrderOf (orderIn rows) (Direct rows)
+unfolding orderIn
+direct-order rows =
+    Represents.represents-same
+    (list-order (arcsIn 64 rows 64) (λ i j m. drawn-within 64 (after rows) i j (arcs-drawn 64 rows i j .0 m)))
+    (before-same (arcs-drawn 64 rows))
+
+-- the same arcs, the same order
+pub direct-same : (xs ys : List ℕ) → ((i j : ℕ) → Direct xs i j ↔ Direct ys i j) → orderIn xs ≡ orderIn ys
+direct-same xs ys same = order-same (direct-order xs) (direct-order ys) (before-same same)
+
+-- Warshall's closure finds it
+pub direct-closed : (rows : List ℕ) → length rows ≡ 64 → ((i : ℕ) → row rows i < 2 ^ 64) → record { rows = upto (passing 64) 64 rows } ≡ orderIn rows
+direct-closed rows long fit = order-same (closed 64 rows long fit) (direct-order rows) (λ i j. (λ b. b, λ b. b))
+
+-- ---- two tables of arcs together
+
+after-joined : (a b : List ℕ) (i j : ℕ) → i < 64 → after (joinedRows a b) i j ≡ after a i j || after b i j
+unfolding joinedRows
+after-joined a b i j h = ap (λ (w : ℕ). bit w j) (getD-table 64 (λ k. bitOr (row a k) (row b k)) i 0 h) ∙ bit-or (row a i) (row b i) j
+
+-- an arc of the two together is an arc of the one or of the other
+pub direct-joined : (a b : List ℕ) (i j : ℕ) → Direct (joinedRows a b) i j ↔ Joined (Direct a) (Direct b) i j
+direct-joined a b i j = (
+  (λ d. ⊎-elim (λ e. inl (drawn (d .from) (d .to) e)) (λ e. inr (drawn (d .from) (d .to) e)) (or-says (after a i j) (after b i j) .0 (sym (after-joined a b i j (d .from)) ∙ d .drawn))),
+  ⊎-elim
+      (λ d. drawn (d .from) (d .to) (after-joined a b i j (d .from) ∙ or-says (after a i j) (after b i j) .1 (inl (d .drawn))))
+      (λ d. drawn (d .from) (d .to) (after-joined a b i j (d .from) ∙ or-says (after a i j) (after b i j) .1 (inr (d .drawn)))),
+)
+  where
+    drawn : {test : ℕ → ℕ → Bool} → i < 64 → j < 64 → test i j ≡ true → Drawn 64 test i j
+    drawn h l e = record { from = h; to = l; drawn = e }
+
+-- the plan order: the order of all arcs
+pub joined-order : (a b : List ℕ) → OrderOf (orderIn (joinedRows a b)) (Joined (Direct a) (Direct b))
+joined-order a b = Represents.represents-same (direct-order (joinedRows a b)) (before-same (direct-joined a b))

@@ -1,0 +1,62 @@
+-- What comes before what, by arcs. Arcs are any relation between elements; a list of arcs and a table of tests are two ways to give one.
+-- Assumes nothing.
+use mathlib.Core.Path.{_≡_}
+use mathlib.Core.Bool.{Bool, true}
+use mathlib.Core.List.{List, List·Memᴰ}
+use mathlib.Core.Logic.{_⊎_}
+use Prim.Native.Nat.{ℕ, _<_}
+
+-- "Activity i is before j when arcs lead from i to j in one step or more."
+-- It is the least transitive relation that holds the arcs (`before-trans`, `before-least` of proofs/Before.antt), the paper's T(E).
+pub data Before (A : ℕ → ℕ → Type 0) : ℕ → ℕ → Type 0 where
+  last : {i j : ℕ} → A i j → Before A i j
+  more : {i j k : ℕ} → A i j → Before A j k → Before A i k
+
+-- "The job order uses job arcs, the plan order all arcs."
+-- With the job arcs J and the extra arcs X the job order is `Before J`, and the plan order `Before (Joined J X)`.
+abbrev pub Joined : (ℕ → ℕ → Type 0) → (ℕ → ℕ → Type 0) → ℕ → ℕ → Type 0
+Joined A B i j = A i j ⊎ B i j
+
+-- "A circle exists when some activity is before itself."
+abbrev pub Circle : (ℕ → ℕ → Type 0) → Type 0
+Circle A = (i : ℕ) × Before A i i
+
+-- "A plan is without a circle when its plan order has none."
+-- This says so of any arcs; of a plan it is `Acyclic (Joined J X)`. Then `Before` is a strict order.
+abbrev pub Acyclic : (ℕ → ℕ → Type 0) → Type 0
+Acyclic A = (i : ℕ) → Before A i i → ⊥
+
+-- "Adding an arc to an order gives the order so extended." These are the arcs of the extended order: A, and the one from x to y.
+abbrev pub With : (ℕ → ℕ → Type 0) → ℕ → ℕ → ℕ → ℕ → Type 0
+With A x y i j = A i j ⊎ ((i ≡ x) × (j ≡ y))
+
+-- "The order without arcs": no arc leads anywhere.
+abbrev pub NoArc : ℕ → ℕ → Type 0
+NoArc i j = ⊥
+
+-- every arc's ends are elements below n
+abbrev pub Within : ℕ → (ℕ → ℕ → Type 0) → Type 0
+Within n A = (i j : ℕ) → A i j → (i < n) × (j < n)
+
+-- ---- two ways to give arcs
+
+-- the arcs between elements below n that a test draws
+pub record Drawn (n : ℕ) (arcs : ℕ → ℕ → Bool) (i j : ℕ) : Type 0 where
+  pub from : i < n
+  pub to : j < n
+  pub drawn : arcs i j ≡ true
+
+-- the arcs of a list
+pub record Arc : Type 0 where
+  pub from : ℕ
+  pub to : ℕ
+
+abbrev pub arc : ℕ → ℕ → Arc
+arc i j = record { from = i; to = j }
+
+infixl 50 _∈_
+abbrev pub _∈_ : Arc → List Arc → Type 0
+a ∈ arcs = List·Memᴰ a arcs
+
+abbrev pub In : List Arc → ℕ → ℕ → Type 0
+In arcs i j = arc i j ∈ arcs

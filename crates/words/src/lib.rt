@@ -1,0 +1,71 @@
+// The smallest functions on words and numbers: each is one operation of the machine, with its meaning.
+ghost use mathlib.Core.Path.{_≡_};
+ghost use Prim.Native.Nat.{max, min, _^_, _<_};
+ghost use Rattle.words.specs.Bits.{bit, withBit, minus, rest};
+ghost use Rattle.words.specs.Members.{count, first};
+
+// Whether i is a member of the word: whether its bit is 1.
+pub fn has(w: u64, i: usize) -> bool
+    requires { ⌜ i < 64 ⌝ }
+    ensures { λ r. ⌜ r ≡ bit w i ⌝ }
+{
+    (w >> i) % 2 == 1
+}
+
+// The word with the member i.
+pub fn with_bit(w: u64, i: usize) -> u64
+    requires { ⌜ i < 64 ⌝ }
+    ensures { λ r. ⌜ r ≡ withBit w i ⌝ }
+{
+    w | (1 << i)
+}
+
+// The word a without the members of b.
+pub fn without(a: u64, b: u64) -> u64
+    ensures { λ r. ⌜ r ≡ minus a b ⌝ }
+{
+    a - (a & b)
+}
+
+// How many members the word has.
+pub fn size(w: u64) -> usize
+    ensures { λ r. ⌜ r ≡ count 64 (bit w) ⌝ }
+{
+    u64::count_ones(w) as usize
+}
+
+// The lowest member of the word, and 64 where there is none.
+pub fn lowest(w: u64) -> usize
+    ensures { λ r. ⌜ r ≡ first 64 (bit w) ⌝ }
+{
+    u64::trailing_zeros(w) as usize
+}
+
+// The word without its lowest member. A loop over the members of a word ends where the word is 0.
+pub fn without_lowest(w: u64) -> u64
+    requires { ⌜ 0 < w ⌝ }
+    ensures { λ r. ⌜ r ≡ rest w ⌝ }
+{
+    w & (w - 1)
+}
+
+// The larger of two numbers.
+pub fn larger(a: u32, b: u32) -> u32
+    ensures { λ r. ⌜ r ≡ max a b ⌝ }
+{
+    if a < b { b } else { a }
+}
+
+// The smaller of two numbers.
+pub fn smaller(a: u32, b: u32) -> u32
+    ensures { λ r. ⌜ r ≡ min a b ⌝ }
+{
+    if a < b { a } else { b }
+}
+
+// A number, in 64 bits.
+pub fn wide(x: u32) -> u64
+    ensures { λ r. ⌜ (r ≡ x) × (r < 2 ^ 32) ⌝ }
+{
+    x as u64
+}
