@@ -6,6 +6,7 @@ use native.Mathlib.Omega.{arith}
 use lib.Dec.{ltb, eqb}
 use borrow.Author.Tests.{lt-ltb, le-ltb, ltb-true, eq-eqb, ne-eqb, eqb-true}
 use Rattle.words.proofs.Tests.{and-left, and-right, and-both, or-left, or-right, or-cases}
+use Rattle.order.specs.Before.{StrictOrder}
 use Rattle.order.specs.Nodes.{nodeBefore}
 
 module _ (n : ℕ) (b : ℕ → ℕ → Bool) where
@@ -30,21 +31,20 @@ module _ (n : ℕ) (b : ℕ → ℕ → Bool) where
   pub between : (i j : ℕ) → i < n → j < n → nodeBefore n b (suc i) (suc j) ≡ b i j
   between i j hi hj = rw (lt-ltb i n hi, ne-eqb j n (λ e. omega arith), lt-ltb j n hj)
 
-  module _ (free : (i : ℕ) → i < n → b i i ≡ true → ⊥) (leads : (i j k : ℕ) → i < n → j < n → k < n → b i j ≡ true → b j k ≡ true → b i k ≡ true) where
+  module _ (o : StrictOrder n b) where
     inner : (i j : ℕ) → nodeBefore n b (suc i) (suc j) ≡ true → (i < n) × (eqb j n || (ltb j n && b i j) ≡ true)
     inner i j h =
         (ltb-true i n (and-left (ltb i n) (eqb j n || (ltb j n && b i j)) h), and-right (ltb i n) (eqb j n || (ltb j n && b i j)) h)
 
-    -- the nodes of a strict order are in a strict order
-    pub nodes-free : (u : ℕ) → nodeBefore n b u u ≡ true → ⊥
+    nodes-free : (u : ℕ) → nodeBefore n b u u ≡ true → ⊥
     nodes-free zero h = let z : _≡_ {A = ℕ} 0 1 = cc in omega arith
     nodes-free (suc i) h =
         let r = inner i i h in
         or-cases (eqb i n) (ltb i n && b i i) (r .1)
         (λ e. omega (arith, eqb-true i n e, r .0))
-        (λ e. free i (r .0) (and-right (ltb i n) (b i i) e))
+        (λ e. o .irreflexive i (r .0) (and-right (ltb i n) (b i i) e))
 
-    pub nodes-lead : (u v w : ℕ) → nodeBefore n b u v ≡ true → nodeBefore n b v w ≡ true → nodeBefore n b u w ≡ true
+    nodes-lead : (u v w : ℕ) → nodeBefore n b u v ≡ true → nodeBefore n b v w ≡ true → nodeBefore n b u w ≡ true
     nodes-lead u zero w p q = let z : _≡_ {A = ℕ} 0 1 = cc (before-start u) in absurd (omega arith)
     nodes-lead u (suc j) zero p q = let z : _≡_ {A = ℕ} 0 1 = cc in absurd (omega arith)
     nodes-lead zero (suc j) (suc k) p q =
@@ -66,4 +66,8 @@ module _ (n : ℕ) (b : ℕ → ℕ → Bool) where
             and-both (ltb k n) (b i k) hk
             (or-cases (eqb j n) (ltb j n && b i j) e
             (λ x. absurd (omega (arith, eqb-true j n x)))
-            (λ x. leads i j k hi hj (ltb-true k n hk) (and-right (ltb j n) (b i j) x) (and-right (ltb k n) (b j k) f)))
+            (λ x. o .transitive i j k hi hj (ltb-true k n hk) (and-right (ltb j n) (b i j) x) (and-right (ltb k n) (b j k) f)))
+
+    -- the nodes of a strict order are in a strict order
+    pub nodes-strict : StrictOrder (suc (suc n)) (nodeBefore n b)
+    nodes-strict = record { irreflexive = λ u h. nodes-free u; transitive = λ u v w hu hv hw. nodes-lead u v w }

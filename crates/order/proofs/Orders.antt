@@ -5,15 +5,16 @@ use mathlib.Core.List.{List, [], _∷_, _++_, List·Memᴰ·head, List·Memᴰ·
 use mathlib.Core.Logic.{_⊎_, inl, inr, ⊎-elim, _↔_, Iff·symm}
 use Prim.Native.Nat.{ℕ, _^_, _≤_, _<_}
 use lib.Bits.{bitOr}
-use lib.ListN.{length}
+use lib.ListN.{length, getD}
 use Rattle.words.specs.Bits.{bit}
 use Rattle.words.specs.Loops.{upto}
 use Rattle.words.proofs.Bits.{bit-or}
-use Rattle.words.proofs.Tests.{or-says}
+use Rattle.words.proofs.Tests.{clash, or-says}
 use Rattle.words.proofs.Tables.{getD-table}
-use Rattle.order.specs.Before.{Before, Joined, Acyclic, With, NoArc, Within, Drawn, Arc, arc, _∈_, In}
+use Rattle.order.specs.Before.{Before, Joined, Acyclic, With, NoArc, StrictOrder, Within, Drawn, Arc, arc, _∈_, In}
 use Rattle.order.specs.Rows.{row, after, Represents, grow, rowsOf, arcsIn, passing}
-use Rattle.order.specs.Orders.{OrderOf, isBefore, emptyOrder, extended, circleOf, orderOf, Direct, orderIn, joinedRows}
+use Rattle.order.specs.Sets.{member}
+use Rattle.order.specs.Orders.{OrderOf, isBefore, afterOf, afterWords, emptyOrder, extended, circleOf, orderOf, Direct, orderIn, joinedRows}
 use Rattle.order.specs.declared.Order.{Order}
 use Rattle.order.proofs.Before.{before-same, before-implied, drawn-within}
 use Rattle.order.proofs.Represents
@@ -32,6 +33,15 @@ pub extended-order : (o : Order) {A : ℕ → ℕ → Type 0} (x y : ℕ) → Or
 unfolding extended
 extended-order o x y r hx hy = Represents.grow-represents 64 (o .rows) x y r hx hy
 
+-- ---- what an order says, whatever arcs it is of
+
+pub after-member : (o : Order) (i j : ℕ) → member (afterOf o i) j ≡ isBefore o i j
+after-member o i j = refl
+
+pub after-word : (o : Order) (i : ℕ) → i < 64 → getD (afterWords o) i 0 ≡ afterOf o i .word
+unfolding afterWords
+after-word o i h = getD-table 64 (λ k. afterOf o k .word) i 0 h
+
 -- ---- what an order of arcs says
 
 module _ {o : Order} {A : ℕ → ℕ → Type 0} (r : OrderOf o A) where
@@ -46,6 +56,15 @@ module _ {o : Order} {A : ℕ → ℕ → Type 0} (r : OrderOf o A) where
 
   pub order-free : Acyclic A → (i : ℕ) → isBefore o i i ≡ false
   order-free = Represents.after-free r
+
+  -- without a circle it is a strict order
+  pub order-strict : Acyclic A → StrictOrder 64 (isBefore o)
+  order-strict free =
+      record { irreflexive = λ i h e. clash e (order-free free i); transitive = λ i j k hi hj hk. order-trans i j k }
+
+  -- the set of all that i is before, by its members; it is a word of 64 digits
+  pub after-fit : (i : ℕ) → afterOf o i .word < 2 ^ 64
+  after-fit = r .fit
 
   pub circle-le : circleOf o ≤ 64
   unfolding circleOf

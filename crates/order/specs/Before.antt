@@ -38,6 +38,12 @@ NoArc i j = ⊥
 abbrev pub Within : ℕ → (ℕ → ℕ → Type 0) → Type 0
 Within n A = (i j : ℕ) → A i j → (i < n) × (j < n)
 
+-- A strict order of the elements below n, as a test: none is before itself, and what is before an element is before all that comes after it.
+-- The order of a plan without a circle is one.
+pub record StrictOrder (n : ℕ) (b : ℕ → ℕ → Bool) : Type 0 where
+  pub irreflexive : (i : ℕ) → i < n → b i i ≡ true → ⊥
+  pub transitive : (i j k : ℕ) → i < n → j < n → k < n → b i j ≡ true → b j k ≡ true → b i k ≡ true
+
 -- ---- two ways to give arcs
 
 -- the arcs between elements below n that a test draws

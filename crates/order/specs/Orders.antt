@@ -22,6 +22,10 @@ isBefore o i j = after (o .rows) i j
 abbrev pub afterOf : Order → ℕ → Set
 afterOf o i = record { word = row (o .rows) i }
 
+-- the words of these sets, for all elements
+unfoldable pub afterWords : Order → List ℕ
+afterWords o = table 64 (λ i. afterOf o i .word)
+
 -- "The order without arcs": `Order::empty()`
 abbrev pub emptyOrder : Order
 emptyOrder = record { rows = replicate 64 0 }

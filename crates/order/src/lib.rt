@@ -3,7 +3,7 @@ ghost use mathlib.Core.Path.{_≡_};
 ghost use Prim.Native.Nat.{_<_};
 ghost use Rattle.order.specs.Sets.{member, emptySet, withElement, unionOf, meetOf, minusOf, sizeOf, lowestOf, withoutLowest};
 ghost use Rattle.order.specs.Rows.{gained, passed, passing};
-ghost use Rattle.order.specs.Orders.{emptyOrder, extended, isBefore, afterOf, circleOf, orderIn, joinedRows};
+ghost use Rattle.order.specs.Orders.{emptyOrder, extended, isBefore, afterOf, afterWords, circleOf, orderIn, joinedRows};
 
 // A set of the elements 0 to 63: bit i of the word stands for the element i.
 pub struct Set {
@@ -135,6 +135,13 @@ impl Order {
         ensures { λ r. ⌜ r ≡ afterOf self i ⌝ }
     {
         Set { word: self.rows[i] }
+    }
+
+    // The words of all that each element is before.
+    pub fn after_words(self) -> [u64; 64]
+        ensures { λ r. ⌜ r ≡ afterWords self ⌝ }
+    {
+        self.rows
     }
 
     // The lowest element that is before itself, and 64 where there is none.

@@ -20,6 +20,14 @@ pub fn with_bit(w: u64, i: usize) -> u64
     w | (1 << i)
 }
 
+// The word without the member i.
+pub fn without_bit(w: u64, i: usize) -> u64
+    requires { ⌜ i < 64 ⌝ }
+    ensures { λ r. ⌜ r ≡ minus w (2 ^ i) ⌝ }
+{
+    without(w, 1 << i)
+}
+
 // The word a without the members of b.
 pub fn without(a: u64, b: u64) -> u64
     ensures { λ r. ⌜ r ≡ minus a b ⌝ }

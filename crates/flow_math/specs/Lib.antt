@@ -1,0 +1,7 @@
+-- Need, handover, resource flow and crew, for one kind and any number n of elements, in reading order. `b i j` says that the element i is
+-- before j, `d i` is the demand of i. Quotations are from document 01 unless another is named; "the paper" is document 000.
+-- The theorems are in `proofs/`.
+pub mod Need
+pub mod Handover
+pub mod Flow
+pub mod Crew
