@@ -1,15 +1,15 @@
 -- Laws of sets. Assumes nothing.
-use mathlib.Core.Path.{_≡_, refl, sym, ap, ap₂, _∙_}
-use mathlib.Core.Bool.{Bool, true, false, not, _&&_, _||_, and-true}
-use mathlib.Core.Logic.{_↔_, _≢_}
+use mathlib.Core.Path.{_≡_, ap, _∙_}
+use mathlib.Core.Bool.{Bool, true, false, not, _&&_, _||_}
+use mathlib.Core.Logic.{_↔_}
 use Prim.Native.Nat.{ℕ, suc, _^_, _≤_, _<_}
 use native.Mathlib.Nat.{lt-of-lt-of-le}
 use lib.Dec.{eqb}
-use borrow.Author.Tests.{eq-eqb, ne-eqb}
 use Rattle.words.proofs.Bits.{bit-zero, bit-or, bit-and, bit-minus, bit-single, bit-same}
-use Rattle.words.proofs.Counts.{count-le, count-none, count-mono, count-out}
+use Rattle.words.proofs.Counts.{count-le, count-none, count-mono}
 use Rattle.words.proofs.Firsts.{first-le, first-none, at-first, before-first}
 use Rattle.words.proofs.Members.{bit-rest}
+use Rattle.words.proofs.Sizes.{count-rest}
 use Rattle.order.specs.Sets.{member, emptySet, withElement, unionOf, meetOf, minusOf, sizeOf, lowestOf, withoutLowest}
 use Rattle.order.specs.declared.Set.{Set}
 
@@ -68,12 +68,4 @@ member-without-lowest s fit i = bit-rest 64 (s .word) i fit
 
 -- a set is one smaller: the measure of a loop that lists the members
 pub size-without-lowest : (s : Set) → s .word < 2 ^ 64 → lowestOf s < 64 → sizeOf s ≡ suc (sizeOf (withoutLowest s))
-size-without-lowest s fit h = count-out 64 (member s) (member (withoutLowest s)) (lowestOf s) h (lowest-member s h) gone kept
-  where
-    gone : member (withoutLowest s) (lowestOf s) ≡ false
-    gone =
-        member-without-lowest s fit (lowestOf s)
-        ∙ ap₂ (λ (a b : Bool). a && not b) (lowest-member s h) (eq-eqb (lowestOf s) (lowestOf s) refl)
-
-    kept : (i : ℕ) → i ≢ lowestOf s → member s i ≡ member (withoutLowest s) i
-    kept i ne = sym (member-without-lowest s fit i ∙ ap (λ (b : Bool). member s i && not b) (ne-eqb i (lowestOf s) ne) ∙ and-true (member s i))
+size-without-lowest s fit h = count-rest 64 (s .word) fit h

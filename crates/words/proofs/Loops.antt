@@ -28,11 +28,11 @@ module _ {S : Type 0} (k : ℕ) (f : S → ℕ → S) where
   each-more s w p h = ap (fold f s) (members-more k w p h)
 
   -- What a loop asks whose invariant is `(each k f s w ≡ r) × (w < 2 ^ k)`, with r the run from the start and w as its measure:
-  -- the turn at the lowest member b keeps it, the number falls (`rest-lt`), and at 0 the state is r.
-  pub each-again : (s : S) (w b : ℕ) {s′ r : S} → (w ≡ 0 → ⊥) → (each k f s w ≡ r) × (w < 2 ^ k) → b ≡ first k (bit w) → s′ ≡ f s b
-      → (each k f s′ (rest w) ≡ r) × (rest w < 2 ^ k)
-  each-again s w b n i q t = (
-    ap (λ x. each k f x (rest w)) t ∙ ap (λ (x : ℕ). each k f (f s x) (rest w)) q ∙ sym (each-more s w (omega arith) (i .1)) ∙ i .0,
+  -- the turn at the lowest member b, on to the rest v, keeps it; v falls (`rest-less`); and at 0 the state is r.
+  pub each-again : (s : S) (w b : ℕ) {v : ℕ} {s′ r : S} → (w ≡ 0 → ⊥) → (each k f s w ≡ r) × (w < 2 ^ k) → b ≡ first k (bit w) → s′ ≡ f s b
+      → v ≡ rest w → (each k f s′ v ≡ r) × (v < 2 ^ k)
+  each-again s w b {v} n i q t e = (
+    ap (each k f _) e ∙ ap (λ x. each k f x (rest w)) t ∙ ap (λ (x : ℕ). each k f (f s x) (rest w)) q ∙ sym (each-more s w (omega arith) (i .1)) ∙ i .0,
     omega (arith, rest-le w),
   )
 

@@ -71,6 +71,10 @@ low-lt (suc k) w p h =
     (λ e. omega (arith, low-odd k w e))
     (Bits.even-or-odd w)
 
+-- the same of a number b that code has in hand
+pub low-place : (k w : ℕ) {b : ℕ} → (w ≡ 0 → ⊥) → w < 2 ^ k → b ≡ first k (bit w) → b < k
+low-place k w n h q = rw q (low-lt k w (omega arith) h)
+
 pub low-member : (k w : ℕ) → 0 < w → w < 2 ^ k → bit w (first k (bit w)) ≡ true
 low-member k w p h = at-first k (bit w) (low-lt k w p h)
 
@@ -81,6 +85,10 @@ rest-lt w n = omega (arith, and-le-r w (w - 1))
 
 pub rest-le : (w : ℕ) → rest w ≤ w
 rest-le w = and-le-l w (w - 1)
+
+-- the same of a number v that code has in hand
+pub rest-less : {v : ℕ} (w : ℕ) → (w ≡ 0 → ⊥) → v ≡ rest w → v < w
+rest-less w n e = rw e (rest-lt w n)
 
 rest-none : (w i : ℕ) (t : Bool) → w ≡ 0 → bit (rest w) i ≡ bit w i && t
 rest-none w i t z =
@@ -145,14 +153,14 @@ has-lead : (d b : ℕ) (xs : List ℕ) → Has b xs → Has b (lead d xs)
 has-lead zero b xs h = h
 has-lead (suc d) b xs h = inr h
 
--- every member is in the list
-pub member-has : (k w b : ℕ) → w < 2 ^ k → digit w b ≡ 1 → Has b (members k w)
+-- every member below k is in the list
+pub member-has : (k w b : ℕ) → b < k → digit w b ≡ 1 → Has b (members k w)
 unfolding members
-member-has zero w b h e = absurd (omega (arith, ap (λ (x : ℕ). digit x b) (lt-one h), Bits.digit-none b))
+member-has zero w b h e = absurd (omega arith)
 member-has (suc k) w zero h e = rw (sym (Bits.digit-first w) ∙ e) (inl refl)
 member-has (suc k) w (suc b) h e =
     has-lead (w % 2) (suc b) (map suc (members k (w / 2)))
-    (has-suc b (members k (w / 2)) (member-has k (w / 2) b (Bits.half-lt k w h) (sym (Bits.digit-next w b) ∙ e)))
+    (has-suc b (members k (w / 2)) (member-has k (w / 2) b (omega arith) (sym (Bits.digit-next w b) ∙ e)))
 
 has-pred : (b : ℕ) (xs : List ℕ) → Has (suc b) (map suc xs) → Has b xs
 has-pred b [] h = h

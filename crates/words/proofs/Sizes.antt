@@ -1,15 +1,19 @@
 -- How many members a number has, by `count_ones`, after each operation. Assumes nothing.
-use mathlib.Core.Path.{_≡_, sym, ap, ap₂, _∙_}
-use mathlib.Core.Logic.{⊎-elim}
+use mathlib.Core.Path.{_≡_, refl, sym, ap, ap₂, _∙_}
+use mathlib.Core.Bool.{Bool, false, not, _&&_, and-true}
+use mathlib.Core.Logic.{⊎-elim, _≢_}
 use Prim.Native.Nat.{ℕ, zero, suc, _+_, _/_, _%_, _^_, _≤_, _<_}
 use native.Mathlib.Omega.{arith}
 use lib.Arith.{lt-one}
 use lib.Bits.{bitOr, or-step}
 use lib.Count.{ones, ones-step, ones-le}
-use Rattle.words.specs.Bits.{digit, bit}
-use Rattle.words.specs.Members.{tally, count}
+use borrow.Author.Tests.{eq-eqb, ne-eqb}
+use Rattle.words.specs.Bits.{digit, bit, rest}
+use Rattle.words.specs.Members.{tally, count, first}
 use Rattle.words.proofs.Bits
-use Rattle.words.proofs.Counts.{count-cong}
+use Rattle.words.proofs.Counts.{count-cong, count-out}
+use Rattle.words.proofs.Firsts.{at-first}
+use Rattle.words.proofs.Members.{bit-rest, low-lt, rest-le}
 
 tally-digit : (w i : ℕ) → tally (bit w i) ≡ digit w i
 tally-digit w i =
@@ -64,3 +68,18 @@ ones-or (suc k) a b h l =
       ones-step b,
       ones-or k (a / 2) (b / 2) (Bits.half-lt k a h) (Bits.half-lt k b l),
     )
+
+-- without its lowest member a number has one member less
+pub count-rest : (k w : ℕ) → w < 2 ^ k → first k (bit w) < k → count k (bit w) ≡ suc (count k (bit (rest w)))
+count-rest k w fit h = count-out k (bit w) (bit (rest w)) (first k (bit w)) h (at-first k (bit w) h) gone kept
+  where
+    gone : bit (rest w) (first k (bit w)) ≡ false
+    gone =
+        bit-rest k w (first k (bit w)) fit
+        ∙ ap₂ (λ (a b : Bool). a && not b) (at-first k (bit w) h) (eq-eqb (first k (bit w)) (first k (bit w)) refl)
+
+    kept : (i : ℕ) → i ≢ first k (bit w) → bit w i ≡ bit (rest w) i
+    kept i ne = sym (bit-rest k w i fit ∙ ap (λ (b : Bool). bit w i && not b) (ne-eqb i (first k (bit w)) ne) ∙ and-true (bit w i))
+
+pub ones-rest : (k w : ℕ) → 0 < w → w < 2 ^ k → ones (rest w) + 1 ≡ ones w
+ones-rest k w p h = omega (arith, ones-count k w h, ones-count k (rest w) (omega (arith, rest-le w)), count-rest k w h (low-lt k w p h))

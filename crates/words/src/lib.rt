@@ -35,18 +35,25 @@ pub fn without(a: u64, b: u64) -> u64
     a - (a & b)
 }
 
+// A count of bits, as an index.
+fn index(x: u32) -> usize
+    ensures { λ r. ⌜ r ≡ x ⌝ }
+{
+    x as usize
+}
+
 // How many members the word has.
 pub fn size(w: u64) -> usize
     ensures { λ r. ⌜ r ≡ count 64 (bit w) ⌝ }
 {
-    u64::count_ones(w) as usize
+    index(u64::count_ones(w))
 }
 
 // The lowest member of the word, and 64 where there is none.
 pub fn lowest(w: u64) -> usize
     ensures { λ r. ⌜ r ≡ first 64 (bit w) ⌝ }
 {
-    u64::trailing_zeros(w) as usize
+    index(u64::trailing_zeros(w))
 }
 
 // The word without its lowest member. A loop over the members of a word ends where the word is 0.

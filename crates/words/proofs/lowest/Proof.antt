@@ -1,15 +1,12 @@
 -- `words::lowest` meets its contract, by `trailing-first`. Assumes nothing.
-use native.Mathlib.Omega.{arith}
-use lib.Count.{trailing-le}
+use mathlib.Core.Path.{_∙_}
+use borrow.Author.Needs.{needs}
 use Rattle.words.proofs.Members.{trailing-first}
 use Rattle.words.proofs.lowest.Statement.{statement}
 use Rattle.words.proofs.lowest.Tie as tie
 
-cast-result : tie.Need-cast-result
-cast-result c = omega (arith, trailing-le 64 (c .args .w))
-
 returns : tie.Need-returns
-returns c = trailing-first 64 (c .args .w)
+returns c = c .index .ensures ∙ trailing-first 64 (c .before .args .w)
 
 pub lowest-spec : {M : Type 1} → statement M
-lowest-spec = tie.close (tie.spec cast-result returns)
+lowest-spec = tie.close (tie.spec (λ c κs. search needs) returns)

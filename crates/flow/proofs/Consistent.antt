@@ -1,0 +1,38 @@
+-- What holds of a handover before and after each round, and at the start. Assumes nothing.
+use mathlib.Core.List.{List}
+use Prim.Native.Nat.{ℕ, _≤_, _<_}
+use Rattle.flow.specs.Network.{Network, joined, shifted}
+use Rattle.flow.specs.Solve.{rounded, started}
+use Rattle.flow.proofs.Balance.{Balanced, joined-balanced, shifted-balanced}
+use Rattle.flow.proofs.Linked.{Linked, joined-linked, shifted-linked}
+use Rattle.flow.proofs.Kept.{rounded-keeps, started-keeps}
+use Rattle.flow.proofs.Ordered.{Ordered, rounded-ordered, started-ordered}
+
+-- in balance with the demands d, along the order of the rows, and the words of givers say where there is flow
+pub record Consistent (d : ℕ → ℕ) (rows : List ℕ) (s : Network) : Type 0 where
+  pub balanced : Balanced d s
+  pub linked : Linked s
+  pub ordered : Ordered rows s
+
+module _ (d : ℕ → ℕ) (small : (p : ℕ) → p < 64 → d p ≤ 65535) (rows : List ℕ) where
+  joins : (t : Network) (i j : ℕ) → i < 64 → j < 64 → Balanced d t → Balanced d (joined t i j)
+  joins t i j hi hj b = joined-balanced d small t b i j hi hj
+
+  shifts : (t : Network) (i k j : ℕ) → i < 64 → k < 64 → j < 64 → Balanced d t → Balanced d (shifted t i k j)
+  shifts t i k j hi hk hj b = shifted-balanced d small t b i k j hi hk hj
+
+  pub round-consistent : (s : Network) → Consistent d rows s → Consistent d rows (rounded rows s .now)
+  round-consistent s f =
+      record {
+        balanced = rounded-keeps (Balanced d) joins shifts rows s (f .balanced);
+        linked = rounded-keeps Linked joined-linked shifted-linked rows s (f .linked);
+        ordered = rounded-ordered rows s (f .linked .fit) (f .ordered);
+      }
+
+  pub start-consistent : (s : Network) → Consistent d rows s → Consistent d rows (started rows s)
+  start-consistent s f =
+      record {
+        balanced = started-keeps (Balanced d) joins shifts rows s (f .balanced);
+        linked = started-keeps Linked joined-linked shifted-linked rows s (f .linked);
+        ordered = started-ordered rows s (f .ordered);
+      }

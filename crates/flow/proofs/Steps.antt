@@ -1,0 +1,182 @@
+-- What the model comes to at each step, from the values that the code has in hand. Assumes nothing.
+use mathlib.Core.Path.{_≡_, sym, ap, ap₂, _∙_, refl}
+use mathlib.Core.List.{List}
+use Prim.Native.Nat.{ℕ, _+_, _-_, _^_, _<_, min, _≤_}
+use native.Mathlib.Numerals.{add-one}
+use native.Mathlib.Omega.{arith}
+use lib.ListN.{getD, set}
+use lib.Bits.{bitAnd, bitOr, bitXor}
+use borrow.Author.Tests.{eq-eqb, ne-eqb, lt-ltb, le-ltb}
+use Rattle.words.specs.Bits.{minus, withBit, rest}
+use Rattle.words.specs.Loops.{each, upto}
+use Rattle.words.proofs.Tests.{cond-true, cond-false}
+use Rattle.order.specs.declared.Order.{Order}
+use Rattle.order.specs.Orders.{afterWords}
+use Rattle.flow.specs.declared.Search.{Search}
+use Rattle.flow.specs.declared.Quoted.{Quoted}
+use Rattle.flow.specs.Search.{low, marks, Seen, seen, visit, reached, fresh, found, onward, advance, begun, reach}
+use Rattle.flow.specs.Network.{Network, network, wrap, cell, giver, positive, joined, shifted, walk, handing, augmented}
+use Rattle.flow.specs.Solve.{blanks, Round, round, solved, rankOf, ranking, ranked, handRank, started, sought, rounded, next, settle}
+use Rattle.flow.specs.Quote.{unused, copied, outcome, amount, quoted, quoteOf, flowOf}
+
+-- ---- a search
+
+-- the taker j adds those that give to it and were not seen before
+pub visits : {new : ℕ} {marked : List ℕ} (givers : List ℕ) (s : Seen) (j : ℕ)
+    → new ≡ minus (getD givers j 0) (s .word) → marked ≡ marks (s .parents) new j → seen (bitOr (s .word) new) marked ≡ visit givers s j
+visits givers s j e m = ap₂ seen (ap (bitOr (s .word)) e) (m ∙ ap (λ (x : ℕ). marks (s .parents) x j) e)
+
+-- a turn at the giver i, which reaches the takers `new`
+
+module _ (rows givers : List ℕ) (slack : ℕ) (s : Search) (lefts rights : List ℕ) where
+  hit-at : (bitAnd (fresh rows s) slack ≡ 0 → ⊥)
+      → advance rows givers slack (reached s lefts rights)
+      ≡ reached (found s (fresh rows s) (bitAnd (fresh rows s) slack)) lefts (marks rights (fresh rows s) (low (s .frontier)))
+  unfolding advance
+  hit-at n = cond-false _ _ (ne-eqb _ _ n)
+
+  miss-at : (w : Seen) → w ≡ each 64 (visit givers) (seen (s .left) lefts) (fresh rows s) → bitAnd (fresh rows s) slack ≡ 0
+      → advance rows givers slack (reached s lefts rights)
+      ≡ reached (onward s (fresh rows s) (w .word)) (w .parents) (marks rights (fresh rows s) (low (s .frontier)))
+  unfolding advance
+  miss-at w e z = rw e (cond-true _ _ (eq-eqb _ _ z))
+
+  module _ (i : ℕ) (e : i ≡ low (s .frontier)) (new : ℕ) (n : new ≡ minus (getD rows i 0) (s .right)) (marked : List ℕ)
+      (m : marked ≡ marks rights new i) where
+    same : new ≡ fresh rows s
+    same = n ∙ ap (λ (x : ℕ). minus (getD rows x 0) (s .right)) e
+
+    same-marks : marked ≡ marks rights (fresh rows s) (low (s .frontier))
+    same-marks = m ∙ ap₂ (marks rights) same e
+
+    pub turn-hit : {at : ℕ} → (bitAnd new slack ≡ 0 → ⊥) → at ≡ low (bitAnd new slack)
+        → reached (record { frontier = 0; next = 0; left = s .left; right = bitOr (s .right) new; at = at }) lefts marked
+        ≡ advance rows givers slack (reached s lefts rights)
+    turn-hit h q = cc (same, same-marks, hit-at (λ z. h (ap (λ (x : ℕ). bitAnd x slack) same ∙ z)))
+
+    module _ {left r : ℕ} {lefts′ : List ℕ} (o : r ≡ rest (s .frontier))
+        (w : seen left lefts′ ≡ each 64 (visit givers) (seen (s .left) lefts) new) (z : bitAnd new slack ≡ 0) where
+      missed : advance rows givers slack (reached s lefts rights)
+          ≡ reached (onward s (fresh rows s) left) lefts′ (marks rights (fresh rows s) (low (s .frontier)))
+      missed =
+          miss-at (seen left lefts′) (w ∙ ap (each 64 (visit givers) (seen (s .left) lefts)) same)
+          (ap (λ (x : ℕ). bitAnd x slack) (sym same) ∙ z)
+
+      pub turn-last : r ≡ 0
+          → reached (record { frontier = bitOr (s .next) (bitXor left (s .left)); next = 0; left = left; right = bitOr (s .right) new; at = 64 }) lefts′ marked
+          ≡ advance rows givers slack (reached s lefts rights)
+      turn-last l = cc (same, same-marks, missed, eq-eqb (rest (s .frontier)) 0 (sym o ∙ l))
+
+      pub turn-on : (r ≡ 0 → ⊥)
+          → reached (record { frontier = r; next = bitOr (s .next) (bitXor left (s .left)); left = left; right = bitOr (s .right) new; at = 64 }) lefts′ marked
+          ≡ advance rows givers slack (reached s lefts rights)
+      turn-on l = cc (same, same-marks, missed, ne-eqb (rest (s .frontier)) 0 (λ y. l (o ∙ y)))
+
+-- ---- the moves
+
+pub given-none : {v : ℕ} (w i n : ℕ) → v ≡ minus w (2 ^ i) → n ≡ 0 → v ≡ giver w i n
+unfolding giver
+given-none w i n e z = e ∙ sym (cond-true (minus w (2 ^ i)) (withBit w i) (eq-eqb n 0 z))
+
+pub given-some : {v : ℕ} (w i n : ℕ) → v ≡ withBit w i → (n ≡ 0 → ⊥) → v ≡ giver w i n
+unfolding giver
+given-some w i n e z = e ∙ sym (cond-false (minus w (2 ^ i)) (withBit w i) (ne-eqb n 0 z))
+
+pub positive-none : (a : List ℕ) → 0 ≡ positive 0 a
+unfolding positive
+positive-none a = refl
+
+pub positive-more : (a : List ℕ) (i w v : ℕ) → w ≡ positive i a → v ≡ giver w i (getD a i 0) → v ≡ positive (i + 1) a
+unfolding positive
+positive-more a i w v e q = q ∙ ap (λ (x : ℕ). giver x i (getD a i 0)) e ∙ ap (λ (x : ℕ). positive x a) (sym (add-one i))
+
+pub joins : (f g l r : List ℕ) (i j d n : ℕ) (f′ g′ : List ℕ)
+    → d ≡ min (getD l i 0) (getD r j 0)
+    → n ≡ wrap (getD f (cell i j) 0 + d)
+    → (f′ ≡ set f (cell i j) n) × (g′ ≡ set g j (giver (getD g j 0) i n))
+    → network f′ g′ (set l i (getD l i 0 - d)) (set r j (getD r j 0 - d)) ≡ joined (network f g l r) i j
+unfolding joined
+joins f g l r i j d n f′ g′ e q p = cc (e, q, p .0, p .1)
+
+pub shifts : (f g l r : List ℕ) (i k j d n v : ℕ) (f₁ g₁ f₂ g₂ : List ℕ)
+    → d ≡ min (getD r j 0) (getD f (cell i k) 0)
+    → (f₁ ≡ set f (cell i k) (getD f (cell i k) 0 - d)) × (g₁ ≡ set g k (giver (getD g k 0) i (getD f (cell i k) 0 - d)))
+    → n ≡ wrap (getD f₁ (cell i j) 0 + d)
+    → (f₂ ≡ set f₁ (cell i j) n) × (g₂ ≡ set g₁ j (giver (getD g₁ j 0) i n))
+    → v ≡ wrap (getD (set r j (getD r j 0 - d)) k 0 + d)
+    → network f₂ g₂ l (set (set r j (getD r j 0 - d)) k v) ≡ shifted (network f g l r) i k j
+unfolding shifted
+shifts f g l r i k j d n v f₁ g₁ f₂ g₂ e p q p₂ t = cc (e, p .0, p .1, q, p₂ .0, p₂ .1, t)
+
+pub walks : {s t : Network} (j : ℕ) → s ≡ t → walk s j ≡ walk t j
+walks j e = ap (λ (x : Network). walk x j) e
+
+-- where one of the two has nothing left nothing is handed over
+module _ (i : ℕ) (s : Network) where
+  pub hands-none : (j : ℕ) {d : ℕ} → d ≡ min (getD (s .left) i 0) (getD (s .right) j 0) → d ≡ 0 → s ≡ handing i s j
+  unfolding handing
+  hands-none j e z = sym (cond-true s (joined s i j) (eq-eqb (min (getD (s .left) i 0) (getD (s .right) j 0)) 0 (sym e ∙ z)))
+
+  pub hands-some : (j : ℕ) {d : ℕ} → d ≡ min (getD (s .left) i 0) (getD (s .right) j 0) → (d ≡ 0 → ⊥) → joined s i j ≡ handing i s j
+  unfolding handing
+  hands-some j e n = sym (cond-false s (joined s i j) (ne-eqb (min (getD (s .left) i 0) (getD (s .right) j 0)) 0 (λ z. n (e ∙ z))))
+
+  pub hands-spent : getD (s .left) i 0 ≡ 0 → (j : ℕ) → handing i s j ≡ s
+  hands-spent z j = sym (hands-none j refl (omega arith))
+
+-- ---- the start
+
+pub rankings : (rows b : List ℕ) (i c w : ℕ)
+    → c ≡ rankOf (getD rows i 0) → w ≡ giver (getD b c 0) i 1 → set b c w ≡ ranking rows i b
+rankings rows b i c w e q = cc (e, q)
+
+pub starts : {b : List ℕ} (rows : List ℕ) (s : Network) → b ≡ ranked rows → upto (handRank rows b) 64 s ≡ started rows s
+unfolding started
+starts rows s e = ap (λ (x : List ℕ). upto (handRank rows x) 64 s) e
+
+-- ---- rounds
+
+module _ (rows : List ℕ) (s : Network) (roots slack : ℕ) (lefts₀ rights₀ lefts rights : List ℕ) (q : Search)
+    (a : roots ≡ positive 64 (s .left)) (b : slack ≡ positive 64 (s .right)) (el : lefts₀ ≡ blanks 64) (er : rights₀ ≡ blanks 0)
+    (e : reached q lefts rights ≡ reach 64 rows (s .givers) slack (reached (begun roots) lefts₀ rights₀)) where
+  seen-as : reached q lefts rights ≡ sought rows s
+  seen-as = cc
+
+  pub round-found : (s′ : Network) → q .at < 64 → s′ ≡ augmented 64 lefts rights (walk s (q .at)) → round s′ q ≡ rounded rows s
+  unfolding rounded
+  round-found s′ h t = rw (← seen-as) (ap (λ (x : Network). round x q) (t ∙ sym (cond-true _ _ (lt-ltb _ _ h))))
+
+  pub round-none : 64 ≤ q .at → round s q ≡ rounded rows s
+  unfolding rounded
+  round-none h = rw (← seen-as) (ap (λ (x : Network). round x q) (sym (cond-false _ _ (le-ltb _ _ h))))
+
+pub solves : {t : Network} {x : Round} (n : ℕ) (rows : List ℕ) (s : Network)
+    → t ≡ started rows s → x ≡ rounded rows t → settle n rows x ≡ solved n rows s
+unfolding solved
+solves n rows s e q = ap (settle n rows) (q ∙ ap (rounded rows) e)
+
+-- ---- the quote
+
+pub amount-none : (a : List ℕ) → 0 ≡ amount 0 a
+unfolding amount
+amount-none a = refl
+
+pub amount-more : (a : List ℕ) (i t v : ℕ) → t ≡ amount i a → v ≡ wrap (t + getD a i 0) → v ≡ amount (i + 1) a
+unfolding amount
+amount-more a i t v e q = q ∙ ap (λ (x : ℕ). wrap (x + getD a i 0)) e ∙ ap (λ (x : ℕ). amount x a) (sym (add-one i))
+
+module _ (o : Order) (demand : List ℕ) {rows f₀ g₀ l₀ f g l r : List ℕ} {q : Search}
+    (en : rows ≡ afterWords o) (ef : f₀ ≡ unused) (eg : g₀ ≡ blanks 0) (el : l₀ ≡ copied demand)
+    (e : round (network f g l r) q ≡ solved 4194240 rows (network f₀ g₀ l₀ l₀)) where
+  ends-as : round (network f g l r) q ≡ outcome (afterWords o) demand
+  unfolding outcome
+  ends-as = cc
+
+  in-hand : {n w v : ℕ} → n ≡ amount 64 l → w ≡ positive 64 demand → v ≡ minus (q .left) (q .right)
+      → _≡_ {A = Quoted} (record { need = n; set = record { word = bitAnd v w } }) (quoted demand (round (network f g l r) q))
+  in-hand a b h = cc (a, b, h)
+
+  pub quotes : {n w v : ℕ} → n ≡ amount 64 l → w ≡ positive 64 demand → v ≡ minus (q .left) (q .right)
+      → (_≡_ {A = Quoted} (record { need = n; set = record { word = bitAnd v w } }) (quoteOf o demand)) × (f ≡ flowOf o demand)
+  unfolding quoteOf flowOf
+  quotes a b h = (in-hand a b h ∙ ap (quoted demand) ends-as, ap (λ (x : Round). x .now .flow) ends-as)

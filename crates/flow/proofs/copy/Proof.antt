@@ -1,0 +1,44 @@
+-- `copy` meets its contract. The invariant: the list has the entries passed. Assumes nothing.
+use mathlib.Core.Path.{_≡_, refl}
+use Prim.Native.Nat.{_-_, _≤_}
+use native.Mathlib.Omega.{arith}
+use borrow.Author.Needs.{needs}
+use Rattle.words.specs.Loops.{upto}
+use Rattle.words.proofs.Loops.{up-none, up-again, up-end}
+use Rattle.flow.specs.Solve.{blanks}
+use Rattle.flow.specs.Quote.{copying, copied}
+use Rattle.flow.proofs.copy.Statement.{statement}
+use Rattle.flow.proofs.copy.Tie as tie
+
+abbrev Inv-loop : tie.InvT-loop
+Inv-loop a b₀ i₀ b i = (b ≡ upto (copying a) i (blanks 0)) × (i ≤ 64)
+
+abbrev μ-loop : tie.MeasureT-loop
+μ-loop a b₀ i₀ b i = 64 - i
+
+loop-holds : tie.Need-loop-holds Inv-loop μ-loop
+unfolding blanks
+loop-holds c = (up-none _ _, omega arith)
+
+loop-again : tie.Need-loop-again Inv-loop μ-loop
+loop-again c = up-again _ 64 _ _ (c .before .loop-test .taken) (c .before .before .loop .inv) refl
+
+returns : tie.Need-returns Inv-loop μ-loop
+unfolding copied
+returns c = up-end _ 64 _ _ (c .loop-test .left) (c .before .loop .inv)
+
+pub copy-spec : {M : Type 1} → statement M
+copy-spec =
+    tie.close
+    (tie.spec
+    Inv-loop
+    μ-loop
+    loop-holds
+    (λ c. search needs)
+    (λ c. search needs)
+    (λ c. search needs)
+    (λ c. search needs)
+    (λ c. search needs)
+    (λ c. search needs)
+    loop-again
+    returns)

@@ -1,0 +1,158 @@
+-- No crew ever occupies more than the need, and one crew occupies it. Assumes nothing.
+use mathlib.Core.Path.{_≡_, ap}
+use mathlib.Core.Bool.{Bool, true, false, _&&_, cond}
+use Prim.Native.Nat.{ℕ, suc, _+_, _*_, _-_, _≤_, _<_}
+use native.Mathlib.Nat.{mul-le-mul-left, mul-suc}
+use native.Mathlib.Omega.{arith}
+use lib.Dec.{leb}
+use borrow.Author.Tests.{leb-true, le-leb}
+use Rattle.words.specs.Sums.{sum}
+use Rattle.words.proofs.Tests
+use Rattle.words.proofs.Firsts
+use Rattle.words.proofs.Sums
+use Rattle.order.specs.Before.{StrictOrder}
+use Rattle.flow_math.specs.Need.{Antichain, weight, Need, needOf}
+use Rattle.flow_math.specs.Crew.{Crew, active, occupied, rank, early, turn, startsAt, Peak}
+use Rattle.flow_math.proofs.Need as Needs
+
+-- two elements that are at work in one period are not ordered
+pub active-antichain : (n : ℕ) (b : ℕ → ℕ → Bool) (s w : ℕ → ℕ) → Crew n b s w → (t : ℕ) → 1 ≤ t → Antichain n b (active s w t)
+active-antichain n b s w c t p i j l m x y h =
+    omega (
+      arith,
+      c .keeps i j l m h,
+      leb-true t (s i + w i) (Tests.and-right (leb (s i) (t - 1)) (leb t (s i + w i)) x),
+      leb-true (s j) (t - 1) (Tests.and-left (leb (s j) (t - 1)) (leb t (s j + w j)) y),
+    )
+
+-- In no period is more than the need occupied.
+pub occupied-at-most : (n : ℕ) (b : ℕ → ℕ → Bool) (d : ℕ → ℕ) (x : ℕ) (s w : ℕ → ℕ) →
+    Need n b d x → Crew n b s w → (t : ℕ) → 1 ≤ t → occupied n d s w t ≤ x
+unfolding occupied weight
+occupied-at-most n b d x s w N c t p = N .most (active s w t) (active-antichain n b s w c t p)
+
+-- a larger set weighs no less
+pub weight-mono : (n : ℕ) (d : ℕ → ℕ) (S T : ℕ → Bool) → ((i : ℕ) → i < n → S i ≡ true → T i ≡ true) → weight n d S ≤ weight n d T
+unfolding weight
+weight-mono n d S T h =
+    Sums.sum-le n (λ i. cond (S i) (d i) 0) (λ i. cond (T i) (d i) 0)
+    (λ i l. Tests.cond-least (S i) (d i) (cond (T i) (d i) 0) (λ e. Tests.cond-at (T i) (d i) (h i l e)))
+
+module _ (n : ℕ) (b : ℕ → ℕ → Bool) (o : StrictOrder n b) where
+  -- the rank rises along the order, and is below n
+  rank-rises : (i j : ℕ) → i < n → j < n → b i j ≡ true → rank n b i < rank n b j
+  unfolding rank
+  rank-rises i j l m h =
+      Sums.sum-lt n (λ k. cond (b k i) 1 0) (λ k. cond (b k j) 1 0) i l
+      (let e : b i i ≡ false = Tests.fails (b i i) (o .irreflexive i l) in rw (e, h) (omega arith))
+      (λ k p. Tests.cond-least (b k i) 1 (cond (b k j) 1 0) (λ e. Tests.cond-at (b k j) 1 (o .transitive k i j p l m e h)))
+
+  rank-below : (i : ℕ) → i < n → rank n b i < n
+  unfolding rank
+  rank-below i l =
+      let s : sum n (λ k. cond (b k i) 1 0) < sum n (λ k. 1) =
+      Sums.sum-lt n (λ k. cond (b k i) 1 0) (λ k. 1) i l
+      (let e : b i i ≡ false = Tests.fails (b i i) (o .irreflexive i l) in rw e (omega arith))
+      (λ k p. Tests.cond-least (b k i) 1 1 (λ e. omega arith)) in
+      omega (arith, Sums.sum-ones n)
+
+  module _ (S : ℕ → Bool) where
+    -- what is before a member of S, or before what is before one, is early
+    early-member : (i j : ℕ) → i < n → j < n → b i j ≡ true → S j ≡ true → early n b S i ≡ true
+    unfolding early
+    early-member i j l m h s = Firsts.some-here n (λ t. S t && b i t) j m (Tests.and-both (S j) (b i j) s h)
+
+    early-before : (i j : ℕ) → i < n → j < n → b i j ≡ true → early n b S j ≡ true → early n b S i ≡ true
+    unfolding early
+    early-before i j l m h e =
+        let r = Firsts.some-found n (λ t. S t && b j t) e in
+        let k = r .0 in
+        early-member i k l (r .1)
+        (o .transitive i j k l m (r .1) h (Tests.and-right (S k) (b j k) (r .2)))
+        (Tests.and-left (S k) (b j k) (r .2))
+
+    -- the three turns
+    turn-early : (i : ℕ) → early n b S i ≡ true → turn n b S i ≡ rank n b i
+    unfolding turn
+    turn-early i e = rw e
+
+    turn-member : (i : ℕ) → early n b S i ≡ false → S i ≡ true → turn n b S i ≡ n
+    unfolding turn
+    turn-member i e s = rw (e, s)
+
+    turn-late : (i : ℕ) → early n b S i ≡ false → S i ≡ false → turn n b S i ≡ suc n + rank n b i
+    unfolding turn
+    turn-late i e s = rw (e, s)
+
+    turn-rises : (i j : ℕ) → i < n → j < n → b i j ≡ true → turn n b S i < turn n b S j
+    turn-rises i j l m h =
+        let r : rank n b i < rank n b j = rank-rises i j l m h in
+        let q : rank n b i < n = rank-below i l in
+        Tests.by-test (early n b S j)
+        (λ e. omega (arith, turn-early j e, turn-early i (early-before i j l m h e)))
+        (λ e. Tests.by-test (S j)
+        (λ s. omega (arith, turn-member j e s, turn-early i (early-member i j l m h s)))
+        (λ s. Tests.by-test (early n b S i)
+        (λ c. omega (arith, turn-late j e s, turn-early i c))
+        (λ c. Tests.by-test (S i)
+        (λ p. omega (arith, turn-late j e s, turn-member i c p))
+        (λ p. omega (arith, turn-late j e s, turn-late i c p)))))
+
+    -- Ordered elements start at least `gap` periods apart.
+    pub starts-apart : (gap i j : ℕ) → i < n → j < n → b i j ≡ true → startsAt n b S gap i + gap ≤ startsAt n b S gap j
+    unfolding startsAt
+    starts-apart gap i j l m h =
+        omega (arith, mul-le-mul-left gap (turn-rises i j l m h), mul-suc gap (turn n b S i))
+
+    -- With durations of at most `gap` it is a crew.
+    pub starts-crew : (gap : ℕ) (w : ℕ → ℕ) → ((i : ℕ) → i < n → (1 ≤ w i) × (w i ≤ gap)) → Crew n b (startsAt n b S gap) w
+    starts-crew gap w h =
+        record {
+          works = λ i l. h i l .0;
+          keeps = λ i j l m e. omega (arith, starts-apart gap i j l m e, h i l .1);
+        }
+
+    -- the members of an unrelated set start together
+    starts-member : Antichain n b S → (gap i : ℕ) → i < n → S i ≡ true → startsAt n b S gap i ≡ gap * n
+    unfolding startsAt early
+    starts-member u gap i l s =
+        ap (λ (t : ℕ). gap * t)
+        (turn-member i
+        (Tests.fails (early n b S i)
+        (λ e. let r = Firsts.some-found n (λ t. S t && b i t) e in
+        let k = r .0 in
+        u i k l (r .1) s (Tests.and-left (S k) (b i k) (r .2)) (Tests.and-right (S k) (b i k) (r .2))))
+        s)
+
+-- The crew of a heaviest unrelated set occupies exactly the need in the period that follows `gap * n`.
+pub peak : (n : ℕ) (b : ℕ → ℕ → Bool) (d : ℕ → ℕ) (x : ℕ) → StrictOrder n b → (N : Need n b d x) → (gap : ℕ) (w : ℕ → ℕ) →
+    ((i : ℕ) → i < n → (1 ≤ w i) × (w i ≤ gap)) → occupied n d (startsAt n b (N .set) gap) w (suc (gap * n)) ≡ x
+unfolding occupied weight
+peak n b d x o N gap w h =
+    let s = startsAt n b (N .set) gap in
+    let t = suc (gap * n) in
+    let c = starts-crew n b o (N .set) gap w h in
+    omega (
+      arith,
+      N .most (active s w t) (active-antichain n b s w c t (omega arith)),
+      weight-mono n d (N .set) (active s w t)
+          (λ i l e. let p = starts-member n b o (N .set) (N .unrelated) gap i l e in
+          Tests.and-both (leb (s i) (t - 1)) (leb t (s i + w i))
+          (le-leb (s i) (t - 1) (omega (arith, p)))
+          (le-leb t (s i + w i) (omega (arith, p, h i l .0)))),
+      N .weighs,
+    )
+
+-- There is a crew at the peak, for all durations from 1 to `gap`.
+pub crew-peak : (n : ℕ) (b : ℕ → ℕ → Bool) (d w : ℕ → ℕ) (gap : ℕ) → StrictOrder n b →
+    ((i : ℕ) → i < n → (1 ≤ w i) × (w i ≤ gap)) → Peak n b d w gap
+crew-peak n b d w gap o h =
+    let N = Needs.needOf-need n b d o in
+    record {
+      starts = startsAt n b (N .set) gap;
+      period = suc (gap * n);
+      crew = starts-crew n b o (N .set) gap w h;
+      apart = starts-apart n b o (N .set) gap;
+      first = omega arith;
+      full = peak n b d (needOf n b d) o N gap w h;
+    }
