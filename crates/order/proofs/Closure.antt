@@ -1,23 +1,25 @@
 -- Warshall's closure: n rows of arcs, with one element after the other as a way through, represent the order of the arcs. For any n.
 -- Assumes nothing.
 use mathlib.Core.Path.{_≡_, sym, ap, _∙_}
-use mathlib.Core.Bool.{true, _&&_, _||_}
+use mathlib.Core.Bool.{true, _&&_, _||_, cond}
 use mathlib.Core.List.{List}
 use mathlib.Core.Logic.{_⊎_, inl, inr, ⊎-elim, _↔_}
 use Prim.Native.Nat.{ℕ, zero, suc, _^_, _<_}
 use native.Mathlib.Decide.{decLt}
 use native.Mathlib.Omega.{arith}
+use lib.Dec.{eqb}
+use borrow.Author.Tests.{eqb-true}
 use lib.Bits.{bitOr, or-lt}
 use lib.Pow.{pow-pos}
 use lib.ListN.{length}
 use Rattle.words.specs.Bits.{bit}
 use Rattle.words.specs.Loops.{upto}
 use Rattle.words.specs.Tables.{table}
-use Rattle.words.proofs.Tests.{clash, or-says, and-says, cond-has, below-suc}
-use Rattle.words.proofs.Bits.{bit-above}
+use Rattle.words.proofs.Tests.{clash, or-says, and-says, or-left, or-right, cond-has, below-suc, same-or-not}
+use Rattle.words.proofs.Bits.{bit-above, bit-or, bit-zero}
 use Rattle.words.proofs.Tables.{updated, length-table, getD-table}
 use Rattle.order.specs.Before.{Before, last, Drawn}
-use Rattle.order.specs.Rows.{row, after, Represents, passed, passing}
+use Rattle.order.specs.Rows.{row, after, Represents, passed, passing, endsIn, passingOver}
 use Rattle.order.proofs.Before.{before-trans, before-least}
 use Rattle.order.proofs.Represents.{row-past, after-past, bit-cond}
 
@@ -152,10 +154,52 @@ closing-end n arcs rows c =
     reached : (i j : ℕ) → Before (Drawn n (after arcs)) i j → after rows i j ≡ true
     reached i j b = before-least (λ x y. (y < n) × (after rows x y ≡ true)) (λ x y d. (d .to, c .holds x y d)) leads b .1
 
-pub closed : (n : ℕ) (rows : List ℕ) → length rows ≡ n → ((i : ℕ) → row rows i < 2 ^ n) → Represents n (upto (passing n) n rows) (Drawn n (after rows))
-unfolding upto
-closed n rows long fit = closing-end n rows (upto (passing n) n rows) (run n)
-  where
-    run : (k : ℕ) → Closing n (Drawn n (after rows)) k (upto (passing n) k rows)
-    run zero = closing-start n rows long fit
-    run (suc k) = pass-closing n (Drawn n (after rows)) k (upto (passing n) k rows) (run k)
+-- ---- passing over elements at which no way goes on
+
+-- a way into k ends with an arc, and a way from k begins with one
+last-arc : {A : ℕ → ℕ → Type 0} {i k : ℕ} → Before A i k → (x : ℕ) × A x k
+last-arc {A} b = before-least (λ i k. (x : ℕ) × A x k) (λ i k m. (i, m)) (λ i j k p q. q) b
+
+ends-in : (n : ℕ) (rows : List ℕ) (i k : ℕ) → i < n → after rows i k ≡ true → bit (endsIn n rows) k ≡ true
+unfolding endsIn
+ends-in zero rows i k h e = absurd (omega arith)
+ends-in (suc n) rows i k h e =
+    bit-or (endsIn n rows) (row rows n) k
+    ∙ ⊎-elim
+    (λ q. or-right (bit (endsIn n rows) k) (after rows n k) (ap (λ (x : ℕ). after rows x k) (sym q) ∙ e))
+    (λ d. or-left (bit (endsIn n rows) k) (after rows n k) (ends-in n rows i k (omega arith) e))
+    (same-or-not i n)
+
+-- where no way goes through k, it is as good as done
+skip-closing : (n : ℕ) (A : ℕ → ℕ → Type 0) (k : ℕ) (rows : List ℕ) → Closing n A k rows
+    → ((i j : ℕ) → after rows i k ≡ true → after rows k j ≡ true → ⊥) → Closing n A (suc k) rows
+skip-closing n A k rows c none =
+    record {
+      long = c .long;
+      fit = c .fit;
+      holds = c .holds;
+      sound = c .sound;
+      through =
+          below-suc (λ p. (i j : ℕ) → after rows i p ≡ true → after rows p j ≡ true → after rows i j ≡ true) k (c .through)
+          (λ i j a b. absurd (none i j a b));
+    }
+
+module _ (n : ℕ) (arcs : List ℕ) where
+  over-closing : (k : ℕ) (rows : List ℕ) → Closing n (Drawn n (after arcs)) k rows
+      → Closing n (Drawn n (after arcs)) (suc k) (passingOver n (endsIn n arcs) k rows)
+  over-closing k rows c =
+      cond-has (Closing n (Drawn n (after arcs)) (suc k)) (eqb (row rows k) 0) rows (cond (bit (endsIn n arcs) k) (passing n k rows) rows)
+      (λ e. skip-closing n (Drawn n (after arcs)) k rows c
+      (λ i j a b. clash b (ap (λ (w : ℕ). bit w j) (eqb-true (row rows k) 0 e) ∙ bit-zero j)))
+      (λ e. cond-has (Closing n (Drawn n (after arcs)) (suc k)) (bit (endsIn n arcs) k) (passing n k rows) rows
+      (λ f. pass-closing n (Drawn n (after arcs)) k rows c)
+      (λ f. skip-closing n (Drawn n (after arcs)) k rows c
+      (λ i j a b. let l = last-arc (c .sound i k a) in clash (ends-in n arcs (l .0) k (l .1 .from) (l .1 .drawn)) f)))
+
+  pub closed : length arcs ≡ n → ((i : ℕ) → row arcs i < 2 ^ n) → Represents n (upto (passingOver n (endsIn n arcs)) n arcs) (Drawn n (after arcs))
+  unfolding upto
+  closed long fit = closing-end n arcs (upto (passingOver n (endsIn n arcs)) n arcs) (run n)
+    where
+      run : (k : ℕ) → Closing n (Drawn n (after arcs)) k (upto (passingOver n (endsIn n arcs)) k arcs)
+      run zero = closing-start n arcs long fit
+      run (suc k) = over-closing k (upto (passingOver n (endsIn n arcs)) k arcs) (run k)

@@ -12,7 +12,7 @@ use Rattle.words.proofs.Bits.{bit-or}
 use Rattle.words.proofs.Tests.{clash, or-says}
 use Rattle.words.proofs.Tables.{getD-table}
 use Rattle.order.specs.Before.{Before, Joined, Acyclic, With, NoArc, StrictOrder, Within, Drawn, Arc, arc, _∈_, In}
-use Rattle.order.specs.Rows.{row, after, Represents, grow, rowsOf, arcsIn, passing}
+use Rattle.order.specs.Rows.{row, after, Represents, grow, rowsOf, arcsIn, endsIn, passingOver}
 use Rattle.order.specs.Sets.{member}
 use Rattle.order.specs.Orders.{OrderOf, isBefore, afterOf, afterWords, emptyOrder, extended, circleOf, orderOf, Direct, orderIn, joinedRows}
 use Rattle.order.specs.declared.Order.{Order}
@@ -132,7 +132,7 @@ pub direct-same : (xs ys : List ℕ) → ((i j : ℕ) → Direct xs i j ↔ Dire
 direct-same xs ys same = order-same (direct-order xs) (direct-order ys) (before-same same)
 
 -- Warshall's closure finds it
-pub direct-closed : (rows : List ℕ) → length rows ≡ 64 → ((i : ℕ) → row rows i < 2 ^ 64) → record { rows = upto (passing 64) 64 rows } ≡ orderIn rows
+pub direct-closed : (rows : List ℕ) → length rows ≡ 64 → ((i : ℕ) → row rows i < 2 ^ 64) → record { rows = upto (passingOver 64 (endsIn 64 rows)) 64 rows } ≡ orderIn rows
 direct-closed rows long fit = order-same (closed 64 rows long fit) (direct-order rows) (λ i j. (λ b. b, λ b. b))
 
 -- ---- two tables of arcs together

@@ -69,6 +69,15 @@ passed k g w = cond (bit w k) (bitOr w g) w
 abbrev pub passing : ℕ → ℕ → List ℕ → List ℕ
 passing n k rows = upto (update (λ i w. passed k (row rows k) w)) n rows
 
+-- the elements at which an arc of the first n rows ends
+unfoldable pub endsIn : ℕ → List ℕ → ℕ
+endsIn zero rows = 0
+endsIn (suc n) rows = bitOr (endsIn n rows) (row rows n)
+
+-- k is passed over where it leads nowhere, or no arc ends at it
+abbrev pub passingOver : ℕ → ℕ → ℕ → List ℕ → List ℕ
+passingOver n ends k rows = cond (eqb (row rows k) 0) rows (cond (bit ends k) (passing n k rows) rows)
+
 -- ---- circles
 
 -- the lowest element that is before itself; n where none is

@@ -2,7 +2,7 @@
 ghost use mathlib.Core.Path.{_≡_};
 ghost use Prim.Native.Nat.{_<_};
 ghost use Rattle.order.specs.Sets.{member, emptySet, withElement, unionOf, meetOf, minusOf, sizeOf, lowestOf, withoutLowest};
-ghost use Rattle.order.specs.Rows.{gained, passed, passing};
+ghost use Rattle.order.specs.Rows.{gained, passed, passing, endsIn, passingOver};
 ghost use Rattle.order.specs.Orders.{emptyOrder, extended, isBefore, afterOf, afterWords, circleOf, orderIn, joinedRows};
 
 // A set of the elements 0 to 63: bit i of the word stands for the element i.
@@ -156,13 +156,15 @@ impl Order {
         64
     }
 
-    // The order of arcs that are given as rows: from i to each member of row i. (Warshall's closure: one element after the other becomes a way through.)
+    // The order of arcs that are given as rows: from i to each member of row i. (Warshall's closure: one element after the other becomes a way
+    // through. Most elements of a sparse plan lead nowhere, or nothing leads to them: those are passed over.)
     pub fn of(arcs: [u64; 64]) -> Self
         ensures { λ r. ⌜ r ≡ orderIn arcs ⌝ }
     {
         let mut rows = arcs;
+        let ends = ends_of(&rows);
         for k in 0..64usize {
-            pass(&mut rows, k);
+            pass_over(&mut rows, ends, k);
         }
         Order { rows }
     }
@@ -196,6 +198,30 @@ fn pass(rows: &mut [u64; 64], k: usize)
     let gain = rows[k];
     for i in 0..64usize {
         rows[i] = with_pass(rows[i], k, gain);
+    }
+}
+
+// The elements at which an arc ends.
+fn ends_of(rows: &[u64; 64]) -> u64
+    ensures { λ r. ⌜ r ≡ endsIn 64 (now (rows .entry)) ⌝ }
+{
+    let mut ends: u64 = 0;
+    for i in 0..64usize {
+        ends |= rows[i];
+    }
+    ends
+}
+
+// The same as `pass`, where an arc ends at k and k leads somewhere; else there is nothing to do.
+fn pass_over(rows: &mut [u64; 64], ends: u64, k: usize)
+    requires { ⌜ k < 64 ⌝ }
+    ensures { λ _. ⌜ now (rows .exit) ≡ passingOver 64 ends k (now (rows .entry)) ⌝ }
+{
+    if rows[k] == 0 {
+        return;
+    }
+    if words::has(ends, k) {
+        pass(rows, k);
     }
 }
 

@@ -8,17 +8,17 @@ use mir.Syntax.{w64}
 use mir.Val.{Fits}
 use Rattle.words.specs.Loops.{upto}
 use Rattle.words.proofs.Loops.{up-none, up-again, up-end}
-use Rattle.order.specs.Rows.{row, passing}
+use Rattle.order.specs.Rows.{row, passingOver}
 use Rattle.order.specs.declared.Order.{Order}
 use Rattle.order.proofs.Orders.{direct-closed}
 use Rattle.order.proofs.Order.of.Statement.{statement}
 use Rattle.order.proofs.Order.of.Tie as tie
 
 abbrev Inv-loop : tie.InvT-loop
-Inv-loop rows₀ k₀ rows k = (rows ≡ upto (passing 64) k rows₀) × (k ≤ 64)
+Inv-loop rows₀ ends k₀ rows k = (rows ≡ upto (passingOver 64 ends) k rows₀) × (k ≤ 64)
 
 abbrev μ-loop : tie.MeasureT-loop
-μ-loop rows₀ k₀ rows k = 64 - k
+μ-loop rows₀ ends k₀ rows k = 64 - k
 
 abbrev ofRows : List ℕ → Order
 ofRows rs = record { rows = rs }
@@ -29,15 +29,28 @@ loop-holds c = (up-none _ _, omega arith)
 loop-again : tie.Need-loop-again Inv-loop μ-loop
 loop-again c =
     let at = c .before .before .before in
-    up-again (passing 64) 64 (at .loop .k) (at .before .args .arcs) (omega arith) (at .loop .inv) (c .pass .ensures)
+    up-again (passingOver 64 (at .before .ends-of .result)) 64 (at .loop .k) (at .before .before .before .args .arcs) (omega arith) (at .loop .inv)
+    (c .pass-over .ensures)
 
 returns : tie.Need-returns Inv-loop μ-loop
-returns c = let at = c .before in
-    let arcs = at .before .args .arcs in
-    ap ofRows (up-end (passing 64) 64 (at .loop .k) arcs (omega arith) (at .loop .inv)) ∙ direct-closed arcs (search needs)
-    (λ i. let f : Fits w64 (row arcs i) = search needs in f .fits)
+returns c =
+    let at = c .before in
+    let arcs = at .before .before .before .args .arcs in
+    ap ofRows
+    (up-end (passingOver 64 (at .before .ends-of .result)) 64 (at .loop .k) arcs (omega arith) (at .loop .inv)
+    ∙ ap (λ (e : ℕ). upto (passingOver 64 e) 64 arcs) (at .before .ends-of .ensures))
+    ∙ direct-closed arcs (search needs) (λ i. let f : Fits w64 (row arcs i) = search needs in f .fits)
 
 pub of-spec : {M : Type 1} → statement M
 of-spec =
     tie.close
-    (tie.spec Inv-loop μ-loop loop-holds (λ c κs. search needs) (λ c. search needs) (λ c. search needs) loop-again returns)
+    (tie.spec
+    Inv-loop
+    μ-loop
+    (λ c κs. search needs)
+    loop-holds
+    (λ c κs. search needs)
+    (λ c. search needs)
+    (λ c. search needs)
+    loop-again
+    returns)

@@ -1,0 +1,93 @@
+-- What stands in a flow record and in an overload record. Assumes nothing.
+use mathlib.Core.Path.{_≡_, refl}
+use mathlib.Core.Bool.{true}
+use mathlib.Core.List.{[], _∷_, _++_}
+use Prim.Native.Nat.{ℕ, _^_, _<_}
+use native.Mathlib.Omega.{arith}
+use lib.ListN.{length, drop, replicate}
+use Rattle.records.specs.Bytes.{byte, field, bytes, zeros, AreBytes}
+use Rattle.records.specs.Records.{flowRecord, overloadRecord}
+use Rattle.records.proofs.Fields.{field-bytes, bytes-cons, bytes-append, bytes-bytes, bytes-zeros}
+
+module _ (kind from to units mark : ℕ) where
+  pub flow-length : length (flowRecord kind from to units mark) ≡ 24
+  unfolding flowRecord bytes
+  flow-length = refl
+
+  pub flow-type : byte (flowRecord kind from to units mark) 0 ≡ 33
+  unfolding flowRecord
+  flow-type = refl
+
+  pub flow-kind : byte (flowRecord kind from to units mark) 1 ≡ kind
+  unfolding flowRecord
+  flow-kind = refl
+
+  pub flow-from : byte (flowRecord kind from to units mark) 2 ≡ from
+  unfolding flowRecord
+  flow-from = refl
+
+  pub flow-to : byte (flowRecord kind from to units mark) 3 ≡ to
+  unfolding flowRecord
+  flow-to = refl
+
+  pub flow-units : units < 256 ^ 4 → field (flowRecord kind from to units mark) 4 4 ≡ units
+  unfolding flowRecord field bytes
+  flow-units h = field-bytes 4 units [] h
+
+  pub flow-mark : byte (flowRecord kind from to units mark) 8 ≡ mark
+  unfolding flowRecord bytes
+  flow-mark = refl
+
+  pub flow-spare : zeros (drop 9 (flowRecord kind from to units mark)) ≡ true
+  unfolding flowRecord bytes zeros
+  flow-spare = refl
+
+  pub flow-bytes : kind < 256 → from < 256 → to < 256 → mark < 256 → AreBytes (flowRecord kind from to units mark)
+  unfolding flowRecord
+  flow-bytes k f t m =
+      bytes-append (33 ∷ kind ∷ from ∷ to ∷ bytes 4 units) (mark ∷ replicate 15 0)
+      (bytes-cons 33 (kind ∷ from ∷ to ∷ bytes 4 units) (omega arith)
+      (bytes-cons kind (from ∷ to ∷ bytes 4 units) k
+      (bytes-cons from (to ∷ bytes 4 units) f (bytes-cons to (bytes 4 units) t (bytes-bytes 4 units)))))
+      (bytes-cons mark (replicate 15 0) m (bytes-zeros 15))
+
+module _ (kind size need members : ℕ) where
+  pub overload-length : length (overloadRecord kind size need members) ≡ 24
+  unfolding overloadRecord bytes
+  overload-length = refl
+
+  pub overload-type : byte (overloadRecord kind size need members) 0 ≡ 32
+  unfolding overloadRecord
+  overload-type = refl
+
+  pub overload-kind : byte (overloadRecord kind size need members) 1 ≡ kind
+  unfolding overloadRecord
+  overload-kind = refl
+
+  pub overload-size : byte (overloadRecord kind size need members) 2 ≡ size
+  unfolding overloadRecord
+  overload-size = refl
+
+  pub overload-need : need < 256 ^ 4 → field (overloadRecord kind size need members) 4 4 ≡ need
+  unfolding overloadRecord field bytes
+  overload-need h = field-bytes 4 need [] h
+
+  pub overload-set : members < 256 ^ 8 → field (overloadRecord kind size need members) 8 8 ≡ members
+  unfolding overloadRecord field bytes
+  overload-set h = field-bytes 8 members [] h
+
+  -- byte 3 and the bytes from 16 on are spare
+  pub overload-spare : (byte (overloadRecord kind size need members) 3 ≡ 0) × (zeros (drop 16 (overloadRecord kind size need members)) ≡ true)
+  unfolding overloadRecord bytes zeros
+  overload-spare = (refl, refl)
+
+  pub overload-bytes : kind < 256 → size < 256 → AreBytes (overloadRecord kind size need members)
+  unfolding overloadRecord
+  overload-bytes k s =
+      bytes-append (32 ∷ kind ∷ size ∷ 0 ∷ bytes 4 need ++ bytes 8 members) (replicate 8 0)
+      (bytes-append (32 ∷ kind ∷ size ∷ 0 ∷ bytes 4 need) (bytes 8 members)
+      (bytes-cons 32 (kind ∷ size ∷ 0 ∷ bytes 4 need) (omega arith)
+      (bytes-cons kind (size ∷ 0 ∷ bytes 4 need) k
+      (bytes-cons size (0 ∷ bytes 4 need) s (bytes-cons 0 (bytes 4 need) (omega arith) (bytes-bytes 4 need)))))
+      (bytes-bytes 8 members))
+      (bytes-zeros 8)

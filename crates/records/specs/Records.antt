@@ -1,0 +1,37 @@
+-- The records that are written (document 01, "Flow" and "Need and overload"), as their 24 bytes, and where they are written. Assumes nothing.
+use Prim.Native.Nat.{ℕ, zero, suc, _+_, _*_}
+use mathlib.Core.Path.{_≡_}
+use mathlib.Core.List.{List, [], _∷_, _++_}
+use lib.ListN.{length, take, drop, replicate}
+use Rattle.records.specs.Bytes.{bytes}
+
+-- "Flow record: byte 0 is 33, 1 kind, 2 from, 3 to, 4–7 units, 8 the added mark." "Bytes with no field are spare and zero."
+unfoldable pub flowRecord : ℕ → ℕ → ℕ → ℕ → ℕ → List ℕ
+flowRecord kind from to units mark = 33 ∷ kind ∷ from ∷ to ∷ bytes 4 units ++ mark ∷ replicate 15 0
+
+-- "Overload record: byte 0 is 32, 1 kind, 2 size, 4–7 need, 8–15 the set." "Bytes with no field are spare and zero."
+unfoldable pub overloadRecord : ℕ → ℕ → ℕ → ℕ → List ℕ
+overloadRecord kind size need set = 32 ∷ kind ∷ size ∷ 0 ∷ bytes 4 need ++ bytes 8 set ++ replicate 8 0
+
+-- 24 bytes: four, and zeros
+unfoldable pub begun : ℕ → ℕ → ℕ → ℕ → List ℕ
+begun b0 b1 b2 b3 = b0 ∷ b1 ∷ b2 ∷ b3 ∷ replicate 20 0
+
+-- the lent bytes, with what they begin with replaced by a record
+abbrev pub startingWith : List ℕ → List ℕ → List ℕ
+startingWith r out = r ++ drop (length r) out
+
+-- the lent bytes, with those from byte `at` on replaced by a list
+abbrev pub writtenAt : ℕ → List ℕ → List ℕ → List ℕ
+writtenAt at r out = take at out ++ r ++ drop (at + length r) out
+
+-- the records f 0, f 1, .., f (n - 1), one after another
+unfoldable pub joined : (ℕ → List ℕ) → ℕ → List ℕ
+joined f zero = []
+joined f (suc n) = joined f n ++ f n
+
+-- the first n records of a run are written to the start of the lent bytes, which were `old`, and the other bytes are as they were
+pub record Written (f : ℕ → List ℕ) (n : ℕ) (old out : List ℕ) : Type 0 where
+  pub records : take (24 * n) out ≡ joined f n
+  pub rest : drop (24 * n) out ≡ drop (24 * n) old
+  pub long : length out ≡ length old
