@@ -1,0 +1,131 @@
+// How long the proved reader, orders, earliest starts and crew check take, next to plain C (plain.c, gcc -O3), on the same plan in one run.
+// The plan is a full file: 64 activities, a crew record and 1,983 arcs. README.md says how to run it.
+#include "plain.h"
+
+#include <stdio.h>
+#include <stdlib.h>
+#include <string.h>
+#include <time.h>
+
+size_t yaffledesk_bench_read(const uint8_t *s, size_t n, uint32_t duration[64], uint32_t demand[512], uint64_t job[64], uint64_t extra[64]);
+void yaffledesk_bench_orders(const uint64_t job[64], const uint64_t extra[64], uint64_t jobs[64], uint64_t plan[64]);
+void yaffledesk_bench_earliest(const uint64_t arcs[64], const uint32_t duration[64], uint32_t starts[64]);
+uint64_t yaffledesk_bench_crew_check(const uint64_t arcs[64], const uint32_t demand[512], const uint32_t available[8], const uint32_t *starts, size_t m, const uint32_t *worked, size_t n);
+
+enum { RECORDS = 2048, ROUNDS = 401, BATCH = 20 };
+
+static uint8_t file[24 * RECORDS];
+static plain_plan plain;
+static uint32_t duration[64], demand[512], starts[64], plain_starts[64];
+static uint64_t job[64], extra[64], jobs[64], both[64], plain_jobs[64], plain_both[64], joined[64];
+static volatile uint64_t sink;
+
+static double now(void) {
+    struct timespec t;
+    clock_gettime(CLOCK_MONOTONIC, &t);
+    return t.tv_sec * 1e6 + t.tv_nsec / 1e3;
+}
+
+// The 2,016 pairs i < j of 64 activities but for 33, half of them job arcs, in a scrambled order.
+static void make_file(void) {
+    uint8_t *r = file;
+    for (int i = 0; i < 64; i++, r += 24) {
+        r[0] = 1, r[1] = i + 1, r[2] = 1 + i % 9, r[4] = 1 + i % 3;
+        for (int k = 1; k < 8; k++) r[4 + 2 * k] = (i * k) % 5;
+    }
+    r[0] = 2, r[1] = 8;
+    for (int k = 0; k < 8; k++) r[5 + 2 * k] = 255;
+    r += 24;
+    static uint8_t pair[2016][2];
+    int pairs = 0;
+    for (int i = 1; i <= 64; i++)
+        for (int j = i + 1; j <= 64; j++) pair[pairs][0] = i, pair[pairs][1] = j, pairs++;
+    for (int x = pairs - 1; x > 0; x--) { // a fixed shuffle
+        int y = (x * 7919) % (x + 1);
+        uint8_t a = pair[x][0], b = pair[x][1];
+        pair[x][0] = pair[y][0], pair[x][1] = pair[y][1], pair[y][0] = a, pair[y][1] = b;
+    }
+    for (int x = 0; x < RECORDS - 65; x++, r += 24) r[0] = x < 991 ? 3 : 4, r[1] = pair[x][0], r[2] = pair[x][1];
+}
+
+static void read_ours(void) { sink += yaffledesk_bench_read(file, sizeof file, duration, demand, job, extra); }
+static void read_plain(void) {
+    size_t place;
+    sink += plain_read(file, sizeof file, &plain, &place);
+}
+static void orders_ours(void) { yaffledesk_bench_orders(job, extra, jobs, both); }
+static void orders_plain(void) {
+    plain_order(plain.job, plain_jobs);
+    plain_order(joined, plain_both);
+}
+static void open_ours(void) { read_ours(), orders_ours(); }
+static void open_plain(void) { read_plain(), orders_plain(); }
+static void earliest_ours(void) { yaffledesk_bench_earliest(joined, duration, starts); }
+static void earliest_plain(void) { plain_earliest(joined, plain.duration, plain_starts); }
+static void check_ours(void) { sink += yaffledesk_bench_crew_check(joined, demand, plain.available, starts, 64, duration, 64); }
+static void check_plain(void) { sink += plain_crew_check(joined, plain.demand, plain.available, plain_starts, plain.duration, 64).found; }
+
+static int compare(const void *a, const void *b) {
+    double x = *(const double *)a, y = *(const double *)b;
+    return (x > y) - (x < y);
+}
+
+// The medians of ROUNDS interleaved batches, in microseconds a call.
+static void measure(void (*ours)(void), void (*theirs)(void), double *mine, double *its) {
+    static double a[ROUNDS], b[ROUNDS];
+    for (int r = 0; r < ROUNDS; r++) {
+        double t0 = now();
+        for (int i = 0; i < BATCH; i++) ours();
+        double t1 = now();
+        for (int i = 0; i < BATCH; i++) theirs();
+        double t2 = now();
+        a[r] = (t1 - t0) / BATCH, b[r] = (t2 - t1) / BATCH;
+    }
+    qsort(a, ROUNDS, sizeof *a, compare);
+    qsort(b, ROUNDS, sizeof *b, compare);
+    *mine = a[ROUNDS / 2], *its = b[ROUNDS / 2];
+}
+
+static void same(const char *what, const void *a, const void *b, size_t n) {
+    if (memcmp(a, b, n) == 0) return;
+    printf("MISMATCH: %s\n", what);
+    exit(1);
+}
+
+int main(void) {
+    make_file();
+    read_plain();
+    for (int i = 0; i < 64; i++) joined[i] = plain.job[i] | plain.extra[i];
+    open_ours(), orders_plain(), earliest_ours(), earliest_plain();
+    same("durations", duration, plain.duration, sizeof duration);
+    same("demands", demand, plain.demand, sizeof demand);
+    same("job arcs", job, plain.job, sizeof job);
+    same("extra arcs", extra, plain.extra, sizeof extra);
+    same("job order", jobs, plain_jobs, sizeof jobs);
+    same("plan order", both, plain_both, sizeof both);
+    same("starts", starts, plain_starts, sizeof starts);
+    uint64_t found = plain_crew_check(joined, plain.demand, plain.available, starts, plain.duration, 64).found;
+    if (found != 0 || yaffledesk_bench_crew_check(joined, demand, plain.available, starts, 64, duration, 64) != 0) printf("MISMATCH: crew check\n"), exit(1);
+
+    struct {
+        const char *what;
+        void (*ours)(void), (*plain)(void);
+        double least; // the ratio that is wanted
+    } rows[] = {
+        {"read 2,048 records", read_ours, read_plain, 2},
+        {"both orders, 1,983 arcs", orders_ours, orders_plain, 2},
+        {"open: read and both orders", open_ours, open_plain, 2},
+        {"earliest starts", earliest_ours, earliest_plain, 2},
+        {"crew check, 64 x 8", check_ours, check_plain, 2},
+    };
+    int missed = 0;
+    printf("| what | proved, us | plain C, us | ratio |\n|---|--:|--:|--:|\n");
+    for (size_t i = 0; i < sizeof rows / sizeof *rows; i++) {
+        double mine, its;
+        measure(rows[i].ours, rows[i].plain, &mine, &its);
+        printf("| %s | %.2f | %.2f | %.2f |\n", rows[i].what, mine, its, mine / its);
+        missed += mine / its > rows[i].least || (i == 2 && mine > 60);
+    }
+    printf("wanted: at most 2 times plain C each, and opening under 60 us: %s\n", missed ? "not met" : "met");
+    return missed != 0;
+}

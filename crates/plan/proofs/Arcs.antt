@@ -1,0 +1,101 @@
+-- The rows of the arcs that records name: where no record of the type stands they stay, and each record of the type adds its arc. Assumes nothing.
+use mathlib.Core.Path.{_≡_, refl, sym, ap, _∙_, subst}
+use mathlib.Core.Bool.{Bool, true, _||_}
+use mathlib.Core.List.{List}
+use mathlib.Core.Logic.{_⊎_, inl, inr, ⊎-elim, _↔_, _≢_}
+use Prim.Native.Nat.{ℕ, zero, suc, _+_, _-_, _≤_, _<_}
+use native.Mathlib.Nat.{add-zero, add-suc}
+use native.Mathlib.Decide.{ℕ-discrete}
+use native.Mathlib.Omega.{arith}
+use lib.ListN.{length, getD, set, replicate, length-set, length-replicate}
+use lib.Seq.{getD-set-same, getD-set-other}
+use lib.Dec.{eqb}
+use borrow.Author.Tests.{eqb-true, eqb-false, eq-eqb, ne-eqb}
+use Rattle.words.specs.Bits.{bit, withBit}
+use Rattle.words.specs.Loops.{upto}
+use Rattle.words.proofs.Bits.{bit-or, bit-single}
+use Rattle.words.proofs.Tests.{or-says, by-test, cond-true, cond-false}
+use Rattle.order.specs.Rows.{after}
+use Rattle.records.specs.Bytes.{byte}
+use Rattle.plan.specs.Records.{recordAt, typeAt}
+use Rattle.plan.specs.Plans.{withArc, arcsUpTo}
+use Rattle.plan.specs.Phases.{putArc}
+use Rattle.plan.proofs.Places.{record-on}
+
+-- ---- runs of records
+
+pub arcs-skip : (s : List ℕ) (type p : ℕ) → typeAt s p ≢ type → arcsUpTo s type (suc p) ≡ arcsUpTo s type p
+unfolding arcsUpTo
+arcs-skip s type p ne = cond-false _ _ (ne-eqb (typeAt s p) type ne)
+
+pub arcs-more : (s : List ℕ) (type p : ℕ) → typeAt s p ≡ type → arcsUpTo s type (suc p) ≡ withArc (recordAt s p) (arcsUpTo s type p)
+unfolding arcsUpTo
+arcs-more s type p e = cond-true _ _ (eq-eqb (typeAt s p) type e)
+
+-- n records of other types
+pub arcs-none : (s : List ℕ) (type a n : ℕ) → ((i : ℕ) → i < n → typeAt s (a + i) ≢ type) → arcsUpTo s type (a + n) ≡ arcsUpTo s type a
+arcs-none s type a zero h = ap (arcsUpTo s type) (add-zero a)
+arcs-none s type a (suc n) h =
+    ap (arcsUpTo s type) (add-suc a n) ∙ arcs-skip s type (a + n) (h n (omega arith)) ∙ arcs-none s type a n (λ i l. h i (omega arith))
+
+-- n records of the type, as the loop stores them
+pub arcs-run : (s : List ℕ) (type a n : ℕ) → ((i : ℕ) → i < n → typeAt s (a + i) ≡ type)
+    → arcsUpTo s type (a + n) ≡ upto (putArc (recordAt s a)) n (arcsUpTo s type a)
+unfolding upto
+arcs-run s type a zero h = ap (arcsUpTo s type) (add-zero a)
+arcs-run s type a (suc n) h =
+    ap (arcsUpTo s type) (add-suc a n)
+    ∙ arcs-more s type (a + n) (h n (omega arith))
+    ∙ ap (λ (r : List ℕ). withArc r (arcsUpTo s type (a + n))) (sym (record-on s a n))
+    ∙ ap (withArc (recordAt (recordAt s a) n)) (arcs-run s type a n (λ i l. h i (omega arith)))
+
+pub arcs-start : (s : List ℕ) (type : ℕ) → arcsUpTo s type 0 ≡ replicate 64 0
+unfolding arcsUpTo
+arcs-start s type = refl
+
+-- ---- the arc of one record
+
+pub length-with-arc : (r rows : List ℕ) → length (withArc r rows) ≡ length rows
+unfolding withArc
+length-with-arc r rows = length-set rows (byte r 1 - 1) (withBit (getD rows (byte r 1 - 1) 0) (byte r 2 - 1))
+
+pub length-arcs : (s : List ℕ) (type p : ℕ) → length (arcsUpTo s type p) ≡ 64
+length-arcs s type zero = ap length (arcs-start s type) ∙ length-replicate {A = ℕ} 64 0
+length-arcs s type (suc p) =
+    let ih = length-arcs s type p in
+    by-test (eqb (typeAt s p) type)
+    (λ t. ap length (arcs-more s type p (eqb-true (typeAt s p) type t)) ∙ length-with-arc (recordAt s p) (arcsUpTo s type p) ∙ ih)
+    (λ t. ap length (arcs-skip s type p (eqb-false (typeAt s p) type t)) ∙ ih)
+
+-- it has the arcs that were there, and its own
+pub with-arc : (r rows : List ℕ) (i j : ℕ) → length rows ≡ 64 → 1 ≤ byte r 1 → byte r 1 ≤ 64 → 1 ≤ byte r 2
+    → (after (withArc r rows) i j ≡ true) ↔ ((after rows i j ≡ true) ⊎ ((byte r 1 ≡ i + 1) × (byte r 2 ≡ j + 1)))
+unfolding withArc
+with-arc r rows i j long la ha lb = go (byte r 1) (byte r 2) la ha lb
+  where
+    go : (a b : ℕ) → 1 ≤ a → a ≤ 64 → 1 ≤ b
+        → (after (set rows (a - 1) (withBit (getD rows (a - 1) 0) (b - 1))) i j ≡ true) ↔ ((after rows i j ≡ true) ⊎ ((a ≡ i + 1) × (b ≡ j + 1)))
+    go a b la ha lb = at (ℕ-discrete i (a - 1))
+      where
+        new : ℕ
+        new = withBit (getD rows (a - 1) 0) (b - 1)
+
+        rows′ : List ℕ
+        rows′ = set rows (a - 1) new
+
+        bits : bit new j ≡ (bit (getD rows (a - 1) 0) j || eqb j (b - 1))
+        bits = bit-or (getD rows (a - 1) 0) _ j ∙ ap (λ (x : Bool). bit (getD rows (a - 1) 0) j || x) (bit-single (b - 1) j)
+
+        at : Dec (i ≡ a - 1) → (after rows′ i j ≡ true) ↔ ((after rows i j ≡ true) ⊎ ((a ≡ i + 1) × (b ≡ j + 1)))
+        at (yes e) =
+            let here : after rows′ i j ≡ (after rows i j || eqb j (b - 1)) =
+            subst (λ (x : ℕ). after rows′ x j ≡ (after rows x j || eqb j (b - 1))) (sym e)
+            (ap (λ (w : ℕ). bit w j) (getD-set-same rows (a - 1) new 0 (omega arith)) ∙ bits) in (
+              (λ t. ⊎-elim (λ o. inl o) (λ o. let q = eqb-true j (b - 1) o in inr (omega arith, omega arith)) (or-says (after rows i j) (eqb j (b - 1)) .0 (sym here ∙ t))),
+              (λ o. here ∙ or-says (after rows i j) (eqb j (b - 1)) .1 (⊎-elim (λ t. inl t) (λ n. inr (eq-eqb j (b - 1) (omega (arith, n .1)))) o)),
+            )
+        at (no ne) =
+            let other : after rows′ i j ≡ after rows i j = ap (λ (w : ℕ). bit w j) (getD-set-other rows (a - 1) i new 0 ne) in (
+              (λ t. inl (sym other ∙ t)),
+              (λ o. ⊎-elim (λ t. other ∙ t) (λ n. absurd (ne (omega (arith, n .0)))) o),
+            )

@@ -1,0 +1,136 @@
+-- What a record with no cause tells: each of its rules is kept. Assumes nothing.
+use mathlib.Core.Path.{_≡_, refl, sym, ap, _∙_}
+use mathlib.Core.Bool.{Bool, true, false, not, _&&_, false≢true}
+use mathlib.Core.List.{List}
+use mathlib.Core.Logic.{_≢_}
+use Prim.Native.Nat.{ℕ, _+_, _-_, _*_, _≤_, _<_}
+use native.Mathlib.Omega.{arith}
+use lib.ListN.{getD, take}
+use lib.Seq.{slice, getD-take, getD-drop}
+use lib.Dec.{eqb, leb, ltb}
+use borrow.Author.Tests.{ltb-true, leb-true, eqb-true, eq-eqb, not-true, lt-ltb, le-ltb, ne-eqb}
+use Rattle.words.proofs.Tests.{clash, and-left, and-right, cond-true, cond-false}
+use Rattle.records.proofs.Zeros.{all-zero}
+use Rattle.records.specs.Bytes.{byte, field, zeros}
+use Rattle.plan.specs.Records.{recordAt, activityCount, jobCount, dueType, activityFields, activitySpare, crewFields, crewSpare, isEnd, arcFields, arcSpare}
+use Rattle.plan.specs.Plans.{demandsOf}
+use Rattle.plan.specs.Causes.{firstCause, isReadable, activityCause, crewCause, arcCause, causeAt}
+
+-- ---- bytes that are zero
+
+pub zeros-mean : (l : List ℕ) (a b i : ℕ) → zeros (slice a b l) ≡ true → a ≤ i → i < b → getD l i 0 ≡ 0
+zeros-mean l a b i e lo hi =
+    let q : a + (i - a) ≡ i = omega arith in
+    sym (getD-take b l i 0 hi)
+    ∙ ap (λ (x : ℕ). getD (take b l) x 0) (sym q)
+    ∙ sym (getD-drop a (take b l) (i - a) 0)
+    ∙ all-zero (slice a b l) e (i - a)
+
+-- ---- the three tests of a record with no cause
+
+pub typed-kept : (t f s : Bool) (place : ℕ) → isReadable (firstCause t f s place) ≡ true → t ≡ true
+typed-kept true f s place e = refl
+typed-kept false f s place e = absurd (false≢true e)
+
+pub fields-kept : (t f s : Bool) (place : ℕ) → isReadable (firstCause t f s place) ≡ true → f ≡ true
+fields-kept true true s place e = refl
+fields-kept true false s place e = absurd (false≢true e)
+fields-kept false f s place e = absurd (false≢true e)
+
+-- an activity with no cause, at a place
+pub record ActivityKept (place : ℕ) (r : List ℕ) : Type 0 where
+  pub few : place < 64
+  pub number : byte r 1 ≡ place + 1
+  pub lasts : 1 ≤ field r 2 2
+
+pub activity-kept : (place : ℕ) (r : List ℕ) → isReadable (activityCause place r) ≡ true → ActivityKept place r
+unfolding activityCause activityFields
+activity-kept place r e =
+    let a : Bool = ltb place 64 in
+    let b : Bool = eqb (byte r 1) (place + 1) in
+    let c : Bool = ltb 0 (field r 2 2) in
+    let f : a && (b && c) ≡ true = fields-kept true (a && (b && c)) (activitySpare r) place e in
+    let g : b && c ≡ true = and-right a (b && c) f in
+    record {
+      few = ltb-true place 64 (and-left a (b && c) f);
+      number = eqb-true (byte r 1) (place + 1) (and-left b c g);
+      lasts = ltb-true 0 (field r 2 2) (and-right b c g);
+    }
+
+-- the crew record with no cause
+pub record CrewKept (demand r : List ℕ) : Type 0 where
+  pub typed : byte r 0 ≡ 2
+  pub some : 1 ≤ byte r 1
+  pub few : byte r 1 ≤ 8
+  pub none : (i : ℕ) → 4 + 2 * byte r 1 ≤ i → i < 20 → byte r i ≡ 0
+  pub no-demand : (i : ℕ) → 64 * byte r 1 ≤ i → i < 512 → getD demand i 0 ≡ 0
+
+pub crew-kept : (place : ℕ) (demand r : List ℕ) → isReadable (crewCause place demand r) ≡ true → CrewKept demand r
+unfolding crewCause crewFields
+crew-kept place demand r e =
+    let a : Bool = ltb 0 (byte r 1) in
+    let b : Bool = leb (byte r 1) 8 in
+    let c : Bool = zeros (slice (4 + 2 * byte r 1) 20 r) in
+    let d : Bool = zeros (slice (64 * byte r 1) 512 demand) in
+    let f : a && (b && (c && d)) ≡ true = fields-kept (eqb (byte r 0) 2) (a && (b && (c && d))) (crewSpare r) place e in
+    let g : b && (c && d) ≡ true = and-right a (b && (c && d)) f in
+    let h : c && d ≡ true = and-right b (c && d) g in
+    record {
+      typed = eqb-true (byte r 0) 2 (typed-kept (eqb (byte r 0) 2) (a && (b && (c && d))) (crewSpare r) place e);
+      some = ltb-true 0 (byte r 1) (and-left a (b && (c && d)) f);
+      few = leb-true (byte r 1) 8 (and-left b (c && d) g);
+      none = λ i lo hi. zeros-mean r (4 + 2 * byte r 1) 20 i (and-left c d h) lo hi;
+      no-demand = λ i lo hi. zeros-mean demand (64 * byte r 1) 512 i (and-right c d h) lo hi;
+    }
+
+-- an arc with no cause, of the type that is due, among m activities
+pub record ArcKept (type m : ℕ) (r : List ℕ) : Type 0 where
+  pub typed : byte r 0 ≡ type
+  pub from-low : 1 ≤ byte r 1
+  pub from-high : byte r 1 ≤ m
+  pub to-low : 1 ≤ byte r 2
+  pub to-high : byte r 2 ≤ m
+  pub differ : byte r 1 ≢ byte r 2
+
+pub end-low : (m i : ℕ) → isEnd m i ≡ true → 1 ≤ i
+end-low m i e = ltb-true 0 i (and-left (ltb 0 i) (leb i m) e)
+
+pub end-high : (m i : ℕ) → isEnd m i ≡ true → i ≤ m
+end-high m i e = leb-true i m (and-right (ltb 0 i) (leb i m) e)
+
+pub arc-kept : (type place m : ℕ) (r : List ℕ) → isReadable (arcCause type place m r) ≡ true → ArcKept type m r
+unfolding arcCause arcFields
+arc-kept type place m r e =
+    let a : Bool = isEnd m (byte r 1) in
+    let b : Bool = isEnd m (byte r 2) in
+    let d : Bool = not (eqb (byte r 1) (byte r 2)) in
+    let f : a && (b && d) ≡ true = fields-kept (eqb (byte r 0) type) (a && (b && d)) (arcSpare r) place e in
+    let g : b && d ≡ true = and-right a (b && d) f in
+    record {
+      typed = eqb-true (byte r 0) type (typed-kept (eqb (byte r 0) type) (a && (b && d)) (arcSpare r) place e);
+      from-low = end-low m (byte r 1) (and-left a (b && d) f);
+      from-high = end-high m (byte r 1) (and-left a (b && d) f);
+      to-low = end-low m (byte r 2) (and-left b d g);
+      to-high = end-high m (byte r 2) (and-left b d g);
+      differ = λ q. clash (eq-eqb (byte r 1) (byte r 2) q) (not-true (eqb (byte r 1) (byte r 2)) (and-right b d g));
+    }
+
+-- ---- which rules a record has, by its place
+
+pub at-activity : (s : List ℕ) (p : ℕ) → p < activityCount s → causeAt s p ≡ activityCause p (recordAt s p)
+unfolding causeAt
+at-activity s p h = cond-true _ _ (lt-ltb p (activityCount s) h)
+
+pub at-crew : (s : List ℕ) (p : ℕ) → p ≡ activityCount s → causeAt s p ≡ crewCause p (demandsOf s) (recordAt s p)
+unfolding causeAt
+at-crew s p e = cond-false _ _ (le-ltb p (activityCount s) (omega arith)) ∙ cond-true _ _ (eq-eqb p (activityCount s) e)
+
+pub at-arc : (s : List ℕ) (p : ℕ) → activityCount s < p → causeAt s p ≡ arcCause (dueType s p) p (activityCount s) (recordAt s p)
+unfolding causeAt
+at-arc s p h = cond-false _ _ (le-ltb p (activityCount s) (omega arith)) ∙ cond-false _ _ (ne-eqb p (activityCount s) (λ e. omega arith))
+
+pub due-job : (s : List ℕ) (p : ℕ) → p < activityCount s + 1 + jobCount s → dueType s p ≡ 3
+due-job s p h = cond-true 3 4 (lt-ltb p (activityCount s + 1 + jobCount s) h)
+
+pub due-extra : (s : List ℕ) (p : ℕ) → activityCount s + 1 + jobCount s ≤ p → dueType s p ≡ 4
+due-extra s p h = cond-false 3 4 (le-ltb p (activityCount s + 1 + jobCount s) h)

@@ -1,0 +1,127 @@
+-- The parts of a file none of whose records has a cause: activities, the crew, job arcs, extra arcs. Assumes nothing.
+use mathlib.Core.Path.{_≡_, refl, sym, ap, _∙_, subst}
+use mathlib.Core.Bool.{true, false, false≢true}
+use mathlib.Core.List.{List}
+use mathlib.Core.Logic.{_⊎_, ⊎-elim, _≢_}
+use Prim.Native.Nat.{ℕ, zero, suc, _+_, _-_, _≤_, _<_}
+use native.Mathlib.Nat.{zero-add, eq-or-lt-of-le}
+use native.Mathlib.Omega.{arith}
+use lib.ListN.{replicate}
+use borrow.Author.Tests.{eq-eqb, ne-eqb}
+use Rattle.words.specs.Loops.{upto}
+use Rattle.words.proofs.Tests.{cond-true, cond-false}
+use Rattle.plan.specs.declared.Answer.{Answer}
+use Rattle.plan.specs.declared.Answer.the-variants.{Readable, Refused}
+use Rattle.plan.specs.declared.Cause.the-variants.{RecordType}
+use Rattle.plan.specs.Records.{recordAt, recordCount, typeAt, activityCount, jobCount, dueType}
+use Rattle.plan.specs.Plans.{demandsOf, arcsUpTo, arcRows}
+use Rattle.plan.specs.Causes.{isReadable, activityCause, causeAt, firstRefusal, followedBy, crewThere, recordsCause}
+use Rattle.plan.specs.Phases.{putArc}
+use Rattle.plan.proofs.Refusals.{followed-left, followed-right, all-readable, none-refused}
+use Rattle.plan.proofs.Places.{leading-le, leading-typed}
+use Rattle.plan.proofs.Facts.{activity-kept, CrewKept, crew-kept, ArcKept, arc-kept, at-activity, at-crew, at-arc, due-job, due-extra}
+use Rattle.plan.proofs.Arcs.{arcs-none, arcs-run, arcs-start}
+
+-- no record has a cause, and the crew record is there
+pub record Faultless (s : List ℕ) : Type 0 where
+  pub fine : (p : ℕ) → p < recordCount s → isReadable (causeAt s p) ≡ true
+  pub crewed : activityCount s < recordCount s
+
+pub activities-within : (s : List ℕ) → activityCount s ≤ recordCount s
+activities-within s = leading-le 1 (recordCount s) s
+
+-- the missing crew record
+pub crew-missing : (s : List ℕ) → activityCount s ≡ recordCount s → crewThere s ≡ Refused (RecordType (recordCount s))
+crew-missing s e = cond-true (Refused (RecordType (recordCount s))) Readable (eq-eqb (activityCount s) (recordCount s) e)
+
+pub crew-there : (s : List ℕ) → activityCount s < recordCount s → crewThere s ≡ Readable
+crew-there s h = cond-false (Refused (RecordType (recordCount s))) Readable (ne-eqb (activityCount s) (recordCount s) (λ e. omega arith))
+
+pub crew-or-missing : (s : List ℕ) → (activityCount s ≡ recordCount s) ⊎ (activityCount s < recordCount s)
+crew-or-missing s = eq-or-lt-of-le (activities-within s)
+
+-- that is what it says that the records have no cause
+pub faultless : (s : List ℕ) → isReadable (recordsCause s) ≡ true → Faultless s
+unfolding recordsCause
+faultless s e =
+    let f = followed-left (firstRefusal (recordCount s) (causeAt s)) (crewThere s) e in
+    let c = followed-right (firstRefusal (recordCount s) (causeAt s)) (crewThere s) e in
+    record {
+      fine = all-readable (recordCount s) (causeAt s) f;
+      crewed = ⊎-elim (λ q. absurd (false≢true (sym (ap isReadable (crew-missing s q)) ∙ c))) (λ l. l) (crew-or-missing s);
+    }
+
+pub faultless-read : (s : List ℕ) → Faultless s → recordsCause s ≡ Readable
+unfolding recordsCause
+faultless-read s F =
+    ap (λ (a : Answer). followedBy a (crewThere s)) (none-refused (recordCount s) (causeAt s) (F .fine)) ∙ crew-there s (F .crewed)
+
+-- ---- the records, by their places
+
+pub few-activities : (s : List ℕ) → ((p : ℕ) → p < activityCount s → isReadable (activityCause p (recordAt s p)) ≡ true) → activityCount s ≤ 64
+few-activities s h = go (activityCount s) h
+  where
+    go : (m : ℕ) → ((p : ℕ) → p < m → isReadable (activityCause p (recordAt s p)) ≡ true) → m ≤ 64
+    go zero h = omega arith
+    go (suc m) h = activity-kept m (recordAt s m) (h m (omega arith)) .few
+
+pub activity-typed : (s : List ℕ) (p : ℕ) → p < activityCount s → typeAt s p ≡ 1
+activity-typed s p h = leading-typed 1 (recordCount s) s p h
+
+module _ (s : List ℕ) (F : Faultless s) where
+  pub activity-fine : (p : ℕ) → p < activityCount s → isReadable (activityCause p (recordAt s p)) ≡ true
+  activity-fine p h = rw (at-activity s p h) at (F .fine p (omega (arith, F .crewed)))
+
+  pub few : activityCount s ≤ 64
+  few = few-activities s activity-fine
+
+  pub crew-fine : CrewKept (demandsOf s) (recordAt s (activityCount s))
+  crew-fine = crew-kept (activityCount s) (demandsOf s) (recordAt s (activityCount s)) (rw (at-crew s (activityCount s) refl) at (F .fine (activityCount s) (F .crewed)))
+
+  pub arc-fine : (p : ℕ) → activityCount s < p → p < recordCount s → ArcKept (dueType s p) (activityCount s) (recordAt s p)
+  arc-fine p h l = arc-kept (dueType s p) p (activityCount s) (recordAt s p) (rw (at-arc s p h) at (F .fine p l))
+
+  pub job-typed : (p : ℕ) → activityCount s < p → p < recordCount s → p < activityCount s + 1 + jobCount s → typeAt s p ≡ 3
+  job-typed p h l b = arc-fine p h l .typed ∙ due-job s p b
+
+  pub extra-typed : (p : ℕ) → activityCount s < p → p < recordCount s → activityCount s + 1 + jobCount s ≤ p → typeAt s p ≡ 4
+  extra-typed p h l b = arc-fine p h l .typed ∙ due-extra s p b
+
+  -- up to the crew record there is no arc
+  pub no-arc : (type p : ℕ) → 3 ≤ type → p ≤ activityCount s → typeAt s p ≢ type
+  no-arc type p t h e =
+      ⊎-elim
+      (λ q. omega (arith, subst (λ (x : ℕ). typeAt s x ≡ 2) (sym q) (crew-fine .typed)))
+      (λ l. omega (arith, activity-typed s p l))
+      (eq-or-lt-of-le h)
+
+  -- ---- the rows of its arcs, as the loops store them
+
+  pub job-rows : (x : ℕ) → recordCount s ≡ activityCount s + 1 + jobCount s + x
+      → upto (putArc (recordAt s (activityCount s + 1))) (jobCount s) (replicate 64 0) ≡ arcRows s 3
+  job-rows x e =
+      let m : ℕ = activityCount s in
+      let j : ℕ = jobCount s in
+      let f = upto (putArc (recordAt s (m + 1))) j in
+      let low : arcsUpTo s 3 (m + 1) ≡ replicate 64 0 =
+      ap (arcsUpTo s 3) (sym (zero-add (m + 1))) ∙ arcs-none s 3 0 (m + 1) (λ i l. no-arc 3 (0 + i) (omega arith) (omega arith)) ∙ arcs-start s 3 in
+      sym (
+      ap (arcsUpTo s 3) e
+      ∙ arcs-none s 3 (m + 1 + j) x (λ i l q. omega (arith, extra-typed (m + 1 + j + i) (omega arith) (omega arith) (omega arith)))
+      ∙ arcs-run s 3 (m + 1) j (λ i l. job-typed (m + 1 + i) (omega arith) (omega arith) (omega arith))
+      ∙ ap f low
+      )
+
+  pub extra-rows : (x : ℕ) → recordCount s ≡ activityCount s + 1 + jobCount s + x
+      → upto (putArc (recordAt s (activityCount s + 1 + jobCount s))) x (replicate 64 0) ≡ arcRows s 4
+  extra-rows x e =
+      let m : ℕ = activityCount s in
+      let j : ℕ = jobCount s in
+      let f = upto (putArc (recordAt s (m + 1 + j))) x in
+      let low : arcsUpTo s 4 (m + 1) ≡ replicate 64 0 =
+      ap (arcsUpTo s 4) (sym (zero-add (m + 1))) ∙ arcs-none s 4 0 (m + 1) (λ i l. no-arc 4 (0 + i) (omega arith) (omega arith)) ∙ arcs-start s 4 in
+      sym (
+      ap (arcsUpTo s 4) e
+      ∙ arcs-run s 4 (m + 1 + j) x (λ i l. extra-typed (m + 1 + j + i) (omega arith) (omega arith) (omega arith))
+      ∙ ap f (arcs-none s 4 (m + 1) j (λ i l q. omega (arith, job-typed (m + 1 + i) (omega arith) (omega arith) (omega arith))) ∙ low)
+      )

@@ -1,0 +1,148 @@
+-- What a refusal means in plain words, and which files are refused and read. Assumes nothing.
+use mathlib.Core.Path.{_≡_, refl, sym, ap, _∙_}
+use mathlib.Core.Bool.{Bool, true, false, cond, _&&_, false≢true}
+use mathlib.Core.List.{List}
+use mathlib.Core.Logic.{_⊎_, inl, inr, ⊎-elim, _↔_, _≢_}
+use Prim.Native.Nat.{ℕ, _%_, _≤_, _<_}
+use native.Mathlib.Omega.{arith}
+use lib.ListN.{length}
+use lib.Dec.{eqb, leb, ltb}
+use borrow.Author.Tests.{ltb-true, leb-true, eqb-true, lt-ltb, le-leb, eq-eqb}
+use Rattle.words.proofs.Tests.{by-test, and-left, and-right, and-both, cond-true, cond-false, cond-has}
+use Rattle.plan.specs.declared.Answer.{Answer}
+use Rattle.plan.specs.declared.Answer.the-variants.{Readable, Refused}
+use Rattle.plan.specs.declared.Cause.{Cause}
+use Rattle.plan.specs.declared.Cause.the-variants.{Length, RecordType, Field, Spare}
+use Rattle.plan.specs.Records.{recordAt, recordCount, typeAt, activityCount, dueType, activityFields, activitySpare, crewFields, crewSpare, arcFields, arcSpare}
+use Rattle.plan.specs.Plans.{demandsOf}
+use Rattle.records.specs.Bytes.{byte}
+use Rattle.plan.specs.Causes.{firstCause, isReadable, activityCause, crewCause, arcCause, causeAt, firstRefusal, followedBy, crewThere, recordsCause}
+use Rattle.plan.specs.Reads.{isLength, answerOf}
+use Rattle.plan.specs.Meaning
+use Rattle.plan.specs.Meaning.{FirstFault}
+use Rattle.plan.proofs.Refusals.{none-refused, refused-first, first-refused, all-readable}
+use Rattle.plan.proofs.Places.{leading-ends}
+use Rattle.plan.proofs.Parts.{faultless-read, crew-missing, crew-there, crew-or-missing, activity-typed}
+
+-- ---- the length
+
+-- "length 0, not a multiple of 24, or over 49,152" is cause 1; this is its opposite
+pub length-says : (n : ℕ) → (isLength n ≡ true) ↔ ((0 < n) × (n ≤ 49152) × (n % 24 ≡ 0))
+unfolding isLength
+length-says n =
+    let a : Bool = ltb 0 n in
+    let b : Bool = leb n 49152 in
+    let c : Bool = eqb (n % 24) 0 in (
+      (λ e. (ltb-true 0 n (and-left a (b && c) e), leb-true n 49152 (and-left b c (and-right a (b && c) e)), eqb-true (n % 24) 0 (and-right b c (and-right a (b && c) e)))),
+      (λ h. and-both a (b && c) (lt-ltb 0 n (h .0)) (and-both b c (le-leb n 49152 (h .1)) (eq-eqb (n % 24) 0 (h .2)))),
+    )
+
+-- the answer of a file of a legal length is that of its records
+pub answer-records : (s : List ℕ) → isLength (length s) ≡ true → answerOf s ≡ recordsCause s
+unfolding answerOf
+answer-records s e = cond-true (recordsCause s) (Refused Length) e
+
+pub refused-length : (s : List ℕ) → isLength (length s) ≡ false → answerOf s ≡ Refused Length
+unfolding answerOf
+refused-length s e = cond-false (recordsCause s) (Refused Length) e
+
+-- ---- the place of a cause: a refusal at a record is a wrong type, field or spare byte of that record
+
+abbrev pub Placed : ℕ → Cause → Type 0
+Placed p c = (c ≡ RecordType p) ⊎ ((c ≡ Field p) ⊎ (c ≡ Spare p))
+
+first-cause-place : (t f s : Bool) (place : ℕ) (c : Cause) → firstCause t f s place ≡ Refused c → Placed place c
+first-cause-place true true true place c e = absurd (let z : _≡_ {A = ℕ} 0 1 = cc in omega arith)
+first-cause-place true true false place c e = inr (inr (cc))
+first-cause-place true false s place c e = inr (inl (cc))
+first-cause-place false f s place c e = inl (cc)
+
+pub cause-place : (s : List ℕ) (p : ℕ) (c : Cause) → causeAt s p ≡ Refused c → Placed p c
+unfolding causeAt activityCause crewCause arcCause
+cause-place s p c =
+    let m : ℕ = activityCount s in
+    let r : List ℕ = recordAt s p in
+    cond-has P (ltb p m) (activityCause p r) (cond (eqb p m) (crewCause p (demandsOf s) r) (arcCause (dueType s p) p m r))
+    (λ t. first-cause-place true (activityFields p r) (activitySpare r) p c)
+    (λ t.
+    cond-has P (eqb p m) (crewCause p (demandsOf s) r) (arcCause (dueType s p) p m r)
+    (λ u. first-cause-place (eqb (byte r 0) 2) (crewFields (demandsOf s) r) (crewSpare r) p c)
+    (λ u. first-cause-place (eqb (byte r 0) (dueType s p)) (arcFields m r) (arcSpare r) p c))
+  where
+    P : Answer → Type 0
+    P a = a ≡ Refused c → Placed p c
+
+-- ---- which files are refused and read
+
+-- each record is an activity, so the crew record is missing
+pub all-activities : (s : List ℕ) → ((p : ℕ) → p < recordCount s → typeAt s p ≡ 1) ↔ (activityCount s ≡ recordCount s)
+all-activities s = (
+  (λ h. ⊎-elim (λ e. e) (λ l. absurd (leading-ends 1 (recordCount s) s l (h (activityCount s) l))) (crew-or-missing s)),
+  (λ e p l. activity-typed s p (omega arith)),
+)
+
+module _ (s : List ℕ) (legal : isLength (length s) ≡ true) where
+  -- the first record with a fault, by its first fault
+  pub refused-fault : (p : ℕ) (a : Answer) → FirstFault s p a → answerOf s ≡ a
+  unfolding recordsCause
+  refused-fault p a F =
+      let first : firstRefusal (recordCount s) (causeAt s) ≡ a =
+      refused-first (recordCount s) (causeAt s) p (F .there) (ap isReadable (F .fault) ∙ F .refused) (F .before) ∙ F .fault in
+      answer-records s legal ∙ ap (λ (x : Answer). followedBy x (crewThere s)) first ∙ stays a (F .refused)
+    where
+      stays : (a : Answer) → isReadable a ≡ false → followedBy a (crewThere s) ≡ a
+      stays Readable e = absurd (false≢true (sym e))
+      stays (Refused c) e = refl
+
+  module _ (fine : (p : ℕ) → p < recordCount s → isReadable (causeAt s p) ≡ true) where
+    -- no record has a fault, and each is an activity
+    pub refused-crew : ((p : ℕ) → p < recordCount s → typeAt s p ≡ 1) → answerOf s ≡ Refused (RecordType (recordCount s))
+    unfolding recordsCause
+    refused-crew h =
+        answer-records s legal
+        ∙ ap (λ (x : Answer). followedBy x (crewThere s)) (none-refused (recordCount s) (causeAt s) fine)
+        ∙ crew-missing s (all-activities s .0 h)
+
+    -- no record has a fault, and one is a crew record
+    pub readable-fine : (p : ℕ) → p < recordCount s → typeAt s p ≡ 2 → Meaning.Readable s
+    readable-fine p l e =
+        let crewed : activityCount s < recordCount s =
+        ⊎-elim (λ q. absurd (omega (arith, all-activities s .1 q p l))) (λ h. h) (crew-or-missing s) in
+        ap isReadable (answer-records s legal ∙ faultless-read s (record { fine = fine; crewed = crewed }))
+
+-- ---- what a refusal means
+
+pub record WrongLength (s : List ℕ) (c : Cause) : Type 0 where
+  pub wrong : isLength (length s) ≡ false
+  pub cause : c ≡ Length
+
+pub record CrewMissing (s : List ℕ) (c : Cause) : Type 0 where
+  pub legal : isLength (length s) ≡ true
+  pub fine : (p : ℕ) → p < recordCount s → isReadable (causeAt s p) ≡ true
+  pub activities : (p : ℕ) → p < recordCount s → typeAt s p ≡ 1
+  pub cause : c ≡ RecordType (recordCount s)
+
+records-refused : (s : List ℕ) (c : Cause) → isLength (length s) ≡ true → recordsCause s ≡ Refused c → ((p : ℕ) × FirstFault s p (Refused c)) ⊎ CrewMissing s c
+unfolding recordsCause
+records-refused s c legal e = go (firstRefusal (recordCount s) (causeAt s)) refl e
+  where
+    go : (a : Answer) → firstRefusal (recordCount s) (causeAt s) ≡ a → followedBy a (crewThere s) ≡ Refused c
+        → ((p : ℕ) × FirstFault s p (Refused c)) ⊎ CrewMissing s c
+    go Readable q e =
+        let fine = all-readable (recordCount s) (causeAt s) (ap isReadable q) in
+        ⊎-elim
+        (λ m.
+        let h = sym (crew-missing s m) ∙ e in
+        inr (record { legal = legal; fine = fine; activities = all-activities s .1 m; cause = cc h }))
+        (λ l. absurd (false≢true (sym (ap isReadable e) ∙ ap isReadable (crew-there s l))))
+        (crew-or-missing s)
+    go (Refused d) q e =
+        let F = first-refused (recordCount s) (causeAt s) (ap isReadable q) in
+        inl (F .0, record { there = F .1; fault = sym (F .2) ∙ q ∙ e; refused = refl; before = F .3 })
+
+-- WHAT A REFUSAL MEANS
+pub refused-means : (s : List ℕ) (c : Cause) → answerOf s ≡ Refused c → WrongLength s c ⊎ (((p : ℕ) × FirstFault s p (Refused c)) ⊎ CrewMissing s c)
+refused-means s c e =
+    by-test (isLength (length s))
+    (λ t. inr (records-refused s c t (sym (answer-records s t) ∙ e)))
+    (λ t. let h = sym (refused-length s t) ∙ e in inl (record { wrong = t; cause = cc h }))

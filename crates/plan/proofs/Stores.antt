@@ -1,0 +1,121 @@
+-- What the loops that store durations and demands leave in the plan's arrays: the tables of the fields. Assumes nothing.
+use mathlib.Core.Path.{_≡_, refl, sym, ap, _∙_}
+use mathlib.Core.Bool.{cond}
+use mathlib.Core.List.{List}
+use mathlib.Core.Logic.{_≢_}
+use Prim.Native.Nat.{ℕ, zero, suc, _+_, _*_, _/_, _%_, _≤_, _<_}
+use native.Mathlib.Omega.{arith}
+use lib.ListN.{length, getD, set, replicate, length-set, length-replicate}
+use lib.Seq.{getD-set-same, getD-set-other}
+use lib.Dec.{ltb}
+use borrow.Author.Tests.{ltb-true, ltb-false}
+use Rattle.words.specs.Loops.{upto}
+use Rattle.words.specs.Tables.{table}
+use Rattle.words.proofs.Tests.{by-test, below-suc, cond-true, cond-false}
+use Rattle.words.proofs.Tables.{is-table}
+use Rattle.plan.specs.Records.{recordAt, activityCount, durationIn, demandIn}
+use Rattle.plan.specs.Plans.{durationsOf, demandsOf}
+use Rattle.plan.specs.Phases.{putDuration, putDemand, putDemands}
+
+-- zeros, also past the end
+pub getD-zeros : (n i : ℕ) → getD {A = ℕ} (replicate n 0) i 0 ≡ 0
+getD-zeros zero i = refl
+getD-zeros (suc n) zero = refl
+getD-zeros (suc n) (suc i) = getD-zeros n i
+
+-- ---- a list of n zeros, into which a loop stores f 0, f 1, .., f (i - 1) at the start
+
+record Storing (f : ℕ → ℕ) (n i : ℕ) (now : List ℕ) : Type 0 where
+  long : length now ≡ n
+  done : (k : ℕ) → k < i → getD now k 0 ≡ f k
+  left : (k : ℕ) → i ≤ k → getD now k 0 ≡ 0
+
+storing : (f : ℕ → ℕ) (n i : ℕ) → i ≤ n → Storing f n i (upto (λ k l. set l k (f k)) i (replicate n 0))
+unfolding upto
+storing f n zero h = record { long = length-replicate {A = ℕ} n 0; done = λ k l. absurd (omega arith); left = λ k l. getD-zeros n k }
+storing f n (suc i) h = go (upto (λ k l. set l k (f k)) i (replicate n 0)) (storing f n i (omega arith))
+  where
+    go : (now : List ℕ) → Storing f n i now → Storing f n (suc i) (set now i (f i))
+    go now u =
+        record {
+          long = length-set now i (f i) ∙ u .long;
+          done =
+              below-suc (λ k. getD (set now i (f i)) k 0 ≡ f k) i
+              (λ k m. getD-set-other now i k (f i) 0 (omega arith) ∙ u .done k m)
+              (getD-set-same now i (f i) 0 (omega (arith, u .long)));
+          left = λ k m. getD-set-other now i k (f i) 0 (omega arith) ∙ u .left k (omega arith);
+        }
+
+-- it is the table of f up to i, and of zeros from there on
+pub stored : (f : ℕ → ℕ) (n i : ℕ) → i ≤ n → upto (λ k l. set l k (f k)) i (replicate n 0) ≡ table n (λ k. cond (ltb k i) (f k) 0)
+stored f n i h =
+    let u = storing f n i h in
+    is-table n (λ k. cond (ltb k i) (f k) 0) (upto (λ k l. set l k (f k)) i (replicate n 0)) 0 (u .long)
+    (λ k l. by-test (ltb k i) (λ t. u .done k (ltb-true k i t) ∙ sym (cond-true (f k) 0 t)) (λ t. u .left k (ltb-false k i t) ∙ sym (cond-false (f k) 0 t)))
+
+pub durations-stored : (s : List ℕ) → activityCount s ≤ 64 → upto (putDuration s) (activityCount s) (replicate 64 0) ≡ durationsOf s
+unfolding durationsOf
+durations-stored s h = stored (λ i. durationIn (recordAt s i)) 64 (activityCount s) h
+
+-- ---- the demands of one activity, of which the first n are stored
+
+record Put (r : List ℕ) (i n : ℕ) (old now : List ℕ) : Type 0 where
+  long : length now ≡ length old
+  here : (k : ℕ) → k < n → getD now (64 * k + i) 0 ≡ demandIn r k
+  other : (x : ℕ) → ((k : ℕ) → k < n → x ≢ 64 * k + i) → getD now x 0 ≡ getD old x 0
+
+put : (r : List ℕ) (i n : ℕ) (old : List ℕ) → n ≤ 8 → i < 64 → length old ≡ 512 → Put r i n old (upto (putDemand r i) n old)
+unfolding upto
+put r i zero old h l e = record { long = refl; here = λ k m. absurd (omega arith); other = λ x ne. refl }
+put r i (suc n) old h l e = go (upto (putDemand r i) n old) (put r i n old (omega arith) l e)
+  where
+    go : (now : List ℕ) → Put r i n old now → Put r i (suc n) old (putDemand r i n now)
+    go now u =
+        record {
+          long = length-set now (64 * n + i) (demandIn r n) ∙ u .long;
+          here =
+              below-suc (λ k. getD (putDemand r i n now) (64 * k + i) 0 ≡ demandIn r k) n
+              (λ k m. getD-set-other now (64 * n + i) (64 * k + i) (demandIn r n) 0 (omega arith) ∙ u .here k m)
+              (getD-set-same now (64 * n + i) (demandIn r n) 0 (omega (arith, u .long)));
+          other = λ x ne. getD-set-other now (64 * n + i) x (demandIn r n) 0 (ne n (omega arith)) ∙ u .other x (λ k m. ne k (omega arith));
+        }
+
+-- ---- the demands of the activities below i
+
+record Demands (s : List ℕ) (i : ℕ) (now : List ℕ) : Type 0 where
+  long : length now ≡ 512
+  done : (k c : ℕ) → k < 8 → c < i → getD now (64 * k + c) 0 ≡ demandIn (recordAt s c) k
+  left : (k c : ℕ) → k < 8 → i ≤ c → c < 64 → getD now (64 * k + c) 0 ≡ 0
+
+demands : (s : List ℕ) (i : ℕ) → i ≤ 64 → Demands s i (upto (putDemands s) i (replicate 512 0))
+unfolding upto
+demands s zero h = record { long = length-replicate {A = ℕ} 512 0; done = λ k c l m. absurd (omega arith); left = λ k c l m b. getD-zeros 512 (64 * k + c) }
+demands s (suc i) h = go (upto (putDemands s) i (replicate 512 0)) (demands s i (omega arith))
+  where
+    go : (now : List ℕ) → Demands s i now → Demands s (suc i) (putDemands s i now)
+    go now u =
+        let p = put (recordAt s i) i 8 now (omega arith) (omega arith) (u .long) in
+        record {
+          long = p .long ∙ u .long;
+          done =
+              λ k c l. below-suc (λ x. getD (putDemands s i now) (64 * k + x) 0 ≡ demandIn (recordAt s x) k) i
+              (λ x m. p .other (64 * k + x) (λ y b q. omega arith) ∙ u .done k x l m)
+              (p .here k l) c;
+          left = λ k c l m b. p .other (64 * k + c) (λ y a q. omega arith) ∙ u .left k c l (omega arith) b;
+        }
+
+pub demands-stored : (s : List ℕ) → activityCount s ≤ 64 → upto (putDemands s) (activityCount s) (replicate 512 0) ≡ demandsOf s
+unfolding demandsOf
+demands-stored s h = go (activityCount s) h
+  where
+    go : (m : ℕ) → m ≤ 64 → upto (putDemands s) m (replicate 512 0) ≡ table 512 (λ x. cond (ltb (x % 64) m) (demandIn (recordAt s (x % 64)) (x / 64)) 0)
+    go m h =
+        let u = demands s m h in
+        let l : List ℕ = upto (putDemands s) m (replicate 512 0) in
+        is-table 512 (λ x. cond (ltb (x % 64) m) (demandIn (recordAt s (x % 64)) (x / 64)) 0) l 0 (u .long)
+        (λ x b.
+        let e : 64 * (x / 64) + x % 64 ≡ x = omega arith in
+        ap (λ (y : ℕ). getD l y 0) (sym e)
+        ∙ by-test (ltb (x % 64) m)
+        (λ t. u .done (x / 64) (x % 64) (omega arith) (ltb-true (x % 64) m t) ∙ sym (cond-true (demandIn (recordAt s (x % 64)) (x / 64)) 0 t))
+        (λ t. u .left (x / 64) (x % 64) (omega arith) (ltb-false (x % 64) m t) (omega arith) ∙ sym (cond-false (demandIn (recordAt s (x % 64)) (x / 64)) 0 t)))

@@ -1,0 +1,29 @@
+-- `plan::read` meets its contract: a wrong length is refused, and of a right one the phases come to the reading. Assumes nothing.
+use mathlib.Core.Path.{_∙_}
+use native.Mathlib.Omega.{arith}
+use lib.ListN.{length}
+use borrow.Author.Needs.{needs}
+use Rattle.plan.specs.Reads.{readOf, answerOf}
+use Rattle.plan.proofs.Turns.{told, told-not, length-high}
+use Rattle.plan.proofs.Phases.{file-read}
+use Rattle.plan.proofs.read.Statement.{statement}
+use Rattle.plan.proofs.read.Tie as tie
+
+returns : tie.Need-returns
+unfolding readOf answerOf
+returns c = rw (told-not (c .before .before .is-length .ensures) (c .before .if1 .taken)) (c .refusal .ensures)
+
+read-file-requires : tie.Need-read-file-requires
+read-file-requires c κs =
+    let h = length-high (length (c .before .before .before .args .s .now)) (told (c .before .is-length .ensures) (c .if1 .left)) in
+    (omega arith, omega arith)
+
+returns-2 : tie.Need-returns-2
+returns-2 c =
+    let b = c .before .before in
+    c .read-file .ensures ∙ file-read (b .before .before .args .s .now) (told (b .is-length .ensures) (c .before .if1 .left))
+
+pub read-spec : {M : Type 1} → statement M
+read-spec =
+    tie.close
+    (tie.spec (λ c κs. search needs) (λ c κs. search needs) returns read-file-requires returns-2)

@@ -1,0 +1,64 @@
+-- The causes of a refusal, 1 to 4, each with its place. Assumes nothing.
+use mathlib.Core.Bool.{Bool, true, false, not, cond}
+use mathlib.Core.List.{List}
+use Prim.Native.Nat.{ℕ}
+use lib.Dec.{eqb, ltb}
+use Rattle.words.specs.Members.{first}
+use Rattle.records.specs.Bytes.{byte}
+use Rattle.plan.specs.declared.Answer.{Answer}
+use Rattle.plan.specs.declared.Answer.the-variants.{Readable, Refused}
+use Rattle.plan.specs.declared.Cause.the-variants.{RecordType, Field, Spare}
+use Rattle.plan.specs.Records.{recordAt, recordCount, activityCount, activityFields, activitySpare, crewFields, crewSpare, arcFields, arcSpare, dueType}
+use Rattle.plan.specs.Plans.{demandsOf}
+
+-- "records in file order, 2, 3, 4 within each": the causes of one record, in the order in which they are tested.
+-- typed: its type is the one that is due; fields: each field keeps its rule; spare: its spare bytes are zero.
+abbrev pub firstCause : Bool → Bool → Bool → ℕ → Answer
+firstCause true true true place = Readable
+firstCause true true false place = Refused (Spare place)
+firstCause true false spare place = Refused (Field place)
+firstCause false fields spare place = Refused (RecordType place)
+
+abbrev pub isReadable : Answer → Bool
+isReadable Readable = true
+isReadable (Refused c) = false
+
+-- one of the activity records that the file begins with; its type is 1
+unfoldable pub activityCause : ℕ → List ℕ → Answer
+activityCause place r = firstCause true (activityFields place r) (activitySpare r) place
+
+-- the record after them, which has to be the crew record
+unfoldable pub crewCause : ℕ → List ℕ → List ℕ → Answer
+crewCause place demand r = firstCause (eqb (byte r 0) 2) (crewFields demand r) (crewSpare r) place
+
+-- a record after that, which has to be an arc of the type that is due
+unfoldable pub arcCause : ℕ → ℕ → ℕ → List ℕ → Answer
+arcCause type place m r = firstCause (eqb (byte r 0) type) (arcFields m r) (arcSpare r) place
+
+-- the cause of the record at a place
+unfoldable pub causeAt : List ℕ → ℕ → Answer
+causeAt s p =
+    let activity = activityCause p (recordAt s p) in
+    let crew = crewCause p (demandsOf s) (recordAt s p) in
+    let arc = arcCause (dueType s p) p (activityCount s) (recordAt s p) in
+    cond (ltb p (activityCount s)) activity (cond (eqb p (activityCount s)) crew arc)
+
+-- the first refusal among f 0, .., f (n - 1)
+unfoldable pub firstRefusal : ℕ → (ℕ → Answer) → Answer
+firstRefusal n f =
+    let p = first n (λ i. not (isReadable (f i))) in
+    let refusal = f p in
+    cond (ltb p n) refusal Readable
+
+-- what follows where nothing was refused
+abbrev pub followedBy : Answer → Answer → Answer
+followedBy Readable next = next
+followedBy (Refused c) next = Refused c
+
+-- "crew record missing (place: record count)"
+abbrev pub crewThere : List ℕ → Answer
+crewThere s = cond (eqb (activityCount s) (recordCount s)) (Refused (RecordType (recordCount s))) Readable
+
+-- the first record with a cause, and its first cause; then a missing crew record
+unfoldable pub recordsCause : List ℕ → Answer
+recordsCause s = followedBy (firstRefusal (recordCount s) (causeAt s)) (crewThere s)

@@ -1,0 +1,59 @@
+-- The plan that a readable file says, field by field. Assumes nothing.
+use mathlib.Core.Bool.{cond}
+use mathlib.Core.List.{List}
+use Prim.Native.Nat.{ℕ, zero, suc, _-_, _/_, _%_}
+use lib.Dec.{eqb, ltb}
+use lib.ListN.{getD, set, replicate}
+use Rattle.words.specs.Bits.{withBit}
+use Rattle.words.specs.Tables.{table}
+use Rattle.records.specs.Bytes.{byte}
+use Rattle.plan.specs.declared.Plan.{Plan}
+use Rattle.plan.specs.Records.{recordAt, recordCount, typeAt, activityCount, durationIn, demandIn, availableIn}
+
+-- element i's duration is the field of record i
+unfoldable pub durationsOf : List ℕ → List ℕ
+durationsOf s = table 64 (λ i. cond (ltb i (activityCount s)) (durationIn (recordAt s i)) 0)
+
+-- and so are its demands; that of element i for kind k + 1 stands at 64 * k + i
+unfoldable pub demandsOf : List ℕ → List ℕ
+demandsOf s = table 512 (λ x. cond (ltb (x % 64) (activityCount s)) (demandIn (recordAt s (x % 64)) (x / 64)) 0)
+
+-- the availabilities are the fields of the crew record
+unfoldable pub availableOf : List ℕ → List ℕ
+availableOf s = table 8 (availableIn (recordAt s (activityCount s)))
+
+-- the arcs of a type, as rows of bits: each record of that type sets bit (to - 1) of row (from - 1). "Repeated arcs are allowed and count once."
+unfoldable pub withArc : List ℕ → List ℕ → List ℕ
+withArc r rows = set rows (byte r 1 - 1) (withBit (getD rows (byte r 1 - 1) 0) (byte r 2 - 1))
+
+unfoldable pub arcsUpTo : List ℕ → ℕ → ℕ → List ℕ
+arcsUpTo s type zero = replicate 64 0
+arcsUpTo s type (suc p) = cond (eqb (typeAt s p) type) (withArc (recordAt s p) (arcsUpTo s type p)) (arcsUpTo s type p)
+
+abbrev pub arcRows : List ℕ → ℕ → List ℕ
+arcRows s type = arcsUpTo s type (recordCount s)
+
+unfoldable pub planOf : List ℕ → Plan
+planOf s =
+    record {
+      count = activityCount s;
+      kinds = byte (recordAt s (activityCount s)) 1;
+      duration = durationsOf s;
+      demand = demandsOf s;
+      available = availableOf s;
+      job = arcRows s 3;
+      extra = arcRows s 4;
+    }
+
+-- the plan that stands beside a refusal
+unfoldable pub emptyPlan : Plan
+emptyPlan =
+    record {
+      count = 0;
+      kinds = 0;
+      duration = replicate 64 0;
+      demand = replicate 512 0;
+      available = replicate 8 0;
+      job = replicate 64 0;
+      extra = replicate 64 0;
+    }

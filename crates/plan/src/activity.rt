@@ -1,0 +1,88 @@
+// Activity records, type 1.
+ghost use mathlib.Core.Path.{_≡_};
+ghost use Prim.Native.Nat.{_*_, _≤_, _<_};
+ghost use lib.ListN.{length};
+ghost use Rattle.words.specs.Loops.{upto};
+ghost use Rattle.plan.specs.Records.{activityFields, recordAt};
+ghost use Rattle.plan.specs.Causes.{activityCause, firstRefusal};
+ghost use Rattle.plan.specs.Phases.{putDuration, putDemand, putDemands};
+use crate::Answer;
+use crate::checks::first_cause;
+use crate::checks::is_readable;
+use crate::field::all_zero;
+use crate::field::half;
+
+// Whether an activity record's fields keep their rules.
+fn activity_fields(r: &[u8], place: usize) -> bool
+    requires { ⌜ 24 ≤ length (now r) ⌝ }
+    ensures { λ b. ⌜ b ≡ activityFields place (now (r .entry)) ⌝ }
+{
+    if 64 <= place {
+        return false;
+    }
+    let number = r[1] as usize;
+    if number != place + 1 {
+        return false;
+    }
+    0 < half(r, 2)
+}
+
+// The cause of an activity record, by its type known to be one.
+fn activity_cause(r: &[u8], place: usize) -> Answer
+    requires { ⌜ 24 ≤ length (now r) ⌝ }
+    ensures { λ a. ⌜ a ≡ activityCause place (now (r .entry)) ⌝ }
+{
+    first_cause(true, activity_fields(r, place), all_zero(r, 20, 24), place)
+}
+
+// The first cause among the first m records, which are activities.
+pub fn activities_cause(s: &[u8], m: usize) -> Answer
+    requires { ⌜ 24 * m ≤ length (now s) ⌝ }
+    ensures { λ a. ⌜ a ≡ firstRefusal m (λ i. activityCause i (recordAt (now (s .entry)) i)) ⌝ }
+{
+    let mut i: usize = 0;
+    while i < m {
+        let answer = activity_cause(&s[24 * i..], i);
+        if !is_readable(answer) {
+            return answer;
+        }
+        i += 1;
+    }
+    Answer::Readable
+}
+
+// The durations of the first m records.
+pub fn store_durations(s: &[u8], m: usize, durations: &mut [u32; 64])
+    requires { ⌜ (24 * m ≤ length (now s)) × (m ≤ 64) ⌝ }
+    ensures { λ _. ⌜ now (durations .exit) ≡ upto (putDuration (now (s .entry))) m (now (durations .entry)) ⌝ }
+{
+    let mut i: usize = 0;
+    while i < m {
+        durations[i] = half(&s[24 * i..], 2);
+        i += 1;
+    }
+}
+
+// The eight demands of element i.
+fn store_demands_of(r: &[u8], i: usize, demands: &mut [u32; 512])
+    requires { ⌜ (24 ≤ length (now r)) × (i < 64) ⌝ }
+    ensures { λ _. ⌜ now (demands .exit) ≡ upto (putDemand (now (r .entry)) i) 8 (now (demands .entry)) ⌝ }
+{
+    let mut k: usize = 0;
+    while k < 8 {
+        demands[64 * k + i] = half(r, 4 + 2 * k);
+        k += 1;
+    }
+}
+
+// The demands of the first m records.
+pub fn store_demands(s: &[u8], m: usize, demands: &mut [u32; 512])
+    requires { ⌜ (24 * m ≤ length (now s)) × (m ≤ 64) ⌝ }
+    ensures { λ _. ⌜ now (demands .exit) ≡ upto (putDemands (now (s .entry))) m (now (demands .entry)) ⌝ }
+{
+    let mut i: usize = 0;
+    while i < m {
+        store_demands_of(&s[24 * i..], i, demands);
+        i += 1;
+    }
+}

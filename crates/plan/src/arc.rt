@@ -1,0 +1,85 @@
+// Arc records, types 3 and 4.
+ghost use mathlib.Core.Path.{_≡_};
+ghost use mathlib.Core.Bool.{true};
+ghost use Prim.Native.Nat.{ℕ, _+_, _*_, _≤_, _<_};
+ghost use lib.ListN.{length};
+ghost use Rattle.words.specs.Loops.{upto};
+ghost use Rattle.plan.specs.Records.{isEnd, arcFields, recordAt};
+ghost use Rattle.plan.specs.Plans.{withArc};
+ghost use Rattle.plan.specs.Causes.{arcCause, firstRefusal};
+ghost use Rattle.plan.specs.Phases.{putArc};
+use crate::Answer;
+use crate::checks::first_cause;
+use crate::checks::is_readable;
+use crate::field::all_zero;
+use crate::field::index;
+
+fn is_end(m: usize, i: u8) -> bool
+    ensures { λ b. ⌜ b ≡ isEnd m i ⌝ }
+{
+    if i == 0 {
+        return false;
+    }
+    index(i) <= m
+}
+
+// Whether an arc record's fields keep their rules, in a plan of m activities.
+fn arc_fields(m: usize, r: &[u8]) -> bool
+    requires { ⌜ 24 ≤ length (now r) ⌝ }
+    ensures { λ b. ⌜ b ≡ arcFields m (now (r .entry)) ⌝ }
+{
+    let i = r[1];
+    let j = r[2];
+    if !is_end(m, i) {
+        return false;
+    }
+    if !is_end(m, j) {
+        return false;
+    }
+    i != j
+}
+
+fn arc_cause(m: usize, r: &[u8], of: u8, place: usize) -> Answer
+    requires { ⌜ 24 ≤ length (now r) ⌝ }
+    ensures { λ a. ⌜ a ≡ arcCause of place m (now (r .entry)) ⌝ }
+{
+    first_cause(r[0] == of, arc_fields(m, r), all_zero(r, 3, 24), place)
+}
+
+// The first cause among the first n records of t, which have to be arcs of a type; the first of them is at a place of the file.
+pub fn arcs_cause(m: usize, t: &[u8], of: u8, n: usize, place: usize) -> Answer
+    requires { ⌜ (24 * n ≤ length (now t)) × (place + n ≤ 2048) ⌝ }
+    ensures { λ a. ⌜ a ≡ firstRefusal n (λ i. arcCause of (place + i) m (recordAt (now (t .entry)) i)) ⌝ }
+{
+    let mut i: usize = 0;
+    while i < n {
+        let answer = arc_cause(m, &t[24 * i..], of, place + i);
+        if !is_readable(answer) {
+            return answer;
+        }
+        i += 1;
+    }
+    Answer::Readable
+}
+
+// The arc of a record, whose ends are 1 to 64.
+fn store_arc(r: &[u8], rows: &mut [u64; 64])
+    requires { ⌜ (24 ≤ length (now r)) × (arcFields 64 (now r) ≡ true) ⌝ }
+    ensures { λ _. ⌜ now (rows .exit) ≡ withArc (now (r .entry)) (now (rows .entry)) ⌝ }
+{
+    let i = index(r[1]) - 1;
+    let j = index(r[2]) - 1;
+    rows[i] = words::with_bit(rows[i], j);
+}
+
+// The arcs of the first n records of t.
+pub fn store_arcs(t: &[u8], n: usize, rows: &mut [u64; 64])
+    requires { ⌜ (24 * n ≤ length (now t)) × (n ≤ 2048) × ((i : ℕ) → i < n → arcFields 64 (recordAt (now t) i) ≡ true) ⌝ }
+    ensures { λ _. ⌜ now (rows .exit) ≡ upto (putArc (now (t .entry))) n (now (rows .entry)) ⌝ }
+{
+    let mut i: usize = 0;
+    while i < n {
+        store_arc(&t[24 * i..], rows);
+        i += 1;
+    }
+}
