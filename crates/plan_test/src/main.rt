@@ -44,10 +44,23 @@ fn print_reading(r: Reading) {
     }
 }
 
-fn read(label: &[u8], s: &[u8]) {
+// Reads the first n bytes of a file.
+fn read(label: &[u8], file: [u8; 1680], n: usize)
+    requires { ⌜ n < 1681 ⌝ }
+{
     io::write_all(1, label);
     io::write_all(1, b": ");
-    print_reading(plan::read(s));
+    print_reading(plan::read(&file[..n]));
+}
+
+// Reads n bytes that are zero.
+fn read_zeros(label: &[u8], n: usize)
+    requires { ⌜ n < 65537 ⌝ }
+{
+    let zeros = io::large_buffer();
+    io::write_all(1, label);
+    io::write_all(1, b": ");
+    print_reading(plan::read(&zeros[..n]));
 }
 
 // An activity record at a place below 70, with its number, duration 1 and demand 1 of kind 1.
@@ -93,11 +106,14 @@ fn with(file: [u8; 1680], at: usize, b: u8) -> [u8; 1680]
     f
 }
 
-// Sixty-five activity records.
-fn many() -> [u8; 1680] {
+// The first n activity records.
+fn many(n: usize) -> [u8; 1680]
+    requires { ⌜ n < 66 ⌝ }
+{
     let mut f = [0u8; 1680];
-    for i in 0..65usize {
-        f = activity(f, i, (i + 1) as u8);
+    for i in 0..n {
+        let next = activity(f, i, (i + 1) as u8);
+        f = next;
     }
     f
 }
@@ -120,72 +136,70 @@ fn small() -> [u8; 1680] {
 }
 
 fn lengths() {
-    let long = io::large_buffer();
-    read(b"0 bytes", &long[..0]);
-    read(b"23 bytes", &long[..23]);
-    read(b"49,152 bytes, unknown types", &long[..49152]);
-    read(b"49,153 bytes", &long[..49153]);
-    read(b"49,176 bytes", &long[..49176]);
+    read_zeros(b"0 bytes", 0);
+    read_zeros(b"23 bytes", 23);
+    read_zeros(b"49,152 bytes, unknown types", 49152);
+    read_zeros(b"49,153 bytes", 49153);
+    read_zeros(b"49,176 bytes", 49176);
 }
 
 fn counts() {
-    let full = many();
-    let fits = crew(full, 64);
-    read(b"64 activities", &fits[..1560]);
-    let over = crew(full, 65);
-    read(b"65 activities", &over[..1584]);
+    let fits = crew(many(64), 64);
+    read(b"64 activities", fits, 1560);
+    let over = crew(many(65), 65);
+    read(b"65 activities", over, 1584);
     let none = crew([0u8; 1680], 0);
-    read(b"no activity", &none[..24]);
+    read(b"no activity", none, 24);
     let alone = arc(none, 1, 3, 1, 2);
-    read(b"no activity and an arc", &alone[..48]);
+    read(b"no activity and an arc", alone, 48);
 }
 
 fn activities() {
     let f = small();
-    read(b"two activities and two arcs", &f[..120]);
+    read(b"two activities and two arcs", f, 120);
     let a = with(f, 2, 0);
-    read(b"duration 0", &a[..120]);
+    read(b"duration 0", a, 120);
     let b = with(f, 25, 3);
-    read(b"a wrong number", &b[..120]);
+    read(b"a wrong number", b, 120);
     let c = with(f, 23, 1);
-    read(b"a spare byte of an activity", &c[..120]);
+    read(b"a spare byte of an activity", c, 120);
     let d = with(c, 24, 9);
-    read(b"and an unknown type after it", &d[..120]);
+    read(b"and an unknown type after it", d, 120);
 }
 
 fn crews() {
     let f = small();
-    read(b"the crew record is missing", &f[..48]);
+    read(b"the crew record is missing", f, 48);
     let a = with(f, 30, 1);
-    read(b"a demand beyond K", &a[..120]);
+    read(b"a demand beyond K", a, 120);
     let b = with(f, 54, 1);
-    read(b"an availability beyond K", &b[..120]);
+    read(b"an availability beyond K", b, 120);
     let c = with(f, 50, 1);
-    read(b"a spare byte of the crew", &c[..120]);
+    read(b"a spare byte of the crew", c, 120);
     let d = with(f, 49, 0);
-    read(b"no kind", &d[..120]);
+    read(b"no kind", d, 120);
     let e = with(f, 49, 9);
-    read(b"nine kinds", &e[..120]);
+    read(b"nine kinds", e, 120);
     let g = crew(f, 3);
-    read(b"a second crew record", &g[..120]);
+    read(b"a second crew record", g, 120);
 }
 
 fn arcs() {
     let f = small();
     let a = arc(arc(activity([0u8; 1680], 0, 1), 1, 3, 1, 1), 2, 2, 1, 0);
-    read(b"an arc before the crew record", &a[..72]);
+    read(b"an arc before the crew record", a, 72);
     let b = arc(arc(f, 3, 4, 1, 2), 4, 3, 2, 1);
-    read(b"a job arc after an extra arc", &b[..120]);
+    read(b"a job arc after an extra arc", b, 120);
     let c = arc(f, 3, 3, 1, 1);
-    read(b"an arc to itself", &c[..120]);
+    read(b"an arc to itself", c, 120);
     let d = arc(f, 4, 4, 2, 3);
-    read(b"an arc to activity 3 of 2", &d[..120]);
+    read(b"an arc to activity 3 of 2", d, 120);
     let e = with(f, 75, 1);
-    read(b"a spare byte of an arc", &e[..120]);
+    read(b"a spare byte of an arc", e, 120);
     let g = activity(f, 4, 3);
-    read(b"an activity after the crew record", &g[..120]);
+    read(b"an activity after the crew record", g, 120);
     let h = arc(f, 4, 3, 1, 2);
-    read(b"an arc twice", &h[..120]);
+    read(b"an arc twice", h, 120);
 }
 
 fn main() {
