@@ -1,0 +1,60 @@
+-- `schedule::latest` meets its contract. The invariant: the largest that the arcs passed ask. Assumes nothing.
+use mathlib.Core.Bool.{cond}
+use mathlib.Core.Path.{_≡_, refl, sym}
+use Prim.Native.Nat.{_≤_, _-_, _+_}
+use native.Mathlib.Omega.{arith}
+use borrow.Author.Needs.{needs}
+use Rattle.words.specs.Sums.{maximum}
+use Rattle.words.proofs.Maxima.{maximum-next}
+use Rattle.order.specs.Rows.{after}
+use Rattle.schedule.specs.Starts.{asked}
+use Rattle.schedule.specs.Arrays.{at}
+use Rattle.schedule.proofs.early.latest.Statement.{statement}
+use Rattle.schedule.proofs.early.latest.Tie as tie
+
+abbrev Inv-loop : tie.InvT-loop
+Inv-loop rows durations starts j best₀ i₀ best i =
+    (i ≤ 64) × (best ≡ maximum i (λ k. cond (after rows k j) (at starts k + at durations k) 0))
+
+abbrev μ-loop : tie.MeasureT-loop
+μ-loop rows durations starts j best₀ i₀ best i = 64 - i
+
+loop-holds : tie.Need-loop-holds Inv-loop μ-loop
+unfolding maximum
+loop-holds c = (omega arith, refl)
+
+add-asks : tie.Need-add-asks Inv-loop μ-loop
+add-asks c =
+    let a = c .before .before .before .before in
+    record { fits = a .before .pre .1 (a .loop .i) 0 (omega arith) }
+
+loop-again : tie.Need-loop-again Inv-loop μ-loop
+loop-again c =
+    let a = c .before .before .before .before .before .before in
+    (omega arith, maximum-next (a .loop .i) _ (a .loop .best) (c .before .asks .result) (c .larger .result) (a .loop .inv .1) (sym (c .before .asks .ensures)) (c .larger .ensures))
+
+returns : tie.Need-returns Inv-loop μ-loop
+unfolding asked
+returns c =
+    let e : c .before .loop .i ≡ 64 = omega arith in rw e at (c .before .loop .inv .1)
+
+pub latest-spec : {M : Type 1} → statement M
+latest-spec =
+    tie.close
+    (tie.spec
+    Inv-loop
+    μ-loop
+    loop-holds
+    (λ c. search needs)
+    (λ c. search needs)
+    (λ c. search needs)
+    (λ c. search needs)
+    (λ c. search needs)
+    (λ c. search needs)
+    add-asks
+    (λ c κs. search needs)
+    (λ c κs. search needs)
+    (λ c. search needs)
+    (λ c. search needs)
+    loop-again
+    returns)

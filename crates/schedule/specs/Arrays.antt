@@ -1,0 +1,59 @@
+-- A plan's arrays: arcs as 64 rows of bits, a duration for each element, and a demand for each kind and element. Assumes nothing.
+use mathlib.Core.Path.{_≡_}
+use mathlib.Core.List.{List}
+use Prim.Native.Nat.{ℕ, _+_, _*_, _^_, _≤_, _<_}
+use lib.ListN.{getD, length}
+use Rattle.words.specs.Tables.{table}
+use Rattle.order.specs.Rows.{after}
+use Rattle.schedule.specs.Network.{Network, Schedule}
+use Rattle.schedule.specs.Starts.{earliestOf}
+use Rattle.schedule.specs.Checks.{Work}
+
+-- the numbers of a list, one for each element; 0 past its end
+abbrev pub at : List ℕ → Schedule
+at xs i = getD xs i 0
+
+-- ---- for the earliest starts
+
+-- the network of 64 elements with an arc from i to each member of row i
+abbrev pub netOf : List ℕ → (ℕ → ℕ → ℕ) → Network
+netOf rows weight = record { elements = 64; arc = after rows; weight = weight }
+
+-- the weight of an arc: the duration of the element that it comes from
+abbrev pub byDuration : List ℕ → ℕ → ℕ → ℕ
+byDuration durations i j = at durations i
+
+-- the earliest starts of all elements
+unfoldable pub startsOf : List ℕ → (ℕ → ℕ → ℕ) → List ℕ
+startsOf rows weight = table 64 (earliestOf (netOf rows weight))
+
+-- each of the numbers is at most b (a file's durations are at most 65,535)
+abbrev pub AllAtMost : ℕ → List ℕ → Type 0
+AllAtMost b xs = (i : ℕ) → at xs i ≤ b
+
+-- no start and weight together pass 32 bits
+abbrev pub FinishesFit : List ℕ → (ℕ → ℕ → ℕ) → Type 0
+FinishesFit starts weight = (i j : ℕ) → i < 64 → at starts i + weight i j < 2 ^ 32
+
+-- ---- for the crew check: "Given m starts and m worked durations"
+
+-- a start and a worked duration for each of at most 64 activities
+pub record Listed (starts worked : List ℕ) : Type 0 where
+  pub few : length starts ≤ 64
+  pub paired : length worked ≡ length starts
+
+-- the network of m elements, with the worked durations as weights
+abbrev pub crewNet : List ℕ → List ℕ → List ℕ → Network
+crewNet rows starts worked = record { elements = length starts; arc = after rows; weight = byDuration worked }
+
+-- the work of the crew: the demand of the element i for kind k stands at 64 * k + i
+abbrev pub workOf : List ℕ → List ℕ → List ℕ → List ℕ → Work
+workOf demands available starts worked =
+    record {
+      count = length starts;
+      start = at starts;
+      worked = at worked;
+      kinds = 8;
+      demand = λ k i. at demands (64 * k + i);
+      available = at available;
+    }

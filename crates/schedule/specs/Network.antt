@@ -1,0 +1,29 @@
+-- A network of arcs, and the schedules that keep its arcs. Assumes nothing.
+use mathlib.Core.Bool.{Bool}
+use Prim.Native.Nat.{ℕ, _+_, _≤_, _<_}
+use Rattle.order.specs.Before.{Drawn}
+
+-- So many elements, which pairs of them are arcs, and how long after the start of i the arc from i to j lets j start.
+-- (Here that weight is the duration of i; a wait on an arc would be added to it.)
+pub record Network : Type 0 where
+  pub elements : ℕ
+  pub arc : ℕ → ℕ → Bool
+  pub weight : ℕ → ℕ → ℕ
+
+-- there is an arc from i to j
+abbrev pub Arc : Network → ℕ → ℕ → Type 0
+Arc g = Drawn (g .elements) (g .arc)
+
+-- a schedule: the start of each element
+abbrev pub Schedule : Type 0
+Schedule = ℕ → ℕ
+
+-- "It keeps every arc: for each arc i to j, job or extra, the start of i plus its duration is at most the start of j."
+abbrev pub Keeps : Network → Schedule → Type 0
+Keeps g s = (i j : ℕ) → Arc g i j → s i + g .weight i j ≤ s j
+
+-- no circle, said by a rank below the number of elements that rises along every arc (`ranked` and `unranked` of proofs/Ranks.antt)
+pub record Ranked (g : Network) : Type 0 where
+  pub rank : ℕ → ℕ
+  pub below : (i : ℕ) → i < g .elements → rank i < g .elements
+  pub rises : (i j : ℕ) → Arc g i j → rank i < rank j

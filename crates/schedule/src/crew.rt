@@ -1,0 +1,162 @@
+// The crew check: the first broken arc, or else the first period with the lowest kind of which more is occupied than there is.
+ghost use mathlib.Core.Path.{_≡_};
+ghost use mathlib.Core.Bool.{cond, _&&_};
+ghost use mathlib.Core.List.{[]};
+ghost use Prim.Native.Nat.{_+_, _^_, _<_};
+ghost use lib.Dec.{ltb, leb};
+ghost use lib.ListN.{length};
+ghost use Rattle.words.specs.Bits.{bit};
+ghost use Rattle.schedule.specs.Checks.{occupied, brokenTo, brokenFrom, lowestKind, firstPeriod, checkOf};
+ghost use Rattle.schedule.specs.Arrays.{at, crewNet, workOf, Listed};
+ghost use Rattle.schedule.specs.Levels.{soonerOf};
+use crate::Checked;
+
+// Whether a row has an arc to the element j, which starts before the finish.
+fn breaks_at(row: u64, j: usize, finish: u64, next: u32) -> bool
+    requires { ⌜ j < 64 ⌝ }
+    ensures { λ r. ⌜ r ≡ (bit row j && ltb next finish) ⌝ }
+{
+    if words::has(row, j) {
+        words::wide(next) < finish
+    } else {
+        false
+    }
+}
+
+// The first element to which an arc from i is broken, or m.
+fn broken_to(rows: &[u64; 64], starts: &[u32], worked: &[u32], i: usize) -> usize
+    requires { ⌜ Listed (now starts) (now worked) ⌝ }
+    requires { ⌜ i < length (now starts) ⌝ }
+    ensures { λ r. ⌜ r ≡ brokenTo (crewNet (now (rows .entry)) (now (starts .entry)) (now (worked .entry))) (at (now (starts .entry))) i ⌝ }
+{
+    let row = rows[i];
+    let finish = words::wide(starts[i]) + words::wide(worked[i]);
+    let m = starts.len();
+    for j in 0..m {
+        if breaks_at(row, j, finish, starts[j]) {
+            return j;
+        }
+    }
+    m
+}
+
+// The first element from which an arc is broken, or m.
+fn broken_from(rows: &[u64; 64], starts: &[u32], worked: &[u32]) -> usize
+    requires { ⌜ Listed (now starts) (now worked) ⌝ }
+    ensures { λ r. ⌜ r ≡ brokenFrom (crewNet (now (rows .entry)) (now (starts .entry)) (now (worked .entry))) (at (now (starts .entry))) ⌝ }
+{
+    let m = starts.len();
+    for i in 0..m {
+        if broken_to(rows, starts, worked, i) < m {
+            return i;
+        }
+    }
+    m
+}
+
+// What an activity occupies in period t: its demand while it is at work.
+fn share(start: u32, worked: u32, t: u64, demand: u32) -> u64
+    ensures { λ r. ⌜ (r ≡ cond (ltb start t && leb t (start + worked)) demand 0) × (r < 2 ^ 32) ⌝ }
+{
+    let s = words::wide(start);
+    let d = words::wide(worked);
+    if s < t {
+        if t <= s + d { words::wide(demand) } else { 0 }
+    } else {
+        0
+    }
+}
+
+// What is occupied of kind k in period t; what is available plays no part in it.
+fn occupied_at(demands: &[u32; 512], starts: &[u32], worked: &[u32], t: u64, k: usize) -> u64
+    requires { ⌜ Listed (now starts) (now worked) ⌝ }
+    requires { ⌜ k < 8 ⌝ }
+    ensures { λ r. ⌜ r ≡ occupied (workOf (now (demands .entry)) [] (now (starts .entry)) (now (worked .entry))) t k ⌝ }
+{
+    let m = starts.len();
+    let mut used: u64 = 0;
+    for i in 0..m {
+        used = used + share(starts[i], worked[i], t, demands[64 * k + i]);
+    }
+    used
+}
+
+// The lowest kind that is exceeded in period t, or 8.
+fn lowest_kind(
+    demands: &[u32; 512],
+    available: &[u32; 8],
+    starts: &[u32],
+    worked: &[u32],
+    t: u64,
+) -> usize
+    requires { ⌜ Listed (now starts) (now worked) ⌝ }
+    ensures { λ r. ⌜ r ≡ lowestKind (workOf (now (demands .entry)) (now (available .entry)) (now (starts .entry)) (now (worked .entry))) t ⌝ }
+{
+    for k in 0..8usize {
+        if words::wide(available[k]) < occupied_at(demands, starts, worked, t, k) {
+            return k;
+        }
+    }
+    8
+}
+
+// The sooner of the periods best and t, where t counts if it is over, and best if it is not 0.
+fn sooner(over: bool, best: u64, t: u64) -> u64
+    ensures { λ r. ⌜ r ≡ soonerOf over best t ⌝ }
+{
+    if over {
+        if best == 0 {
+            t
+        } else {
+            if t < best { t } else { best }
+        }
+    } else {
+        best
+    }
+}
+
+// The first overloaded period, or 0. Only the periods that follow a start are tried.
+fn first_period(demands: &[u32; 512], available: &[u32; 8], starts: &[u32], worked: &[u32]) -> u64
+    requires { ⌜ Listed (now starts) (now worked) ⌝ }
+    ensures { λ r. ⌜ r ≡ firstPeriod (workOf (now (demands .entry)) (now (available .entry)) (now (starts .entry)) (now (worked .entry))) ⌝ }
+{
+    let m = starts.len();
+    let mut best: u64 = 0;
+    for i in 0..m {
+        let t = words::wide(starts[i]) + 1;
+        let kind = lowest_kind(demands, available, starts, worked, t);
+        best = sooner(kind < 8, best, t);
+    }
+    best
+}
+
+// The crew check of m starts and m worked durations.
+pub fn crew_check(
+    rows: &[u64; 64],
+    demands: &[u32; 512],
+    available: &[u32; 8],
+    starts: &[u32],
+    worked: &[u32],
+) -> Checked
+    requires { ⌜ Listed (now starts) (now worked) ⌝ }
+    ensures { λ r. ⌜ r ≡ checkOf (crewNet (now (rows .entry)) (now (starts .entry)) (now (worked .entry))) (workOf (now (demands .entry)) (now (available .entry)) (now (starts .entry)) (now (worked .entry))) ⌝ }
+{
+    let from = broken_from(rows, starts, worked);
+    if from < starts.len() {
+        let to = broken_to(rows, starts, worked, from);
+        return Checked::Broken {
+            from: from + 1,
+            to: to + 1,
+        };
+    }
+    let period = first_period(demands, available, starts, worked);
+    if 0 < period {
+        let kind = lowest_kind(demands, available, starts, worked, period);
+        Checked::Overload {
+            period,
+            kind: kind + 1,
+        }
+    } else {
+        Checked::Fits
+    }
+}
