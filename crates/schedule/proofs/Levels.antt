@@ -6,16 +6,16 @@ use mathlib.Core.Logic.{⊎-elim, _≢_, _↔_}
 use Prim.Native.Nat.{ℕ, zero, suc, _+_, _-_, _*_, _≤_, _<_, _^_}
 use native.Mathlib.Nat.{not-suc-le-zero}
 use native.Mathlib.Omega.{arith}
-use lib.Bits.{bitOr}
+use lib.Bits.{bitOr, or-zero-r}
 use lib.ListN.{getD, length, length-set, replicate, getD-replicate}
 use lib.Seq.{getD-set-same, getD-set-other}
 use Rattle.words.specs.Bits.{digit, bit, minus, rest}
 use Rattle.words.specs.Members.{first, some}
-use Rattle.words.specs.Loops.{upto}
+use Rattle.words.specs.Loops.{each, upto}
 use Rattle.words.proofs.Bits.{bit-zero, bit-one, bit-or, bit-minus, digit-one, digit-none, digit-not}
 use Rattle.words.proofs.Firsts.{some-found, some-here}
 use Rattle.words.proofs.Kept.{each-keeps}
-use Rattle.words.proofs.Loops.{each-more}
+use Rattle.words.proofs.Loops.{each-more, each-upto, upto-cong}
 use Rattle.words.proofs.Members.{digit-rest, rest-lt}
 use Rattle.words.proofs.Tables.{is-table, getD-table, length-table}
 use Rattle.words.proofs.Tests.{clash, holds, fails, by-test, at-or-other, and-says, and-both, or-left, or-right, not-of-false, false-of-not, cond-true, cond-false, cond-least}
@@ -47,6 +47,20 @@ module _ (rows : List ℕ) (done : ℕ) where
 
   all-bit : (j : ℕ) → j < 64 → bit (2 ^ 64 - 1) j ≡ true
   all-bit j l = bit-one (2 ^ 64 - 1) j (omega (arith, digit-not j 64 0 l (omega arith), digit-none j))
+
+  -- the code goes over those that are not done alone
+  pub waiting-members : each 64 (λ w i. bitOr w (row rows i)) 0 (minus (2 ^ 64 - 1) done) ≡ waitingFor 64 rows done
+  unfolding waitingFor
+  waiting-members =
+      each-upto 64 (λ w i. bitOr w (row rows i)) 0 (minus (2 ^ 64 - 1) done)
+      ∙ upto-cong _ _ 64 0 (λ i w l. ap (λ (b : Bool). cond b (bitOr w (row rows i)) w) (left i l) ∙ skip (bit done i) w (row rows i))
+    where
+      left : (i : ℕ) → i < 64 → bit (minus (2 ^ 64 - 1) done) i ≡ not (bit done i)
+      left i l = bit-minus (2 ^ 64 - 1) done i ∙ ap (λ (b : Bool). b && not (bit done i)) (all-bit i l)
+
+      skip : (b : Bool) (w r : ℕ) → cond (not b) (bitOr w r) w ≡ bitOr w (cond b 0 r)
+      skip true w r = sym (or-zero-r w)
+      skip false w r = refl
 
   ready-bit : (j : ℕ) → j < 64 → bit (readyOf rows done) j ≡ not (bit (waitingFor 64 rows done) j) && not (bit done j)
   unfolding readyOf

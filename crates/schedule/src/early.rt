@@ -7,25 +7,20 @@ ghost use Rattle.order.specs.Before.{Acyclic};
 ghost use Rattle.order.specs.Orders.{Direct};
 ghost use Rattle.schedule.specs.Starts.{asked, endOf};
 ghost use Rattle.schedule.specs.Arrays.{at, netOf, byDuration, startsOf, AllAtMost, FinishesFit};
-ghost use Rattle.schedule.specs.Levels.{openRow, waitingFor, readyOf, placed};
+ghost use Rattle.schedule.specs.Levels.{waitingFor, readyOf, placed};
 
 const ALL: u64 = 18446744073709551615;
-
-// The row of the element i, as far as it keeps others waiting: not at all once i is done.
-fn open_row(row: u64, done: u64, i: usize) -> u64
-    requires { ⌜ i < 64 ⌝ }
-    ensures { λ r. ⌜ r ≡ openRow done i row ⌝ }
-{
-    if words::has(done, i) { 0 } else { row }
-}
 
 // The elements that have an arc from one that is not done.
 fn waiting(rows: &[u64; 64], done: u64) -> u64
     ensures { λ r. ⌜ r ≡ waitingFor 64 (now (rows .entry)) done ⌝ }
 {
     let mut word: u64 = 0;
-    for i in 0..64usize {
-        word = word | open_row(rows[i], done, i);
+    let mut left = words::without(ALL, done);
+    while left != 0 {
+        let i = words::lowest(left);
+        word = word | rows[i];
+        left = words::without_lowest(left);
     }
     word
 }

@@ -1,15 +1,15 @@
 -- What the proofs of loops go by: over the members of a number, of at most n turns, and up to n. Assumes nothing.
 use mathlib.Core.Path.{_≡_, refl, sym, ap, _∙_}
-use mathlib.Core.Bool.{Bool, true, false}
-use mathlib.Core.List.{List, [], _∷_}
-use Prim.Native.Nat.{ℕ, suc, _+_, _-_, _^_, _≤_, _<_}
+use mathlib.Core.Bool.{Bool, true, false, cond}
+use mathlib.Core.List.{List, [], _∷_, _++_}
+use Prim.Native.Nat.{ℕ, zero, suc, _+_, _-_, _^_, _≤_, _<_}
 use native.Mathlib.Omega.{arith}
 use native.Mathlib.Numerals.{add-one}
 use Rattle.words.specs.Bits.{bit, rest}
 use Rattle.words.specs.Members.{first, members}
 use Rattle.words.specs.Loops.{fold, each, run, upto}
 use Rattle.words.proofs.Tests.{cond-true, cond-false}
-use Rattle.words.proofs.Members.{rest-le, members-none, members-more}
+use Rattle.words.proofs.Members.{rest-le, members-none, members-more, members-last, only}
 
 -- ---- a loop over the members of a number of k digits
 
@@ -85,3 +85,27 @@ module _ {S : Type 0} (f : ℕ → S → S) where
   up-end n k s₀ h i =
       let q : k ≡ n = omega arith in
       i .0 ∙ ap (λ (x : ℕ). upto f x s₀) q
+
+-- loops whose steps are the same come to the same
+pub upto-cong : {S : Type 0} (f g : ℕ → S → S) (n : ℕ) (s : S) → ((k : ℕ) (t : S) → k < n → f k t ≡ g k t) → upto f n s ≡ upto g n s
+unfolding upto
+upto-cong f g zero s h = refl
+upto-cong f g (suc n) s h = h n (upto f n s) (omega arith) ∙ ap (g n) (upto-cong f g n s (λ k t l. h k t (omega arith)))
+
+-- a loop over the members of w is one over all places that does nothing at the others
+fold-append : {S : Type 0} (f : S → ℕ → S) (s : S) (xs ys : List ℕ) → fold f s (xs ++ ys) ≡ fold f (fold f s xs) ys
+fold-append f s [] ys = refl
+fold-append f s (x ∷ xs) ys = fold-append f (f s x) xs ys
+
+fold-only : {S : Type 0} (f : S → ℕ → S) (s : S) (b : Bool) (x : ℕ) → fold f s (only b x) ≡ cond b (f s x) s
+fold-only f s true x = refl
+fold-only f s false x = refl
+
+pub each-upto : {S : Type 0} (k : ℕ) (f : S → ℕ → S) (s : S) (w : ℕ) → each k f s w ≡ upto (λ i t. cond (bit w i) (f t i) t) k s
+unfolding each upto members
+each-upto zero f s w = refl
+each-upto (suc k) f s w =
+    ap (fold f s) (members-last k w)
+    ∙ fold-append f s (members k w) (only (bit w k) k)
+    ∙ fold-only f (fold f s (members k w)) (bit w k) k
+    ∙ ap (λ t. cond (bit w k) (f t k) t) (each-upto k f s w)

@@ -1,7 +1,7 @@
 -- The members of a number: the lowest, the number without it, and the list of all, ascending. Assumes nothing.
 use mathlib.Core.Path.{_≡_, refl, sym, ap, ap₂, _∙_}
-use mathlib.Core.Bool.{Bool, true, false, not, _&&_, and-true, and-false}
-use mathlib.Core.List.{List, [], _∷_, map}
+use mathlib.Core.Bool.{Bool, true, false, not, _&&_, and-true, and-false, cond}
+use mathlib.Core.List.{List, [], _∷_, _++_, map}
 use mathlib.Core.Logic.{_⊎_, inl, inr, ⊎-elim}
 use Prim.Native.Nat.{ℕ, zero, suc, _+_, _-_, _*_, _/_, _%_, _^_, _≤_, _<_, min}
 use native.Mathlib.Omega.{arith}
@@ -186,3 +186,32 @@ has-member (suc k) w zero h = (omega (arith, Bits.digit-first w, lead-zero (w % 
 has-member (suc k) w (suc b) h =
     let r = has-member k (w / 2) b (lead-suc (w % 2) b (members k (w / 2)) h) in
     (Bits.digit-next w b ∙ r .0, omega (arith, r .1))
+
+-- the members below k + 1 are those below k, and k if it is one
+abbrev pub only : Bool → ℕ → List ℕ
+only b x = cond b (x ∷ []) []
+
+lead-append : (d : ℕ) (xs ys : List ℕ) → lead d (xs ++ ys) ≡ lead d xs ++ ys
+lead-append zero xs ys = refl
+lead-append (suc d) xs ys = refl
+
+map-append : (xs ys : List ℕ) → map suc (xs ++ ys) ≡ map suc xs ++ map suc ys
+map-append [] ys = refl
+map-append (x ∷ xs) ys = ap (λ (l : List ℕ). suc x ∷ l) (map-append xs ys)
+
+map-only : (b : Bool) (x : ℕ) → map suc (only b x) ≡ only b (suc x)
+map-only true x = refl
+map-only false x = refl
+
+pub members-last : (k w : ℕ) → members (suc k) w ≡ members k w ++ only (bit w k) k
+unfolding members
+members-last zero w =
+    ⊎-elim
+    (λ e. ap (λ (d : ℕ). lead d []) e ∙ sym (ap (λ (b : Bool). only b 0) (Bits.bit-none w 0 (Bits.digit-first w ∙ e))))
+    (λ e. ap (λ (d : ℕ). lead d []) e ∙ sym (ap (λ (b : Bool). only b 0) (Bits.bit-one w 0 (Bits.digit-first w ∙ e))))
+    (Bits.even-or-odd w)
+members-last (suc k) w =
+    ap (λ (l : List ℕ). lead (w % 2) (map suc l)) (members-last k (w / 2))
+    ∙ ap (lead (w % 2)) (map-append (members k (w / 2)) (only (bit (w / 2) k) k) ∙ ap (λ (l : List ℕ). map suc (members k (w / 2)) ++ l) (map-only (bit (w / 2) k) k))
+    ∙ lead-append (w % 2) (map suc (members k (w / 2))) (only (bit (w / 2) k) (suc k))
+    ∙ ap (λ (b : Bool). lead (w % 2) (map suc (members k (w / 2))) ++ only b (suc k)) (sym (Bits.bit-suc w k))
