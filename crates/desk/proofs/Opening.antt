@@ -1,0 +1,147 @@
+-- What a plan that meets none of the causes 1 to 6 is, and what the code holds of it. Assumes nothing.
+use mathlib.Core.Path.{_≡_, refl, ap}
+use mathlib.Core.Bool.{Bool, true, false, cond, false≢true}
+use mathlib.Core.List.{List}
+use Prim.Native.Nat.{ℕ, _+_, _≤_, _<_}
+use native.Mathlib.Omega.{arith}
+use lib.Dec.{ltb}
+use lib.ListN.{getD}
+use borrow.Author.Tests.{lt-ltb, le-ltb, ltb-false}
+use Rattle.words.proofs.Tests.{by-test, cond-true, cond-false}
+use Rattle.records.specs.Bytes.{AreBytes}
+use Rattle.order.specs.Before.{Acyclic}
+use Rattle.order.specs.Orders.{Direct, orderIn, joinedRows, circleOf}
+use Rattle.order.specs.declared.Order.{Order}
+use Rattle.order.proofs.Orders.{direct-order, circle-none, circle-le}
+use Rattle.plan.specs.Causes.{isReadable}
+use Rattle.plan.specs.Reads.{answerOf, readOf}
+use Rattle.plan.specs.Plans.{planOf, emptyPlan}
+use Rattle.plan.specs.Meaning.{Readable, Said}
+use Rattle.plan.proofs.Said.{said, durations-small}
+use Rattle.plan.specs.declared.Answer.{Answer}
+use Rattle.plan.specs.declared.Answer.the-variants as answer
+use Rattle.plan.specs.declared.Plan.{Plan}
+use Rattle.plan.specs.declared.Reading.{Reading}
+use Rattle.schedule.specs.Arrays.{AllAtMost}
+use Rattle.desk.specs.Open.{planIn, rowsOf, jobOrder, planOrder, isFine, circlesOf, orUnreadable, faultOf, openedOf, Opens, orCause}
+use Rattle.desk.specs.declared.Cause.{Cause}
+use Rattle.desk.specs.declared.Cause.the-variants.{JobCircle, PlanCircle}
+use Rattle.desk.specs.declared.Fault.{Fault}
+use Rattle.desk.specs.declared.Fault.the-variants.{Fine, Refused}
+use Rattle.desk.specs.declared.open.Opened.{Opened}
+
+-- ---- the plan that is read
+
+-- of a readable file it is what the file says
+pub plan-in : (s : List ℕ) → Readable s → planIn s ≡ planOf s
+unfolding readOf
+plan-in s e = cond-true (planOf s) emptyPlan e
+
+pub plan-not : (s : List ℕ) → isReadable (answerOf s) ≡ false → planIn s ≡ emptyPlan
+unfolding readOf
+plan-not s e = cond-false (planOf s) emptyPlan e
+
+pub said-in : (s : List ℕ) → Readable s → Said s (planIn s)
+said-in s e = rw (plan-in s e) (said s e)
+
+-- it has no more than 64 activities, readable or not
+pub count-few : (s : List ℕ) → planIn s .count ≤ 64
+unfolding emptyPlan
+count-few s =
+    by-test (isReadable (answerOf s))
+    (λ t. said-in s t .few)
+    (λ t. let e : planIn s .count ≡ 0 = ap (λ (q : Plan). q .count) (plan-not s t) in omega arith)
+
+-- ---- faults
+
+pub fine-is : (f : Fault) → isFine f ≡ true → f ≡ Fine
+fine-is Fine e = refl
+fine-is (Refused c) e = absurd (false≢true e)
+
+-- an operation goes on where it had no fault, and the test of the next cause does not hold
+pub cause-fine : (f : Fault) (b : Bool) (c : Cause) → isFine (orCause f b c) ≡ true → (isFine f ≡ true) × (b ≡ false)
+cause-fine Fine true c e = absurd (false≢true e)
+cause-fine Fine false c e = (refl, refl)
+cause-fine (Refused d) b c e = absurd (false≢true e)
+
+-- ---- the circles, as the code finds them
+
+module _ (job whole : Order) where
+  pub circles-job : (i : ℕ) → i ≡ circleOf job → i < 64 → Refused (JobCircle (i + 1)) ≡ circlesOf job whole
+  unfolding circlesOf
+  circles-job i e l =
+      let h : circleOf job < 64 = omega arith in
+      rw (lt-ltb (circleOf job) 64 h, e)
+
+  pub circles-plan : (i j : ℕ) → i ≡ circleOf job → 64 ≤ i → j ≡ circleOf whole → j < 64 → Refused (PlanCircle (j + 1)) ≡ circlesOf job whole
+  unfolding circlesOf
+  circles-plan i j e l f m =
+      let h : 64 ≤ circleOf job = omega arith in
+      let k : circleOf whole < 64 = omega arith in
+      rw (le-ltb (circleOf job) 64 h, lt-ltb (circleOf whole) 64 k, f)
+
+  pub circles-none : (i j : ℕ) → i ≡ circleOf job → 64 ≤ i → j ≡ circleOf whole → 64 ≤ j → Fine ≡ circlesOf job whole
+  unfolding circlesOf
+  circles-none i j e l f m =
+      let h : 64 ≤ circleOf job = omega arith in
+      let k : 64 ≤ circleOf whole = omega arith in
+      rw (le-ltb (circleOf job) 64 h, le-ltb (circleOf whole) 64 k)
+
+-- no circle is found: there is none
+circles-fine : (job rows : List ℕ) → isFine (circlesOf (orderIn job) (orderIn rows)) ≡ true → Acyclic (Direct job) × Acyclic (Direct rows)
+unfolding circlesOf
+circles-fine job rows e = go (ltb (circleOf (orderIn job)) 64) (ltb (circleOf (orderIn rows)) 64) refl refl e
+  where
+    none : (xs : List ℕ) → ltb (circleOf (orderIn xs)) 64 ≡ false → Acyclic (Direct xs)
+    none xs f = circle-none (direct-order xs) .0 (omega (arith, circle-le (direct-order xs), ltb-false (circleOf (orderIn xs)) 64 f))
+
+    go : (a b : Bool) → ltb (circleOf (orderIn job)) 64 ≡ a → ltb (circleOf (orderIn rows)) 64 ≡ b
+        → isFine (cond a (Refused (JobCircle (circleOf (orderIn job) + 1))) (cond b (Refused (PlanCircle (circleOf (orderIn rows) + 1))) Fine)) ≡ true
+        → Acyclic (Direct job) × Acyclic (Direct rows)
+    go true b p q e = absurd (false≢true e)
+    go false true p q e = absurd (false≢true e)
+    go false false p q e = (none job p, none rows q)
+
+-- ---- what it means that a plan opens
+
+unread-fine : (a : Answer) (f : Fault) → isFine (orUnreadable a f) ≡ true → (isReadable a ≡ true) × (isFine f ≡ true)
+unread-fine answer.Readable f e = (refl, e)
+unread-fine (answer.Refused c) f e = absurd (false≢true e)
+
+pub opens-readable : (s : List ℕ) → Opens s → Readable s
+unfolding faultOf
+opens-readable s e = unread-fine (answerOf s) (circlesOf (jobOrder s) (planOrder s)) e .0
+
+-- neither order has a circle
+opens-circles : (s : List ℕ) → Opens s → Acyclic (Direct (planIn s .job)) × Acyclic (Direct (rowsOf s))
+unfolding faultOf
+opens-circles s e = circles-fine (planIn s .job) (rowsOf s) (unread-fine (answerOf s) (circlesOf (jobOrder s) (planOrder s)) e .1)
+
+pub opens-job : (s : List ℕ) → Opens s → Acyclic (Direct (planIn s .job))
+opens-job s e = opens-circles s e .0
+
+pub opens-plan : (s : List ℕ) → Opens s → Acyclic (Direct (rowsOf s))
+opens-plan s e = opens-circles s e .1
+
+-- a file's durations are small
+pub opens-small : (s : List ℕ) → AreBytes s → Opens s → AllAtMost 65535 (planIn s .duration)
+opens-small s small e i =
+    let q : getD (planIn s .duration) i 0 ≡ getD (planOf s .duration) i 0 = ap (λ (x : Plan). getD (x .duration) i 0) (plan-in s (opens-readable s e)) in
+    omega (arith, durations-small s small i)
+
+-- ---- the plan that is opened, from what the code holds
+
+answered : (s : List ℕ) → readOf s .answer ≡ answerOf s
+unfolding readOf
+answered s = refl
+
+pub opened-as :
+    (s : List ℕ) {r : Reading} {rows : List ℕ} {job whole : Order} {found fault : Fault} → r ≡ readOf s → rows ≡ joinedRows (r .plan .job) (r .plan .extra)
+    → job ≡ orderIn (r .plan .job) → whole ≡ orderIn rows → found ≡ circlesOf job whole → fault ≡ orUnreadable (r .answer) found
+    → record { plan = r .plan; rows = rows; order = whole; fault = fault } ≡ openedOf s
+unfolding faultOf
+opened-as s read joined j w c f = rw (f, c, w, j, joined, read, answered s)
+
+-- the plan that the code holds has no more than 64 activities
+pub opened-few : (s : List ℕ) {o : Opened} → o ≡ openedOf s → o .plan .count ≤ 64
+opened-few s held = rw held (count-few s)

@@ -1,0 +1,16 @@
+-- `desk::timetable::started_of` meets its contract, by the cases of the fault. Assumes nothing.
+use mathlib.Core.Path.{sym, ap}
+use Rattle.desk.specs.Starts.{startedOf}
+use Rattle.desk.specs.declared.Fault.{Fault}
+use borrow.Author.Needs.{needs}
+use Rattle.desk.proofs.timetable.started_of.Statement.{statement}
+use Rattle.desk.proofs.timetable.started_of.Tie as tie
+
+returns : tie.Need-returns
+returns c = sym (ap (λ (x : Fault). startedOf x (c .before .before .args .value)) (c .enum-told .given .1))
+
+returns-2 : tie.Need-returns-2
+returns-2 c = sym (ap (λ (x : Fault). startedOf x (c .before .before .before .args .value)) (c .before .fault .given .1))
+
+pub started-of-spec : {M : Type 1} → statement M
+started-of-spec = tie.close (tie.spec (λ c. search needs) (λ c. search needs) returns returns-2)

@@ -1,0 +1,56 @@
+-- Starts: what it answers, and what the lent numbers then hold. Assumes nothing.
+use mathlib.Core.Bool.{cond}
+use mathlib.Core.List.{List, _++_}
+use Prim.Native.Nat.{ℕ, _+_}
+use lib.Dec.{ltb}
+use lib.ListN.{length, getD, drop}
+use Rattle.words.specs.Tables.{table}
+use Rattle.schedule.specs.Starts.{endOf}
+use Rattle.schedule.specs.Arrays.{at, byDuration, startsOf}
+use Rattle.desk.specs.Open.{planIn, rowsOf, isFine, faultOf, orCause}
+use Rattle.desk.specs.declared.Cause.the-variants.{Short}
+use Rattle.desk.specs.declared.Fault.{Fault}
+use Rattle.desk.specs.declared.Fault.the-variants as fault
+use Rattle.desk.specs.declared.Started.{Started}
+use Rattle.desk.specs.declared.Started.the-variants.{Written, Refused}
+use Rattle.desk.specs.declared.open.Counted.{Counted}
+
+-- "Starts: m+1 numbers, activities 1 to m and then the end."
+abbrev pub needed : List ℕ → ℕ
+needed s = planIn s .count + 1
+
+-- "Needs, Starts, Overload: 9.": the causes 1 to 6, then 9, "lent slice too short", with the "length needed"; n numbers are lent
+unfoldable pub startsFault : List ℕ → ℕ → Fault
+startsFault s n = orCause (faultOf s) (ltb n (needed s)) (Short (needed s))
+
+abbrev pub startsCounted : List ℕ → ℕ → Counted
+startsCounted s n = record { fault = startsFault s n; value = needed s }
+
+abbrev pub startedOf : Fault → ℕ → Started
+startedOf fault.Fine n = Written n
+startedOf (fault.Refused c) n = Refused c
+
+-- THE ANSWER
+abbrev pub startsAnswer : List ℕ → ℕ → Started
+startsAnswer s n = startedOf (startsFault s n) (needed s)
+
+-- the earliest starts of all 64 elements, by the plan's arcs and the file's durations
+abbrev pub firstStarts : List ℕ → List ℕ
+firstStarts s = startsOf (rowsOf s) (byDuration (planIn s .duration))
+
+-- the start of the end
+abbrev pub endStart : List ℕ → ℕ
+endStart s = endOf (planIn s .count) (at (firstStarts s)) (at (planIn s .duration))
+
+-- the first m of the starts, and one number more
+unfoldable pub withEnd : ℕ → List ℕ → ℕ → List ℕ
+withEnd m starts end = table (m + 1) (λ i. cond (ltb i m) (getD starts i 0) end)
+
+unfoldable pub startNumbers : List ℕ → List ℕ
+startNumbers s = withEnd (planIn s .count) (firstStarts s) (endStart s)
+
+-- THE LENT NUMBERS: "Numbers go to the front of the lent 32-bit slice .. the rest is unchanged"; after a refusal all of them are
+unfoldable pub startsOut : List ℕ → List ℕ → List ℕ
+startsOut s out =
+    let written = startNumbers s ++ drop (needed s) out in
+    cond (isFine (startsFault s (length out))) written out
