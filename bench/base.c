@@ -1,5 +1,5 @@
-// How long the proved reader, orders, earliest starts and crew check take, next to plain C (plain.c, gcc -O3), on the same plan in one run.
-// The plan is a full file: 64 activities, a crew record and 1,983 arcs. README.md says how to run it.
+// How long the proved reader, orders, earliest starts and crew check take, next to plain C (plain.c, gcc -O3), in one run.
+// The plan is a full file: 64 activities, a crew record and 1,983 arcs; the starts are those of all 2,016 arcs. README.md says how to run it.
 #include "plain.h"
 
 #include <stdio.h>
@@ -12,12 +12,13 @@ void yaffledesk_bench_orders(const uint64_t job[64], const uint64_t extra[64], u
 void yaffledesk_bench_earliest(const uint64_t arcs[64], const uint32_t duration[64], uint32_t starts[64]);
 uint64_t yaffledesk_bench_crew_check(const uint64_t arcs[64], const uint32_t demand[512], const uint32_t available[8], const uint32_t *starts, size_t m, const uint32_t *worked, size_t n);
 
-enum { RECORDS = 2048, ROUNDS = 401, BATCH = 20 };
+enum { RECORDS = 2048, ROUNDS = 401, BATCH = 20, MOST = 2 };
 
-static uint8_t file[24 * RECORDS];
-static plain_plan plain;
-static uint32_t duration[64], demand[512], starts[64], plain_starts[64];
-static uint64_t job[64], extra[64], jobs[64], both[64], plain_jobs[64], plain_both[64], joined[64];
+// Aligned: by where these happen to lie, the proved reader takes 21 or 31 us.
+static _Alignas(4096) uint8_t file[24 * RECORDS];
+static _Alignas(4096) plain_plan plain, proved;
+static uint32_t starts[64], plain_starts[64], crew[64];
+static uint64_t jobs[64], both[64], plain_jobs[64], plain_both[64], joined[64], complete[64];
 static volatile uint64_t sink;
 
 static double now(void) {
@@ -48,22 +49,22 @@ static void make_file(void) {
     for (int x = 0; x < RECORDS - 65; x++, r += 24) r[0] = x < 991 ? 3 : 4, r[1] = pair[x][0], r[2] = pair[x][1];
 }
 
-static void read_ours(void) { sink += yaffledesk_bench_read(file, sizeof file, duration, demand, job, extra); }
+static void read_ours(void) { sink += yaffledesk_bench_read(file, sizeof file, proved.duration, proved.demand, proved.job, proved.extra); }
 static void read_plain(void) {
     size_t place;
     sink += plain_read(file, sizeof file, &plain, &place);
 }
-static void orders_ours(void) { yaffledesk_bench_orders(job, extra, jobs, both); }
+static void orders_ours(void) { yaffledesk_bench_orders(proved.job, proved.extra, jobs, both); }
 static void orders_plain(void) {
     plain_order(plain.job, plain_jobs);
     plain_order(joined, plain_both);
 }
 static void open_ours(void) { read_ours(), orders_ours(); }
 static void open_plain(void) { read_plain(), orders_plain(); }
-static void earliest_ours(void) { yaffledesk_bench_earliest(joined, duration, starts); }
-static void earliest_plain(void) { plain_earliest(joined, plain.duration, plain_starts); }
-static void check_ours(void) { sink += yaffledesk_bench_crew_check(joined, demand, plain.available, starts, 64, duration, 64); }
-static void check_plain(void) { sink += plain_crew_check(joined, plain.demand, plain.available, plain_starts, plain.duration, 64).found; }
+static void earliest_ours(void) { yaffledesk_bench_earliest(complete, proved.duration, starts); }
+static void earliest_plain(void) { plain_earliest(complete, plain.duration, plain_starts); }
+static void check_ours(void) { sink += yaffledesk_bench_crew_check(joined, proved.demand, plain.available, crew, 64, proved.duration, 64); }
+static void check_plain(void) { sink += plain_crew_check(joined, plain.demand, plain.available, crew, plain.duration, 64).found; }
 
 static int compare(const void *a, const void *b) {
     double x = *(const double *)a, y = *(const double *)b;
@@ -95,28 +96,28 @@ static void same(const char *what, const void *a, const void *b, size_t n) {
 int main(void) {
     make_file();
     read_plain();
-    for (int i = 0; i < 64; i++) joined[i] = plain.job[i] | plain.extra[i];
+    for (int i = 0; i < 64; i++) joined[i] = plain.job[i] | plain.extra[i], complete[i] = i < 63 ? ~UINT64_C(0) << (i + 1) : 0;
     open_ours(), orders_plain(), earliest_ours(), earliest_plain();
-    same("durations", duration, plain.duration, sizeof duration);
-    same("demands", demand, plain.demand, sizeof demand);
-    same("job arcs", job, plain.job, sizeof job);
-    same("extra arcs", extra, plain.extra, sizeof extra);
+    same("durations", proved.duration, plain.duration, sizeof plain.duration);
+    same("demands", proved.demand, plain.demand, sizeof plain.demand);
+    same("job arcs", proved.job, plain.job, sizeof plain.job);
+    same("extra arcs", proved.extra, plain.extra, sizeof plain.extra);
     same("job order", jobs, plain_jobs, sizeof jobs);
     same("plan order", both, plain_both, sizeof both);
     same("starts", starts, plain_starts, sizeof starts);
-    uint64_t found = plain_crew_check(joined, plain.demand, plain.available, starts, plain.duration, 64).found;
-    if (found != 0 || yaffledesk_bench_crew_check(joined, demand, plain.available, starts, 64, duration, 64) != 0) printf("MISMATCH: crew check\n"), exit(1);
+    plain_earliest(joined, plain.duration, crew); // the file's own earliest starts, which fit: the check looks at everything
+    uint64_t found = plain_crew_check(joined, plain.demand, plain.available, crew, plain.duration, 64).found;
+    if (found != 0 || yaffledesk_bench_crew_check(joined, proved.demand, plain.available, crew, 64, proved.duration, 64) != 0) printf("MISMATCH: crew check\n"), exit(1);
 
     struct {
         const char *what;
         void (*ours)(void), (*plain)(void);
-        double least; // the ratio that is wanted
     } rows[] = {
-        {"read 2,048 records", read_ours, read_plain, 2},
-        {"both orders, 1,983 arcs", orders_ours, orders_plain, 2},
-        {"open: read and both orders", open_ours, open_plain, 2},
-        {"earliest starts", earliest_ours, earliest_plain, 2},
-        {"crew check, 64 x 8", check_ours, check_plain, 2},
+        {"read 2,048 records", read_ours, read_plain},
+        {"both orders, 1,983 arcs", orders_ours, orders_plain},
+        {"open: read and both orders", open_ours, open_plain},
+        {"earliest starts, 2,016 arcs", earliest_ours, earliest_plain},
+        {"crew check, 64 x 8", check_ours, check_plain},
     };
     int missed = 0;
     printf("| what | proved, us | plain C, us | ratio |\n|---|--:|--:|--:|\n");
@@ -124,8 +125,8 @@ int main(void) {
         double mine, its;
         measure(rows[i].ours, rows[i].plain, &mine, &its);
         printf("| %s | %.2f | %.2f | %.2f |\n", rows[i].what, mine, its, mine / its);
-        missed += mine / its > rows[i].least || (i == 2 && mine > 60);
+        missed += mine / its > MOST || (i == 2 && mine > 60);
     }
-    printf("wanted: at most 2 times plain C each, and opening under 60 us: %s\n", missed ? "not met" : "met");
+    printf("wanted: at most %d times plain C each, and opening under 60 us: %s\n", MOST, missed ? "not met" : "met");
     return missed != 0;
 }
