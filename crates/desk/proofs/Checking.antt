@@ -21,7 +21,8 @@ use Rattle.desk.specs.declared.Fault.the-variants.{Fine, Refused}
 use Rattle.desk.specs.declared.CrewChecked.{CrewChecked}
 use Rattle.desk.specs.declared.open.Opened.{Opened}
 use Rattle.desk.specs.declared.crew.Looked.{Looked}
-use Rattle.desk.proofs.Opening.{cause-fine, count-few}
+use Rattle.desk.proofs.Turns.{cause-fine}
+use Rattle.desk.proofs.Opening.{count-few}
 
 -- ---- the lists
 

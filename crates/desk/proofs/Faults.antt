@@ -30,7 +30,7 @@ use Rattle.desk.proofs.Meaning.{job-order, plan-order, opens-acyclic}
 
 -- ---- A PLAN MEETS NONE OF THE CAUSES 1 TO 6 exactly when it is readable and its arcs lead nothing back to itself
 
-readable-fault : (a : Answer) (f : Fault) → isReadable a ≡ true → orUnreadable a f ≡ f
+pub readable-fault : (a : Answer) (f : Fault) → isReadable a ≡ true → orUnreadable a f ≡ f
 readable-fault answer.Readable f e = refl
 readable-fault (answer.Refused c) f e = absurd (false≢true e)
 

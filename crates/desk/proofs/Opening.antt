@@ -23,8 +23,7 @@ use Rattle.plan.specs.declared.Answer.the-variants as answer
 use Rattle.plan.specs.declared.Plan.{Plan}
 use Rattle.plan.specs.declared.Reading.{Reading}
 use Rattle.schedule.specs.Arrays.{AllAtMost}
-use Rattle.desk.specs.Open.{planIn, rowsOf, jobOrder, planOrder, isFine, circlesOf, orUnreadable, faultOf, openedOf, Opens, orCause}
-use Rattle.desk.specs.declared.Cause.{Cause}
+use Rattle.desk.specs.Open.{planIn, rowsOf, jobOrder, planOrder, isFine, circlesOf, orUnreadable, faultOf, openedOf, Opens}
 use Rattle.desk.specs.declared.Cause.the-variants.{JobCircle, PlanCircle}
 use Rattle.desk.specs.declared.Fault.{Fault}
 use Rattle.desk.specs.declared.Fault.the-variants.{Fine, Refused}
@@ -51,18 +50,6 @@ count-few s =
     by-test (isReadable (answerOf s))
     (λ t. said-in s t .few)
     (λ t. let e : planIn s .count ≡ 0 = ap (λ (q : Plan). q .count) (plan-not s t) in omega arith)
-
--- ---- faults
-
-pub fine-is : (f : Fault) → isFine f ≡ true → f ≡ Fine
-fine-is Fine e = refl
-fine-is (Refused c) e = absurd (false≢true e)
-
--- an operation goes on where it had no fault, and the test of the next cause does not hold
-pub cause-fine : (f : Fault) (b : Bool) (c : Cause) → isFine (orCause f b c) ≡ true → (isFine f ≡ true) × (b ≡ false)
-cause-fine Fine true c e = absurd (false≢true e)
-cause-fine Fine false c e = (refl, refl)
-cause-fine (Refused d) b c e = absurd (false≢true e)
 
 -- ---- the circles, as the code finds them
 

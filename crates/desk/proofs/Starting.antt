@@ -1,14 +1,14 @@
 -- Starts: the numbers, and what it answers and writes. Assumes nothing.
 use mathlib.Core.Path.{_≡_, sym, ap, _∙_, subst}
 use mathlib.Core.Bool.{Bool, true, false, cond, not}
-use mathlib.Core.List.{List, _++_}
+use mathlib.Core.List.{List}
 use Prim.Native.Nat.{ℕ, _+_, _≤_, _<_}
 use native.Mathlib.Omega.{arith}
 use lib.Dec.{ltb}
-use lib.ListN.{length, getD, drop, set}
+use lib.ListN.{length, getD, set}
 use borrow.Author.Tests.{lt-ltb, le-ltb, ltb-false, not-true, not-false}
 use Rattle.words.specs.Tables.{over}
-use Rattle.words.proofs.Tables.{length-table, getD-table, over-turn, over-all}
+use Rattle.words.proofs.Tables.{length-table, getD-table, over-turn}
 use Rattle.words.proofs.Tests.{cond-true, cond-false}
 use Rattle.records.specs.Bytes.{AreBytes}
 use Rattle.order.specs.Before.{Acyclic}
@@ -21,7 +21,9 @@ use Rattle.desk.specs.Starts.{needed, startsFault, startsCounted, withEn
 use Rattle.desk.specs.declared.Cause.the-variants.{Short}
 use Rattle.desk.specs.declared.Fault.{Fault}
 use Rattle.desk.specs.declared.open.Opened.{Opened}
-use Rattle.desk.proofs.Opening.{cause-fine, opens-plan, opens-small}
+use Rattle.desk.proofs.Turns.{cause-fine}
+use Rattle.desk.proofs.Writing.{lent-kept, lent-over}
+use Rattle.desk.proofs.Opening.{opens-plan, opens-small}
 
 -- ---- m numbers and one more
 
@@ -51,10 +53,14 @@ module _ (m : ℕ) (starts : List ℕ) (end : ℕ) where
 
 -- ---- what Starts writes
 
+pub length-numbers : (s : List ℕ) → length (startNumbers s) ≡ needed s
+unfolding startNumbers
+length-numbers s = length-end (planIn s .count) (firstStarts s) (endStart s)
+
 module _ (s out : List ℕ) where
   out-kept : isFine (startsFault s (length out)) ≡ false → out ≡ startsOut s out
   unfolding startsOut
-  out-kept e = sym (cond-false (startNumbers s ++ drop (needed s) out) out e)
+  out-kept e = lent-kept (startsFault s (length out)) (startNumbers s) out e
 
   -- it goes on where the plan opens and there is room
   pub starts-fine : isFine (startsFault s (length out)) ≡ true → Opens s × (needed s ≤ length out)
@@ -64,11 +70,8 @@ module _ (s out : List ℕ) where
       (w .0, ltb-false (length out) (needed s) (w .1))
 
   out-written : isFine (startsFault s (length out)) ≡ true → over (needed s) (startNumbers s) out ≡ startsOut s out
-  unfolding startsOut startNumbers
-  out-written e =
-      over-all (needed s) (startNumbers s) out (length-end (planIn s .count) (firstStarts s) (endStart s))
-      ∙ ap (λ (n : ℕ). startNumbers s ++ drop n out) (length-end (planIn s .count) (firstStarts s) (endStart s))
-      ∙ sym (cond-true (startNumbers s ++ drop (needed s) out) out e)
+  unfolding startsOut
+  out-written e = lent-over (startsFault s (length out)) (needed s) (startNumbers s) out e (length-numbers s)
 
 -- ---- the same, of what the code holds: `o` is the plan that was opened, `f` the fault with 9 in its turn, and `b` what the code's test said of it
 

@@ -3,6 +3,15 @@
 -- is shown in Meaning, Faults and Crews there.
 pub mod Open
 pub mod Numbers
+pub mod Output
+pub mod Need
+pub mod Verdict
+pub mod Needs
 pub mod Starts
+pub mod Flow
+pub mod Overload
 pub mod Crew
 pub mod File
+pub mod Same
+pub mod PriceList
+pub mod Cases

@@ -20,16 +20,22 @@ use Rattle.desk.specs.declared.open.Opened.{Opened}
 abbrev pub planIn : List ℕ → Plan
 planIn s = readOf s .plan
 
--- its direct arcs, job and extra together
+-- the direct arcs of a plan, job and extra together
+abbrev pub rowsFor : Plan → List ℕ
+rowsFor q = joinedRows (q .job) (q .extra)
+
 abbrev pub rowsOf : List ℕ → List ℕ
-rowsOf s = joinedRows (planIn s .job) (planIn s .extra)
+rowsOf s = rowsFor (planIn s)
 
 -- "The job order uses job arcs, the plan order all arcs." (01, Order)
 abbrev pub jobOrder : List ℕ → Order
 jobOrder s = orderIn (planIn s .job)
 
+abbrev pub orderFor : Plan → Order
+orderFor q = orderIn (rowsFor q)
+
 abbrev pub planOrder : List ℕ → Order
-planOrder s = orderIn (rowsOf s)
+planOrder s = orderFor (planIn s)
 
 abbrev pub isFine : Fault → Bool
 isFine Fine = true

@@ -1,19 +1,18 @@
 -- Starts: what it answers, and what the lent numbers then hold. Assumes nothing.
 use mathlib.Core.Bool.{cond}
-use mathlib.Core.List.{List, _++_}
+use mathlib.Core.List.{List}
 use Prim.Native.Nat.{ℕ, _+_}
 use lib.Dec.{ltb}
-use lib.ListN.{length, getD, drop}
+use lib.ListN.{length, getD}
 use Rattle.words.specs.Tables.{table}
 use Rattle.schedule.specs.Starts.{endOf}
 use Rattle.schedule.specs.Arrays.{at, byDuration, startsOf}
-use Rattle.desk.specs.Open.{planIn, rowsOf, isFine, faultOf, orCause}
+use Rattle.desk.specs.Open.{planIn, rowsOf, faultOf, orCause}
+use Rattle.desk.specs.Output.{outputOf, lentAfter}
 use Rattle.desk.specs.declared.Cause.the-variants.{Short}
 use Rattle.desk.specs.declared.Fault.{Fault}
-use Rattle.desk.specs.declared.Fault.the-variants as fault
-use Rattle.desk.specs.declared.Started.{Started}
-use Rattle.desk.specs.declared.Started.the-variants.{Written, Refused}
-use Rattle.desk.specs.declared.open.Counted.{Counted}
+use Rattle.desk.specs.declared.Output.{Output}
+use Rattle.desk.specs.declared.answer.Counted.{Counted}
 
 -- "Starts: m+1 numbers, activities 1 to m and then the end."
 abbrev pub needed : List ℕ → ℕ
@@ -26,13 +25,9 @@ startsFault s n = orCause (faultOf s) (ltb n (needed s)) (Short (needed s))
 abbrev pub startsCounted : List ℕ → ℕ → Counted
 startsCounted s n = record { fault = startsFault s n; value = needed s }
 
-abbrev pub startedOf : Fault → ℕ → Started
-startedOf fault.Fine n = Written n
-startedOf (fault.Refused c) n = Refused c
-
 -- THE ANSWER
-abbrev pub startsAnswer : List ℕ → ℕ → Started
-startsAnswer s n = startedOf (startsFault s n) (needed s)
+abbrev pub startsAnswer : List ℕ → ℕ → Output
+startsAnswer s n = outputOf (startsFault s n) (needed s)
 
 -- the earliest starts of all 64 elements, by the plan's arcs and the file's durations
 abbrev pub firstStarts : List ℕ → List ℕ
@@ -49,8 +44,6 @@ withEnd m starts end = table (m + 1) (λ i. cond (ltb i m) (getD starts i 0) end
 unfoldable pub startNumbers : List ℕ → List ℕ
 startNumbers s = withEnd (planIn s .count) (firstStarts s) (endStart s)
 
--- THE LENT NUMBERS: "Numbers go to the front of the lent 32-bit slice .. the rest is unchanged"; after a refusal all of them are
+-- THE LENT NUMBERS
 unfoldable pub startsOut : List ℕ → List ℕ → List ℕ
-startsOut s out =
-    let written = startNumbers s ++ drop (needed s) out in
-    cond (isFine (startsFault s (length out))) written out
+startsOut s out = lentAfter (startsFault s (length out)) (startNumbers s) out

@@ -1,13 +1,26 @@
 // The operations of the planner, each on the plan's bytes. Every operation has a file: it opens the plan (`open`), looks for its own causes
-// in turn, and gives a fault and a value, which become its answer here at the surface.
+// in turn, and gives a fault and a value, which become its answer at the surface (`answer`).
+//
+//     judge      Verdict          handover   Flow
+//     price      Needs            excess     Overload
+//     timetable  Starts           crew       Crew check
+mod answer;
 mod crew;
+mod excess;
+mod handover;
+mod judge;
 mod open;
+mod price;
 mod timetable;
 
 pub use crew::crew_check;
+pub use excess::overload;
+pub use handover::flow;
+pub use judge::verdict;
+pub use price::needs;
 pub use timetable::starts;
 
-// Why an operation refuses, with the cause's own data. Activities count from 1.
+// Why an operation refuses, with the cause's own data. Activities and kinds count from 1.
 pub enum Cause {
     // The file is not readable, 1 to 4: the reader's cause.
     Unreadable(plan::Cause),
@@ -15,6 +28,10 @@ pub enum Cause {
     JobCircle(usize),
     // A circle in the plan order only, 6: the lowest activity before itself there.
     PlanCircle(usize),
+    // The plan is overloaded, 7: the lowest such kind, its need, and the word of an unrelated set that has it.
+    Overloaded { kind: usize, need: u32, set: u64 },
+    // The kind is not 1 to K, 8: K.
+    NoKind(usize),
     // The lent slice is too short, 9: the length needed.
     Short(usize),
     // The lists are not m long, or a worked duration is 0, 10: m.
@@ -27,8 +44,15 @@ pub enum Fault {
     Refused(Cause),
 }
 
-// What Starts answers: so many numbers are written, or nothing is.
-pub enum Started {
+// What Verdict answers: the plan is accepted, with m and K, or it is refused.
+pub enum Decision {
+    Accepted { activities: usize, kinds: usize },
+    Refused(Cause),
+}
+
+// What Needs, Starts, Flow and Overload answer: so many numbers or records are written, or nothing is. (Overload writes one record, or none
+// where the plan is accepted.)
+pub enum Output {
     Written(usize),
     Refused(Cause),
 }

@@ -12,12 +12,6 @@ pub struct Opened {
     pub fault: Fault,
 }
 
-// How an operation that writes ends: with a fault, or with so many numbers or records written.
-pub struct Counted {
-    pub fault: Fault,
-    pub value: usize,
-}
-
 pub fn is_fine(fault: Fault) -> bool
     ensures { λ r. ⌜ r ≡ isFine fault ⌝ }
 {

@@ -3,24 +3,14 @@ ghost use mathlib.Core.Path.{_≡_};
 ghost use Prim.Native.Nat.{_+_, _≤_};
 ghost use lib.ListN.{length};
 ghost use Rattle.words.specs.Tables.{over};
-ghost use Rattle.desk.specs.Starts.{startedOf, startsCounted, startsAnswer, startsOut, withEnd};
+ghost use Rattle.desk.specs.Starts.{startsCounted, startsAnswer, startsOut, withEnd};
 use crate::Cause;
-use crate::Fault;
-use crate::Started;
-use crate::open::Counted;
+use crate::Output;
+use crate::answer::Counted;
+use crate::answer::output_of;
 use crate::open::is_fine;
 use crate::open::open_plan;
 use crate::open::or_cause;
-
-// The answer, by the fault and the count of numbers.
-fn started_of(fault: Fault, value: usize) -> Started
-    ensures { λ r. ⌜ r ≡ startedOf fault value ⌝ }
-{
-    match fault {
-        Fault::Fine => Started::Written(value),
-        Fault::Refused(c) => Started::Refused(c),
-    }
-}
 
 // Writes m starts and the start of the end to the front of the lent numbers.
 fn put_starts(out: &mut [u32], starts: &[u32; 64], m: usize, end: u32)
@@ -61,11 +51,11 @@ fn write_starts(s: &[u8], out: &mut [u32]) -> Counted
 }
 
 // Starts: those of the m activities, and then that of the end, to the front of the lent numbers.
-pub fn starts(s: &[u8], out: &mut [u32]) -> Started
+pub fn starts(s: &[u8], out: &mut [u32]) -> Output
     ensures { λ r. ⌜ r ≡ startsAnswer (now (s .entry)) (length (now (out .entry))) ⌝ }
     ensures { λ _. ⌜ now (out .exit) ≡ startsOut (now (s .entry)) (now (out .entry)) ⌝ }
 {
     let counted = write_starts(s, out);
     let fault = counted.fault;
-    started_of(fault, counted.value)
+    output_of(fault, counted.value)
 }

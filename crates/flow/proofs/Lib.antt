@@ -1,5 +1,5 @@
 -- Laws of the solver's model. `Headline` says what they come to: a quote keeps what specs/Sound.antt promises; the files before it lead up to
--- that. `Steps` is what the proofs of the functions share.
+-- that. `First` says it of the first n elements, where the others have no demand. `Steps` is what the proofs of the functions share.
 pub mod Steps
 pub mod Digits
 pub mod Stores
@@ -19,3 +19,4 @@ pub mod Last
 pub mod Outcome
 pub mod Carried
 pub mod Headline
+pub mod First

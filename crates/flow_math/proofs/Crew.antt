@@ -1,5 +1,5 @@
 -- No crew ever occupies more than the need, and one crew occupies it. Assumes nothing.
-use mathlib.Core.Path.{_≡_, ap}
+use mathlib.Core.Path.{_≡_, refl, ap}
 use mathlib.Core.Bool.{Bool, true, false, _&&_, cond}
 use Prim.Native.Nat.{ℕ, suc, _+_, _*_, _-_, _≤_, _<_}
 use native.Mathlib.Nat.{mul-le-mul-left, mul-suc}
@@ -25,11 +25,16 @@ active-antichain n b s w c t p i j l m x y h =
       leb-true (s j) (t - 1) (Tests.and-left (leb (s j) (t - 1)) (leb t (s j + w j)) y),
     )
 
+-- what is occupied is the weight of those at work
+pub occupied-weight : (n : ℕ) (d s w : ℕ → ℕ) (t : ℕ) → occupied n d s w t ≡ weight n d (active s w t)
+unfolding occupied weight
+occupied-weight n d s w t = refl
+
 -- In no period is more than the need occupied.
 pub occupied-at-most : (n : ℕ) (b : ℕ → ℕ → Bool) (d : ℕ → ℕ) (x : ℕ) (s w : ℕ → ℕ) →
     Need n b d x → Crew n b s w → (t : ℕ) → 1 ≤ t → occupied n d s w t ≤ x
-unfolding occupied weight
-occupied-at-most n b d x s w N c t p = N .most (active s w t) (active-antichain n b s w c t p)
+occupied-at-most n b d x s w N c t p =
+    omega (arith, occupied-weight n d s w t, N .most (active s w t) (active-antichain n b s w c t p))
 
 -- a larger set weighs no less
 pub weight-mono : (n : ℕ) (d : ℕ → ℕ) (S T : ℕ → Bool) → ((i : ℕ) → i < n → S i ≡ true → T i ≡ true) → weight n d S ≤ weight n d T
@@ -127,13 +132,13 @@ module _ (n : ℕ) (b : ℕ → ℕ → Bool) (o : StrictOrder n b) where
 -- The crew of a heaviest unrelated set occupies exactly the need in the period that follows `gap * n`.
 pub peak : (n : ℕ) (b : ℕ → ℕ → Bool) (d : ℕ → ℕ) (x : ℕ) → StrictOrder n b → (N : Need n b d x) → (gap : ℕ) (w : ℕ → ℕ) →
     ((i : ℕ) → i < n → (1 ≤ w i) × (w i ≤ gap)) → occupied n d (startsAt n b (N .set) gap) w (suc (gap * n)) ≡ x
-unfolding occupied weight
 peak n b d x o N gap w h =
     let s = startsAt n b (N .set) gap in
     let t = suc (gap * n) in
     let c = starts-crew n b o (N .set) gap w h in
     omega (
       arith,
+      occupied-weight n d s w t,
       N .most (active s w t) (active-antichain n b s w c t (omega arith)),
       weight-mono n d (N .set) (active s w t)
           (λ i l e. let p = starts-member n b o (N .set) (N .unrelated) gap i l e in

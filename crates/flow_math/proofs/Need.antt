@@ -11,6 +11,7 @@ use Rattle.words.specs.Sums.{sum}
 use Rattle.words.proofs.Tests
 use Rattle.words.proofs.Sums
 use Rattle.order.specs.Before.{StrictOrder}
+use Rattle.order.proofs.Before.{strict-first}
 use Rattle.flow_math.specs.Need.{Antichain, weight, Need, besides, heaviest, needOf}
 
 -- each member of S below n is allowed by A
@@ -30,6 +31,12 @@ put-other S k v i l = rw (ne-eqb i k (λ e. omega arith))
 weight-last : (k : ℕ) (d : ℕ → ℕ) (S : ℕ → Bool) → weight (suc k) d S ≡ weight k d S + cond (S k) (d k) 0
 unfolding weight
 weight-last k d S = Sums.sum-last k (λ i. cond (S i) (d i) 0)
+
+-- equal demands, or equal members: equal weights
+pub weight-same : (n : ℕ) (d e : ℕ → ℕ) (S : ℕ → Bool) → ((i : ℕ) → i < n → d i ≡ e i) → weight n d S ≡ weight n e S
+unfolding weight
+weight-same n d e S h =
+    Sums.sum-cong n (λ i. cond (S i) (d i) 0) (λ i. cond (S i) (e i) 0) (λ i l. ap (λ (x : ℕ). cond (S i) x 0) (h i l))
 
 pub weight-cong : (n : ℕ) (d : ℕ → ℕ) (S T : ℕ → Bool) → ((i : ℕ) → i < n → S i ≡ T i) → weight n d S ≡ weight n d T
 unfolding weight
@@ -201,20 +208,11 @@ need-is n b d x o N = need-unique n b d x (needOf n b d) N (needOf-need n b d o)
 
 -- ---- elements without a demand
 
--- terms that are 0 at the end of a sum
-sum-extend : (n m : ℕ) (g : ℕ → ℕ) → n ≤ m → ((i : ℕ) → n ≤ i → i < m → g i ≡ 0) → sum m g ≡ sum n g
-unfolding sum
-sum-extend n zero g l z = let e : n ≡ 0 = omega arith in rw e refl
-sum-extend n (suc m) g l z =
-    by-cases (decLe n m)
-    (λ k. omega (arith, sum-extend n m g k (λ i h p. z i h (omega arith)), z m k (omega arith)))
-    (λ k. let e : n ≡ suc m = omega arith in rw e refl)
-
 module _ (n m : ℕ) (b : ℕ → ℕ → Bool) (d : ℕ → ℕ) (l : n ≤ m) (z : (i : ℕ) → n ≤ i → i < m → d i ≡ 0) where
-  weight-extend : (S : ℕ → Bool) → weight m d S ≡ weight n d S
+  pub weight-extend : (S : ℕ → Bool) → weight m d S ≡ weight n d S
   unfolding weight
   weight-extend S =
-      sum-extend n m (λ i. cond (S i) (d i) 0) l
+      Sums.sum-extend n m (λ i. cond (S i) (d i) 0) l
       (λ i h p. Tests.cond-has (λ x. x ≡ 0) (S i) (d i) 0 (λ e. z i h p) (λ e. refl))
 
   -- the need of the first n is the need of all m: its set, without what lies beyond n
@@ -233,14 +231,6 @@ module _ (n m : ℕ) (b : ℕ → ℕ → Bool) (d : ℕ → ℕ) (l : n ≤ m) 
 
       within : (i : ℕ) → S i ≡ true → i < n
       within i s = ltb-true i n (Tests.and-left (ltb i n) (N .set i) s)
-
--- the first n of the elements below m are in a strict order too
-strict-first : (n m : ℕ) (b : ℕ → ℕ → Bool) → n ≤ m → StrictOrder m b → StrictOrder n b
-strict-first n m b l o =
-    record {
-      irreflexive = λ i h. o .irreflexive i (omega arith);
-      transitive = λ i j k h p q. o .transitive i j k (omega arith) (omega arith) (omega arith);
-    }
 
 -- Elements without a demand do not change the need.
 pub needOf-extend : (n m : ℕ) (b : ℕ → ℕ → Bool) (d : ℕ → ℕ) → n ≤ m → ((i : ℕ) → n ≤ i → i < m → d i ≡ 0) →

@@ -1,10 +1,11 @@
--- Laws of `Before`: the least transitive relation that holds the arcs. Assumes nothing.
+-- Laws of `Before`, the least transitive relation that holds the arcs, and of strict orders. Assumes nothing.
 use mathlib.Core.Path.{_≡_, refl, sym, ap, ap₂, subst}
 use mathlib.Core.Bool.{Bool}
 use mathlib.Core.List.{List, [], _∷_, List·Memᴰ·head, List·Memᴰ·tail, List·Memᴰ·cases-cons, List·Memᴰ·not-nil}
 use mathlib.Core.Logic.{_⊎_, inl, inr, ⊎-elim, _↔_}
-use Prim.Native.Nat.{ℕ, _<_}
-use Rattle.order.specs.Before.{Before, last, more, Joined, Acyclic, With, NoArc, Within, Drawn, Arc, arc, In}
+use Prim.Native.Nat.{ℕ, _≤_, _<_}
+use native.Mathlib.Omega.{arith}
+use Rattle.order.specs.Before.{Before, last, more, Joined, Acyclic, With, NoArc, Within, StrictOrder, Drawn, Arc, arc, In}
 
 -- ---- least, transitive, holds the arcs
 
@@ -64,6 +65,15 @@ drawn-within n arcs i j d = (d .from, d .to)
 
 pub before-none : {i j : ℕ} → Before NoArc i j → ⊥
 before-none b = before-least NoArc (λ x y m. m) (λ x y z p q. p) b
+
+-- ---- the first n of the elements below m are in a strict order too
+
+pub strict-first : (n m : ℕ) (b : ℕ → ℕ → Bool) → n ≤ m → StrictOrder m b → StrictOrder n b
+strict-first n m b l o =
+    record {
+      irreflexive = λ i h. o .irreflexive i (omega arith);
+      transitive = λ i j k h p q. o .transitive i j k (omega arith) (omega arith) (omega arith);
+    }
 
 -- ---- one arc more: a way that uses the arc goes to its one end, and on from its other
 

@@ -1,10 +1,10 @@
 -- What is read of the bytes of a number, and that they are bytes. Assumes nothing.
 use mathlib.Core.Path.{_≡_, refl, ap, _∙_}
 use mathlib.Core.List.{List, [], _∷_, _++_}
-use Prim.Native.Nat.{ℕ, zero, suc, _+_, _*_, _/_, _%_, _^_, _<_}
+use Prim.Native.Nat.{ℕ, zero, suc, _+_, _*_, _/_, _%_, _^_, _≤_, _<_}
 use native.Mathlib.Omega.{arith}
 use native.Mathlib.Nat.{pow-zero, pow-suc, mod-lt, mod-add-div, div-lt-iff-lt-mul}
-use lib.ListN.{length, drop, replicate}
+use lib.ListN.{length, drop, replicate, List·getD-append}
 use lib.Seq.{getD-drop}
 use Rattle.records.specs.Bytes.{byte, field, bytes, AreBytes}
 
@@ -30,6 +30,15 @@ field-drop k l i (suc n) =
     let e : k + (i + 1) ≡ k + i + 1 = omega arith in
     let b : byte (drop k l) i ≡ byte l (k + i) = getD-drop k l i 0 in
     let f : field (drop k l) (i + 1) n ≡ field l (k + i + 1) n = field-drop k l (i + 1) n ∙ ap (λ j. field l j n) e in
+    rw (b, f)
+
+-- a field is the same, whatever follows the list that has it
+pub field-append : (l r : List ℕ) (i n : ℕ) → i + n ≤ length l → field (l ++ r) i n ≡ field l i n
+unfolding field
+field-append l r i zero h = refl
+field-append l r i (suc n) h =
+    let b : byte (l ++ r) i ≡ byte l i = List·getD-append l r 0 i (omega arith) in
+    let f : field (l ++ r) (i + 1) n ≡ field l (i + 1) n = field-append l r (i + 1) n (omega arith) in
     rw (b, f)
 
 -- the field that the bytes of a number are is the number

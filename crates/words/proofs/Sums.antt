@@ -3,7 +3,7 @@ use mathlib.Core.Path.{_≡_, refl, sym, _∙_, ap}
 use mathlib.Core.Bool.{Bool, true, false, cond}
 use Prim.Native.Nat.{ℕ, zero, suc, _+_, _*_, _≤_, _<_}
 use native.Mathlib.Nat.{mul-zero, mul-add, suc-mul}
-use native.Mathlib.Decide.{ℕ-discrete}
+use native.Mathlib.Decide.{ℕ-discrete, decLe}
 use mathlib.Core.Logic.{by-cases}
 use native.Mathlib.Numerals.{add-one}
 use native.Mathlib.Omega.{arith}
@@ -80,6 +80,34 @@ sum-last n g = refl
 pub sum-more : (n : ℕ) (g : ℕ → ℕ) → sum (n + 1) g ≡ sum n g + g n
 sum-more n g = rw add-one (sum-last n g)
 
+-- the first n terms of a sum are at most the sum
+pub sum-part : (n m : ℕ) (g : ℕ → ℕ) → n ≤ m → sum n g ≤ sum m g
+unfolding sum
+sum-part n zero g l = let e : n ≡ 0 = omega arith in rw e (omega arith)
+sum-part n (suc m) g l =
+    by-cases (decLe n m)
+    (λ k. omega (arith, sum-part n m g k))
+    (λ k. let e : n ≡ suc m = omega arith in rw e (omega arith))
+
+-- and so they are with the next term, which a loop adds
+pub sum-step : (n m : ℕ) (g : ℕ → ℕ) → n < m → sum n g + g n ≤ sum m g
+sum-step n m g l = omega (arith, sum-part (suc n) m g l, sum-last n g)
+
+-- terms that are 0 at the end of a sum
+pub sum-extend : (n m : ℕ) (g : ℕ → ℕ) → n ≤ m → ((i : ℕ) → n ≤ i → i < m → g i ≡ 0) → sum m g ≡ sum n g
+unfolding sum
+sum-extend n zero g l z = let e : n ≡ 0 = omega arith in rw e refl
+sum-extend n (suc m) g l z =
+    by-cases (decLe n m)
+    (λ k. omega (arith, sum-extend n m g k (λ i h p. z i h (omega arith)), z m k (omega arith)))
+    (λ k. let e : n ≡ suc m = omega arith in rw e refl)
+
+-- a last term that is 0
+pub sum-last-none : (g : ℕ → ℕ) (m : ℕ) → g (suc m) ≡ 0 → sum (m + 2) g ≡ sum (m + 1) g
+sum-last-none g m e =
+    let two : m + 2 ≡ suc (suc m) = omega arith in
+    rw (two, add-one) (omega (arith, sum-last (suc m) g))
+
 -- a double sum in either order
 pub sum-swap : (m n : ℕ) (f : ℕ → ℕ → ℕ) → sum m (λ i. sum n (λ j. f i j)) ≡ sum n (λ j. sum m (λ i. f i j))
 unfolding sum
@@ -95,6 +123,10 @@ sum-change (suc n) g h k l e =
     by-cases (ℕ-discrete k n)
     (λ p. omega (arith, ap g p, ap h p, sum-cong n g h (λ i m. e i (omega arith) (omega arith))))
     (λ p. omega (arith, sum-change n g h k (omega arith) (λ i m. e i (omega arith)), e n (omega arith) (λ q. p (sym q))))
+
+-- all terms but one are 0
+pub sum-only : (n k : ℕ) (g : ℕ → ℕ) → k < n → ((i : ℕ) → i < n → (i ≡ k → ⊥) → g i ≡ 0) → sum n g ≡ g k
+sum-only n k g l e = omega (arith, sum-change n g (λ i. 0) k l e, sum-zero n (λ i. 0) (λ i h. refl))
 
 -- a test that does not depend on the index
 pub sum-cond : (n : ℕ) (t : Bool) (g : ℕ → ℕ) → sum n (λ i. cond t (g i) 0) ≡ cond t (sum n g) 0

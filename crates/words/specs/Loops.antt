@@ -19,7 +19,9 @@ each k f s w = fold f s (members k w)
 module _ {S R : Type 0} (stop : S → Bool) (fin out : S → R) (step : S → S) where
   unfoldable pub run : ℕ → S → R
   run zero s = out s
-  run (suc k) s = cond (stop s) (fin s) (run k (step s))
+  run (suc k) s =
+      let later = run k (step s) in
+      cond (stop s) (fin s) later
 
 -- the steps f 0, f 1, .., f (n - 1), in this order
 module _ {S : Type 0} (f : ℕ → S → S) where

@@ -1,7 +1,7 @@
 -- `desk::timetable::starts` meets its contract, from what was written. Assumes nothing.
 use mathlib.Core.Path.{ap, _∙_}
-use Rattle.desk.specs.Starts.{startedOf}
-use Rattle.desk.specs.declared.open.Counted.{Counted}
+use Rattle.desk.specs.Output.{outputOf}
+use Rattle.desk.specs.declared.answer.Counted.{Counted}
 use borrow.Author.Needs.{needs}
 use Rattle.desk.proofs.timetable.starts.Statement.{statement}
 use Rattle.desk.proofs.timetable.starts.Tie as tie
@@ -9,7 +9,7 @@ use Rattle.desk.proofs.timetable.starts.Tie as tie
 returns : tie.Need-returns
 returns c =
     let w = c .before .before .before .write-starts .ensures in
-    (c .started-of .ensures ∙ ap (λ (x : Counted). startedOf (x .fault) (x .value)) (w .0), w .1)
+    (c .output-of .ensures ∙ ap (λ (x : Counted). outputOf (x .fault) (x .value)) (w .0), w .1)
 
 pub starts-spec : {M : Type 1} → statement M
 starts-spec = tie.close (tie.spec (λ c κs. search needs) (λ c κs. search needs) (λ c. search needs) returns)

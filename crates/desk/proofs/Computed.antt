@@ -1,0 +1,64 @@
+-- The starred cases hold, by computation alone. Assumes nothing.
+use mathlib.Core.Path.{refl}
+use Rattle.words.specs.Bits.{digit, bit}
+use Rattle.words.specs.Loops.{each, run, upto}
+use Rattle.words.specs.Members.{first, members, count}
+use Rattle.words.specs.Sums.{sum, maximum}
+use Rattle.words.specs.Tables.{table}
+use Rattle.order.specs.Rows.{grow, arcsFrom, arcsIn, circleIn}
+use Rattle.order.specs.Orders.{extended, circleOf, orderOf, orderIn, joinedRows, afterWords}
+use Rattle.records.specs.Bytes.{field, zeros, bytes}
+use Rattle.records.specs.Records.{overloadRecord}
+use Rattle.plan.specs.Records.{leading, activityFields, crewFields, arcFields}
+use Rattle.plan.specs.Plans.{durationsOf, demandsOf, availableOf, withArc, arcsUpTo, planOf}
+use Rattle.plan.specs.Causes.{activityCause, crewCause, arcCause, causeAt, firstRefusal, recordsCause}
+use Rattle.plan.specs.Reads.{isLength, answerOf, readOf}
+use Rattle.schedule.specs.Starts.{asked, rounds, earliestOf, endOf}
+use Rattle.schedule.specs.Checks.{brokenTo, brokenFrom, occupied, lowestKind, lastFinish, quiet, firstPeriod, checkOf}
+use Rattle.schedule.specs.Arrays.{startsOf}
+use Rattle.flow_math.specs.Need.{heaviest, needOf}
+use Rattle.flow.specs.Search.{advance}
+use Rattle.flow.specs.Network.{giver, positive, joined, shifted, handing}
+use Rattle.flow.specs.Solve.{blanks, ranked, started, rounded, solved}
+use Rattle.flow.specs.Quote.{unused, copied, outcome, amount, quoteOf}
+use Rattle.kinds.specs.Needs.{demandsFor}
+use Rattle.desk.specs.Open.{circlesOf, faultOf}
+use Rattle.desk.specs.Output.{lentAfter}
+use Rattle.desk.specs.Need.{needFor, overKind, isOverloaded, overCause}
+use Rattle.desk.specs.Verdict.{verdictFault}
+use Rattle.desk.specs.Needs.{needsFault, needNumbers, needsOut}
+use Rattle.desk.specs.Starts.{startsFault, startsOut, startNumbers, withEnd}
+use Rattle.desk.specs.Overload.{overloadFault, overCount, overBytes, overloadOut}
+use Rattle.desk.specs.Crew.{someZero, badLists, crewFault, crewFound}
+use Rattle.desk.specs.Cases.{Cases}
+
+pub cases : Cases
+unfolding digit bit each run upto first members count sum maximum table grow arcsFrom arcsIn circleIn extended circleOf orderOf orderIn joinedRows afterWords field zeros bytes overloadRecord leading activityFields crewFields arcFields durationsOf demandsOf availableOf withArc arcsUpTo planOf activityCause crewCause arcCause causeAt firstRefusal recordsCause isLength answerOf readOf asked rounds earliestOf endOf brokenTo brokenFrom occupied lowestKind lastFinish quiet firstPeriod checkOf startsOf heaviest needOf advance giver positive joined shifted handing blanks ranked started rounded solved unused copied outcome amount quoteOf demandsFor circlesOf faultOf lentAfter needFor overKind isOverloaded overCause verdictFault needsFault needNumbers needsOut startsFault startsOut startNumbers withEnd overloadFault overCount overBytes overloadOut someZero badLists crewFault crewFound
+cases =
+    record {
+      a-accepted = refl;
+      a-need = refl;
+      b-overloaded = refl;
+      b-need = refl;
+      c-overloaded = refl;
+      c-numbers = refl;
+      c-need = refl;
+      c-record = refl;
+      d-accepted = refl;
+      d-need = refl;
+      d-none = refl;
+      e-extra = refl;
+      e-job = refl;
+      e-starts = refl;
+      e-needs = refl;
+      f-accepted = refl;
+      f-overloaded = refl;
+      a-starts = refl;
+      a-short = refl;
+      a-fits = refl;
+      a-breaks = refl;
+      a-idle = refl;
+      c-at-once = refl;
+      c-two-by-two = refl;
+      c-longer = refl;
+    }

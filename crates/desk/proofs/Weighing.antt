@@ -1,0 +1,143 @@
+-- What the solver quotes of a plan that opens is what the definitions say: the needs, the lowest overloaded kind, and 7 in its turn. Assumes nothing.
+use mathlib.Core.Path.{_≡_, refl, ap, _∙_, subst}
+use mathlib.Core.Bool.{true, false}
+use mathlib.Core.List.{List}
+use Prim.Native.Nat.{ℕ, _+_, _*_, _≤_, _<_}
+use native.Mathlib.Omega.{arith}
+use lib.Dec.{ltb}
+use lib.ListN.{getD}
+use borrow.Author.Tests.{le-ltb, ltb-true}
+use Rattle.words.proofs.Firsts.{first-cong}
+use Rattle.words.proofs.Tables.{getD-table}
+use Rattle.words.proofs.Tests.{by-test, cond-true, cond-false}
+use Rattle.records.specs.Bytes.{AreBytes, byte, field}
+use Rattle.order.specs.Orders.{isBefore}
+use Rattle.order.specs.Sets.{member}
+use Rattle.plan.specs.Causes.{isReadable}
+use Rattle.plan.specs.Meaning.{Readable, Said}
+use Rattle.plan.specs.Plans.{planOf, emptyPlan}
+use Rattle.plan.specs.Reads.{answerOf}
+use Rattle.plan.specs.Records.{activityCount, recordAt}
+use Rattle.plan.specs.declared.Plan.{Plan}
+use Rattle.plan.proofs.Said.{demands-small}
+use Rattle.flow.specs.Network.{handed}
+use Rattle.flow.specs.Quote.{flowOf}
+use Rattle.flow.specs.Sound.{Sound, Plan as Quotable}
+use Rattle.flow.proofs.First.{quote-first}
+use Rattle.kinds.specs.Needs.{demandAt, demandsFor, quoteFor, exceeds, lowestKind, lowestOverload, noOverload}
+use Rattle.kinds.specs.declared.Overload.{Overload}
+use Rattle.desk.specs.Open.{planIn, planOrder, isFine, orCause, Opens}
+use Rattle.desk.specs.Need.{demandFor, availableFor, needFor, overKind, isOverloaded, shownSet, overCause}
+use Rattle.desk.specs.Verdict.{orOverload}
+use Rattle.desk.specs.File.{fileKinds, fileDemand, fileAvailable}
+use Rattle.desk.specs.declared.Fault.{Fault}
+use Rattle.desk.specs.declared.Fault.the-variants.{Fine, Refused}
+use Rattle.desk.proofs.Opening.{plan-in, plan-not, said-in, opens-readable}
+use Rattle.desk.proofs.Meaning.{opens-strict}
+
+-- a plan has no more than 8 kinds, readable or not
+pub kinds-few : (s : List ℕ) → planIn s .kinds ≤ 8
+unfolding emptyPlan
+kinds-few s =
+    by-test (isReadable (answerOf s))
+    (λ t. said-in s t .few-kinds)
+    (λ t. let e : planIn s .kinds ≡ 0 = ap (λ (q : Plan). q .kinds) (plan-not s t) in omega arith)
+
+-- ---- the plan's numbers are the file's
+
+module _ (s : List ℕ) (e : Readable s) where
+  pub count-in : planIn s .count ≡ activityCount s
+  unfolding planOf
+  count-in = ap (λ (q : Plan). q .count) (plan-in s e)
+
+  pub kinds-in : planIn s .kinds ≡ fileKinds s
+  kinds-in = said-in s e .kinds ∙ ap (λ (m : ℕ). byte (recordAt s m) 1) count-in
+
+  pub available-in : (k : ℕ) → k < 8 → availableFor (planIn s) k ≡ fileAvailable s k
+  available-in k h = said-in s e .available k h ∙ ap (λ (m : ℕ). field (recordAt s m) (4 + 2 * k) 2) count-in
+
+-- the overload of a plan, by the definitions
+abbrev pub overFor : Plan → Overload
+overFor q = record { kind = overKind q; need = needFor q (overKind q); set = shownSet q (overKind q) }
+
+module _ (s : List ℕ) (small : AreBytes s) (o : Opens s) where
+  said-of : Said s (planIn s)
+  said-of = said-in s (opens-readable s o)
+
+  -- ---- the demands of a kind, as the solver gets them
+
+  pub demand-at : (k i : ℕ) → i < 64 → demandFor (planIn s) k i ≡ getD (planIn s .demand) (64 * k + i) 0
+  unfolding demandsFor
+  demand-at k i h = getD-table 64 (demandAt (planIn s .demand) k) i 0 h
+
+  pub demand-small : (k i : ℕ) → i < 64 → demandFor (planIn s) k i ≤ 65535
+  demand-small k i h =
+      let e : getD (planIn s .demand) (64 * k + i) 0 ≡ getD (planOf s .demand) (64 * k + i) 0 =
+      ap (λ (q : Plan). getD (q .demand) (64 * k + i) 0) (plan-in s (opens-readable s o)) in
+      omega (arith, demand-at k i h, demands-small s small (64 * k + i))
+
+  pub demand-none : (k i : ℕ) → k < 8 → planIn s .count ≤ i → i < 64 → demandFor (planIn s) k i ≡ 0
+  demand-none k i hk l h = demand-at k i h ∙ said-of .no-demand k i hk l h
+
+  pub demand-in : (k i : ℕ) → k < 8 → i < planIn s .count → demandFor (planIn s) k i ≡ fileDemand s k i
+  demand-in k i hk h = demand-at k i (omega (arith, said-of .few)) ∙ said-of .demand k i hk h
+
+  pub quotable : (k : ℕ) → Quotable (planOrder s) (demandsFor (planIn s .demand) k)
+  quotable k = record { strict = opens-strict s o; small = demand-small k }
+
+  -- ---- THE QUOTE OF A KIND IS SOUND, over the m activities, and the need that it quotes is the need
+
+  quoted : (k : ℕ) → k < 8
+      → Sound (planIn s .count) (isBefore (planOrder s)) (demandFor (planIn s) k) (quoteFor (planOrder s) (planIn s .demand) k .need)
+      (member (shownSet (planIn s) k)) (handed (flowOf (planOrder s) (demandsFor (planIn s .demand) k)))
+  quoted k h = quote-first (planOrder s) (demandsFor (planIn s .demand) k) (planIn s .count) (quotable k) (said-of .few) (λ i l. demand-none k i h l)
+
+  pub need-quoted : (k : ℕ) → k < 8 → quoteFor (planOrder s) (planIn s .demand) k .need ≡ needFor (planIn s) k
+  unfolding needFor
+  need-quoted k h = quoted k h .need
+
+  pub sound-in : (k : ℕ) → k < 8
+      → Sound (planIn s .count) (isBefore (planOrder s)) (demandFor (planIn s) k) (needFor (planIn s) k) (member (shownSet (planIn s) k))
+      (handed (flowOf (planOrder s) (demandsFor (planIn s .demand) k)))
+  sound-in k h =
+      subst (λ (x : ℕ). Sound (planIn s .count) (isBefore (planOrder s)) (demandFor (planIn s) k) x (member (shownSet (planIn s) k))
+      (handed (flowOf (planOrder s) (demandsFor (planIn s .demand) k)))) (need-quoted k h) (quoted k h)
+
+  -- ---- the lowest overloaded kind
+
+  kind-is : lowestKind (planOrder s) (planIn s .demand) (planIn s .available) (planIn s .kinds) ≡ overKind (planIn s)
+  unfolding overKind
+  kind-is =
+      first-cong (planIn s .kinds) (exceeds (planOrder s) (planIn s .demand) (planIn s .available))
+      (λ k. ltb (availableFor (planIn s) k) (needFor (planIn s) k))
+      (λ k h. ap (λ (x : ℕ). ltb (availableFor (planIn s) k) x) (need-quoted k (omega (arith, kinds-few s))))
+
+  pub lowest-none : isOverloaded (planIn s) ≡ false
+      → lowestOverload (planOrder s) (planIn s .demand) (planIn s .available) (planIn s .kinds) ≡ noOverload (planIn s .kinds)
+  unfolding lowestOverload isOverloaded
+  lowest-none e = cond-false _ (noOverload (planIn s .kinds)) (ap (λ (k : ℕ). ltb k (planIn s .kinds)) kind-is ∙ e)
+
+  pub over-below : isOverloaded (planIn s) ≡ true → overKind (planIn s) < planIn s .kinds
+  unfolding isOverloaded
+  over-below e = ltb-true (overKind (planIn s)) (planIn s .kinds) e
+
+  pub lowest-found : isOverloaded (planIn s) ≡ true
+      → lowestOverload (planOrder s) (planIn s .demand) (planIn s .available) (planIn s .kinds) ≡ overFor (planIn s)
+  unfolding lowestOverload isOverloaded
+  lowest-found e =
+      cond-true _ (noOverload (planIn s .kinds)) (ap (λ (k : ℕ). ltb k (planIn s .kinds)) kind-is ∙ e)
+      ∙ ap (λ (k : ℕ). record { kind = k; need = quoteFor (planOrder s) (planIn s .demand) k .need; set = shownSet (planIn s) k }) kind-is
+      ∙ ap (λ (x : ℕ). record { kind = overKind (planIn s); need = x; set = shownSet (planIn s) (overKind (planIn s)) })
+      (need-quoted (overKind (planIn s)) (omega (arith, over-below e, kinds-few s)))
+
+-- ---- 7 IN ITS TURN, where an operation without a fault has a plan that opens
+
+pub weighed : (s : List ℕ) → AreBytes s → (f : Fault) → (isFine f ≡ true → Opens s)
+    → orOverload f (lowestOverload (planOrder s) (planIn s .demand) (planIn s .available) (planIn s .kinds)) (planIn s .kinds)
+    ≡ orCause f (isOverloaded (planIn s)) (overCause (planIn s))
+unfolding overCause isOverloaded
+weighed s small (Refused c) opens = refl
+weighed s small Fine opens =
+    by-test (isOverloaded (planIn s))
+    (λ e. rw (lowest-found s small (opens refl) e))
+    (λ e. rw (lowest-none s small (opens refl) e, le-ltb (planIn s .kinds) (planIn s .kinds) (omega arith), e))

@@ -1,0 +1,14 @@
+-- `desk::handover::flow` meets its contract, from what was written. Assumes nothing.
+use Rattle.desk.proofs.Handing.{answered}
+use borrow.Author.Needs.{needs}
+use Rattle.desk.proofs.handover.flow.Statement.{statement}
+use Rattle.desk.proofs.handover.flow.Tie as tie
+
+returns : tie.Need-returns
+returns c =
+    let w = c .before .before .before in
+    let a = w .before .before .before .before .args in
+    (answered (a .s .now) (a .kind) _ (w .write-units .ensures .0) (c .output-of .ensures), w .write-units .ensures .1)
+
+pub flow-spec : {M : Type 1} → statement M
+flow-spec = tie.close (tie.spec (λ c κs. search needs) (λ c κs. search needs) (λ c. search needs) returns)

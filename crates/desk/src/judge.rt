@@ -1,0 +1,80 @@
+// Verdict: whether a plan is accepted. And the cause that it shares with Flow: the plan is overloaded.
+ghost use mathlib.Core.Path.{_≡_};
+ghost use Prim.Native.Nat.{_≤_};
+ghost use Rattle.kinds.specs.Needs.{lowestOverload};
+ghost use Rattle.desk.specs.Verdict.{orOverload, judgedOf, verdictOf, verdictAnswer};
+use crate::Cause;
+use crate::Decision;
+use crate::Fault;
+use crate::open::is_fine;
+use crate::open::open_plan;
+use crate::open::or_cause;
+use order::Order;
+
+// How a verdict ends: with a fault, or with m and K.
+pub struct Judged {
+    pub fault: Fault,
+    pub activities: usize,
+    pub kinds: usize,
+}
+
+// The next cause in turn is 7: one of the first n kinds needs more than there is. Nothing is weighed where there is a fault already.
+pub fn or_overloaded(
+    fault: Fault,
+    order: Order,
+    demand: &[u32; 512],
+    available: &[u32; 8],
+    n: usize,
+) -> Fault
+    requires { ⌜ n ≤ 8 ⌝ }
+    ensures { λ r. ⌜ r ≡ orOverload fault (lowestOverload order (now (demand .entry)) (now (available .entry)) n) n ⌝ }
+{
+    if !is_fine(fault) {
+        return fault;
+    }
+    let over = kinds::lowest_overload(order, demand, available, n);
+    let set = over.set;
+    let cause = Cause::Overloaded {
+        kind: over.kind + 1,
+        need: over.need,
+        set: set.word,
+    };
+    or_cause(fault, over.kind < n, cause)
+}
+
+fn judge(s: &[u8]) -> Judged
+    ensures { λ r. ⌜ r ≡ judgedOf (now (s .entry)) ⌝ }
+{
+    let opened = open_plan(s);
+    let q = opened.plan;
+    let n = q.kinds;
+    let order = opened.order;
+    let demand = q.demand;
+    let available = q.available;
+    let before = opened.fault;
+    let fault = or_overloaded(before, order, &demand, &available, n);
+    Judged {
+        fault,
+        activities: q.count,
+        kinds: n,
+    }
+}
+
+// The answer, by the fault, m and K.
+fn verdict_of(fault: Fault, activities: usize, kinds: usize) -> Decision
+    ensures { λ r. ⌜ r ≡ verdictOf fault activities kinds ⌝ }
+{
+    match fault {
+        Fault::Fine => Decision::Accepted { activities, kinds },
+        Fault::Refused(c) => Decision::Refused(c),
+    }
+}
+
+// Verdict: whether the plan is accepted.
+pub fn verdict(s: &[u8]) -> Decision
+    ensures { λ r. ⌜ r ≡ verdictAnswer (now (s .entry)) ⌝ }
+{
+    let judged = judge(s);
+    let fault = judged.fault;
+    verdict_of(fault, judged.activities, judged.kinds)
+}

@@ -1,0 +1,37 @@
+-- `kinds::shown::put_overload` meets its contract, by whether the kind is one of the first n. Assumes nothing.
+use mathlib.Core.Path.{_∙_}
+use native.Mathlib.Omega.{arith}
+use borrow.Author.Needs.{needs}
+use Rattle.kinds.proofs.Quoting.{size-le, shown-none, shown-one}
+use Rattle.kinds.proofs.shown.put_overload.Statement.{statement}
+use Rattle.kinds.proofs.shown.put_overload.Tie as tie
+
+returns : tie.Need-returns
+returns c =
+    let a = c .before .before .args in
+    shown-none (a .over) (a .n) (a .out .now) (omega arith)
+
+byte-requires-2 : tie.Need-byte-requires-2
+byte-requires-2 c κs = omega (arith, c .size .ensures, size-le (c .before .before .before .before .before .before .args .over .set))
+
+returns-2 : tie.Need-returns-2
+returns-2 c =
+    let w = c .before .before in
+    let size = w .before .before in
+    let kind = size .before in
+    let a = kind .before .before .before .before .before .args in
+    shown-one (a .over) (a .n) (a .out .now) (kind .byte .result) (w .before .byte2 .result) _ (omega arith) (kind .byte .ensures)
+    (w .before .byte2 .ensures ∙ size .size .ensures) (w .write-overload .ensures)
+
+pub put-overload-spec : {M : Type 1} → statement M
+put-overload-spec =
+    tie.close
+    (tie.spec
+    returns
+    (λ c. search needs)
+    (λ c κs. search needs)
+    (λ c κs. search needs)
+    byte-requires-2
+    (λ c κs. search needs)
+    (λ c. search needs)
+    returns-2)

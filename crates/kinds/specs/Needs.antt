@@ -1,0 +1,59 @@
+-- What the kinds need, as the solver quotes it, and the lowest kind that needs more than there is. Assumes nothing.
+use mathlib.Core.Bool.{Bool, cond}
+use mathlib.Core.List.{List, []}
+use Prim.Native.Nat.{ℕ, _+_, _*_}
+use lib.Dec.{ltb}
+use lib.ListN.{getD}
+use Rattle.words.specs.Members.{first}
+use Rattle.words.specs.Tables.{table}
+use Rattle.order.specs.Sets.{emptySet, sizeOf}
+use Rattle.order.specs.declared.Order.{Order}
+use Rattle.records.specs.Records.{overloadRecord}
+use Rattle.flow.specs.Quote.{quoteOf}
+use Rattle.flow.specs.declared.Quoted.{Quoted}
+use Rattle.kinds.specs.declared.Overload.{Overload}
+
+-- the demand of the element i for kind k, in the table of all demands
+abbrev pub demandAt : List ℕ → ℕ → ℕ → ℕ
+demandAt demand k i = getD demand (64 * k + i) 0
+
+-- the demands of kind k alone
+unfoldable pub demandsFor : List ℕ → ℕ → List ℕ
+demandsFor demand k = table 64 (demandAt demand k)
+
+-- what the solver quotes for kind k: a need, and a set that has it
+abbrev pub quoteFor : Order → List ℕ → ℕ → Quoted
+quoteFor o demand k = quoteOf o (demandsFor demand k)
+
+-- the needs of the first n kinds
+unfoldable pub needsFor : Order → List ℕ → ℕ → List ℕ
+needsFor o demand n = table n (λ k. quoteFor o demand k .need)
+
+-- kind k needs more than there is
+abbrev pub exceeds : Order → List ℕ → List ℕ → ℕ → Bool
+exceeds o demand available k = ltb (getD available k 0) (quoteFor o demand k .need)
+
+-- the lowest of the first n kinds that does; n where none does
+abbrev pub lowestKind : Order → List ℕ → List ℕ → ℕ → ℕ
+lowestKind o demand available n = first n (exceeds o demand available)
+
+abbrev pub overloadOf : ℕ → Quoted → Overload
+overloadOf k q = record { kind = k; need = q .need; set = q .set }
+
+abbrev pub noOverload : ℕ → Overload
+noOverload n = record { kind = n; need = 0; set = emptySet }
+
+-- that kind, with what is quoted for it
+unfoldable pub lowestOverload : Order → List ℕ → List ℕ → ℕ → Overload
+lowestOverload o demand available n =
+    let shown = overloadOf (lowestKind o demand available n) (quoteFor o demand (lowestKind o demand available n)) in
+    cond (ltb (lowestKind o demand available n) n) shown (noOverload n)
+
+-- ---- how it is shown
+
+-- so many records, and their bytes: one for a kind of the first n, else none. "its size is the count of ones"
+unfoldable pub shownCount : Overload → ℕ → ℕ
+shownCount v n = cond (ltb (v .kind) n) 1 0
+
+unfoldable pub shownBytes : Overload → ℕ → List ℕ
+shownBytes v n = cond (ltb (v .kind) n) (overloadRecord (v .kind + 1) (sizeOf (v .set)) (v .need) (v .set .word)) []
