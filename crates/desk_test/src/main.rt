@@ -100,10 +100,14 @@ fn print_numbers(out: &[u32]) {
     io::write_all(1, b"\n");
 }
 
+fn print_byte(x: u8) {
+    print_number(x as u64);
+}
+
 // The lent bytes.
 fn print_bytes(out: &[u8]) {
     for i in 0..out.len() {
-        print_number(out[i] as u64);
+        print_byte(out[i]);
     }
     io::write_all(1, b"\n");
 }

@@ -123,13 +123,7 @@ pub fn write_flow(
     let own = demands_for(demand, k);
     let mut flow: [u32; 4096] = [0; 4096];
     let quoted = flow::quote(order, &own, &mut flow);
-    put_flow(
-        out,
-        byte(k + 1),
-        m,
-        &own,
-        &flow,
-        available - quoted.need,
-        job,
-    )
+    let need = quoted.need;
+    let spare = available - need;
+    put_flow(out, byte(k + 1), m, &own, &flow, spare, job)
 }

@@ -48,12 +48,10 @@ pub fn lowest_overload(
         let own = demands_for(demand, k);
         let quoted = flow::quote(order, &own, &mut flow);
         let set = quoted.set;
-        if available[k] < quoted.need {
-            return Overload {
-                kind: k,
-                need: quoted.need,
-                set,
-            };
+        let need = quoted.need;
+        let limit = available[k];
+        if limit < need {
+            return Overload { kind: k, need, set };
         }
     }
     Overload {

@@ -10,9 +10,9 @@ use Rattle.kinds.proofs.Counting.{units-written}
 use Rattle.kinds.proofs.flows.write_flow.Statement.{statement}
 use Rattle.kinds.proofs.flows.write_flow.Tie as tie
 
-sub-put-flow : tie.Need-sub-put-flow
-sub-put-flow c =
-    let q = c .before .before .before .before .before in
+sub-spare : tie.Need-sub-spare
+sub-spare c =
+    let q = c in
     let own = q .before .before .before in
     let s = own .before .before in
     let a = s .args in
@@ -21,7 +21,7 @@ sub-put-flow c =
 
 put-flow-requires : tie.Need-put-flow-requires
 put-flow-requires c κs =
-    let q = c .before .before .before .before .before in
+    let q = c .before .before .before .before in
     let own = q .before .before .before in
     let s = own .before .before in
     let a = s .args in (
@@ -38,7 +38,7 @@ put-flow-requires c κs =
 returns : tie.Need-returns
 returns c =
     let w = c .before .before in
-    let b = w .before .before .before .before in
+    let b = w .before .before .before in
     let q = b .before .before in
     let own = q .before .before .before in
     let a = own .before .before .args in
@@ -53,9 +53,9 @@ write-flow-spec =
     (tie.spec
     (λ c κs. search needs)
     (λ c κs. search needs)
+    sub-spare
     (λ c. search needs)
     (λ c κs. search needs)
-    sub-put-flow
     put-flow-requires
     (λ c. search needs)
     returns)

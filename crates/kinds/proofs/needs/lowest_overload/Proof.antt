@@ -18,7 +18,7 @@ loop-holds c = (omega arith, below-none _)
 
 returns : tie.Need-returns Inv-loop μ-loop
 returns c =
-    let q = c .before .before .before .before in
+    let q = c .before .before .before in
     let own = q .before .before .before in
     let at = own .before .before in
     let a = at .before .args in
@@ -27,7 +27,7 @@ returns c =
 
 loop-again : tie.Need-loop-again Inv-loop μ-loop
 loop-again c =
-    let q = c .before .before .before .before in
+    let q = c .before .before .before in
     let own = q .before .before .before in
     let at = own .before .before in
     let a = at .before .args in (
