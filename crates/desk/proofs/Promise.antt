@@ -11,7 +11,6 @@ use borrow.Author.Tests.{lt-ltb, le-leb, leb-true}
 use Rattle.words.specs.Bits.{bit}
 use Rattle.words.specs.Members.{count}
 use Rattle.words.proofs.Tests.{by-test, cond-true, and-right, and-both}
-use Rattle.order.specs.Before.{Acyclic}
 use Rattle.order.specs.Sets.{sizeOf}
 use Rattle.records.specs.Bytes.{AreBytes, byte, field}
 use Rattle.records.specs.Records.{overloadRecord}
@@ -28,8 +27,8 @@ use Rattle.desk.specs.Need.{needFor, overKind, isOverloaded, shownSet, o
 use Rattle.desk.specs.Verdict.{verdictFault, verdictOf, verdictAnswer}
 use Rattle.desk.specs.Overload.{overloadFault, overCount, overBytes, overloadAnswer, overloadOut}
 use Rattle.desk.specs.Flow.{isKind, flowLength, flowFault, flowUnits, flowCount, recordBytes, flowAnswer, flowOut}
-use Rattle.desk.specs.File.{FileArc, fileKinds, fileAvailable, FileFlow}
-use Rattle.desk.specs.PriceList.{quotedNeed, Exceeds, Enough, IsSeven, Shown, PriceList}
+use Rattle.desk.specs.File.{fileKinds, fileAvailable, FileFlow}
+use Rattle.desk.specs.PriceList.{quotedNeed, Exceeds, Enough, IsSeven, Shown, PriceList, PriceListSentence}
 use Rattle.desk.specs.declared.Cause.{Cause}
 use Rattle.desk.specs.declared.Cause.the-variants.{NoKind, Short}
 use Rattle.desk.specs.declared.Fault.{Fault}
@@ -256,5 +255,5 @@ module _ (s : List ℕ) (small : AreBytes s) (o : Opens s) where
         unused = unused;
       }
 
-pub price-list : (s : List ℕ) → AreBytes s → Readable s → Acyclic (FileArc s) → PriceList s
+pub price-list : PriceListSentence
 price-list s small e free = price-list-opens s small (opens-when s .1 (e, free))

@@ -1,5 +1,5 @@
 -- THE PRICE-LIST SENTENCE: demand 3 of document 00, sentence by sentence, about what the operations answer and write. It holds for every readable plan
--- without a circle: `price-list` of proofs/Promise.antt. Sets, crews, flows and the file's fields are those of File. Assumes nothing.
+-- without a circle (`PriceListSentence`): that is `price-list` of proofs/Promise.antt. Sets, crews, flows and the file's fields are those of File. Assumes nothing.
 use mathlib.Core.Path.{_≡_}
 use mathlib.Core.Bool.{Bool, true}
 use mathlib.Core.List.{List, [], _∷_}
@@ -8,7 +8,9 @@ use Prim.Native.Nat.{ℕ, _+_, _-_, _≤_, _<_}
 use lib.ListN.{length, getD, replicate}
 use Rattle.words.specs.Bits.{bit}
 use Rattle.words.specs.Members.{count}
-use Rattle.records.specs.Bytes.{byte, field}
+use Rattle.order.specs.Before.{Acyclic}
+use Rattle.records.specs.Bytes.{AreBytes, byte, field}
+use Rattle.plan.specs.Meaning.{Readable}
 use Rattle.plan.specs.Records.{activityCount}
 use Rattle.kinds.specs.Reading.{unitsRead}
 use Rattle.desk.specs.Numbers.{numbersOf}
@@ -16,7 +18,7 @@ use Rattle.desk.specs.Verdict.{verdictAnswer}
 use Rattle.desk.specs.Needs.{needsAnswer, needsOut}
 use Rattle.desk.specs.Overload.{overloadAnswer, overloadOut}
 use Rattle.desk.specs.Flow.{flowLength, flowAnswer, flowOut}
-use Rattle.desk.specs.File.{fileKinds, fileDemand, fileAvailable, Unrelated, demandSum, FileCrew, crewOccupies, FileFlow}
+use Rattle.desk.specs.File.{FileArc, fileKinds, fileDemand, fileAvailable, Unrelated, demandSum, FileCrew, crewOccupies, FileFlow}
 use Rattle.desk.specs.declared.Cause.{Cause}
 use Rattle.desk.specs.declared.Decision.the-variants as verdict
 use Rattle.desk.specs.declared.Output.the-variants.{Written, Refused}
@@ -78,3 +80,7 @@ pub record PriceList (s : List ℕ) : Type 0 where
   pub meets : (k : ℕ) (out : List ℕ) (n : ℕ) → flowAnswer s (k + 1) (length out) ≡ Written n → FileFlow s k (unitsRead n (flowOut s (k + 1) out))
   pub unused : (k : ℕ) (out : List ℕ) (n : ℕ) → flowAnswer s (k + 1) (length out) ≡ Written n
       → unitsRead n (flowOut s (k + 1) out) 0 (activityCount s + 1) ≡ fileAvailable s k - quotedNeed s k
+
+-- "The desk holds any readable plan without a circle.": of every such plan, a file of bytes, all of this holds
+abbrev pub PriceListSentence : Type 0
+PriceListSentence = (s : List ℕ) → AreBytes s → Readable s → Acyclic (FileArc s) → PriceList s
