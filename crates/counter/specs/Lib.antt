@@ -1,0 +1,2 @@
+-- The answers as numbers of 64 bits, for C.
+pub mod Codes

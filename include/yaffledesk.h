@@ -1,0 +1,174 @@
+/* Yaffledesk for C and C++: the planner's operations on the bytes of a plan file.
+ *
+ * Link target/staticlib/libcounter.a, which `rt staticlib counter` writes.
+ *
+ * Every operation takes the plan as it stands in the file: records of 24 bytes, no header. It answers one number of 64 bits. The
+ * low 8 bits are the answer's number: 0 where the operation was done, else one of the numbers below. The bits above are its rest:
+ * what belongs to that number. YAFFLEDESK_NUMBER and YAFFLEDESK_REST take them apart.
+ *
+ *     uint64_t answer = yaffledesk_verdict(plan, len);
+ *     if (YAFFLEDESK_NUMBER(answer) == YAFFLEDESK_DONE)
+ *         printf("accepted, %u activities\n", YAFFLEDESK_ACTIVITIES(answer));
+ *
+ * Lent memory. An operation that writes is lent memory as a pointer and a length, and the length counts elements: bytes where
+ * the pointer is to uint8_t, numbers where it is to uint32_t. More than needed may be lent. What is written stands at the
+ * front, and the rest is left unchanged. Every answer other than 0 leaves all lent memory as it was. The plan, the
+ * starts and the durations are only read. Nothing is kept after the call.
+ *
+ * Pointers. Every pointer must be to as many elements as its length says, and must not be null, even where the length is 0. Memory
+ * that is lent for writing must not overlap what is read. */
+#ifndef YAFFLEDESK_H
+#define YAFFLEDESK_H
+
+#include <stddef.h>
+#include <stdint.h>
+
+#ifdef __cplusplus
+extern "C" {
+#endif
+
+/* ---- Numbers of answers ---- */
+
+enum {
+    YAFFLEDESK_DONE = 0,            /* done; each operation says what its rest is */
+
+    /* The file itself. Every operation tests these first, in this order; 2 to 4 record by record. */
+    YAFFLEDESK_BAD_LENGTH = 1,      /* length 0, not a multiple of 24, or over 49,152; rest 0 */
+    YAFFLEDESK_BAD_TYPE = 2,        /* type unknown or out of order, or crew record missing; rest: the record's place, from 0; */
+                                    /* where the crew record is missing, the count of records */
+    YAFFLEDESK_BAD_FIELD = 3,       /* a field outside its rule; rest: the record's place */
+    YAFFLEDESK_BAD_SPARE = 4,       /* a spare byte that is not zero; rest: the record's place */
+    YAFFLEDESK_JOB_CIRCLE = 5,      /* a circle in the job order; rest: the lowest activity before itself there */
+    YAFFLEDESK_PLAN_CIRCLE = 6,     /* a circle in the plan order only; rest: the lowest activity before itself there */
+
+    /* What is asked of the file. Each operation says which of these it gives, and in which order. */
+    YAFFLEDESK_OVERLOADED = 7,      /* the need of a kind exceeds what is available; YAFFLEDESK_OVERLOAD_KIND, _NEED, _SIZE */
+    YAFFLEDESK_NO_SUCH_KIND = 8,    /* kind not 1 to K; rest: K */
+    YAFFLEDESK_TOO_SHORT = 9,       /* lent memory too short; rest: the length needed, in elements */
+    YAFFLEDESK_BAD_LISTS = 10,      /* lists not m long, or a worked duration 0; rest: m */
+
+    /* The two findings of the crew check. */
+    YAFFLEDESK_BROKEN_ARC = 254,    /* a broken arc; YAFFLEDESK_BROKEN_FROM, _TO */
+    YAFFLEDESK_CREW_OVERLOAD = 255  /* more at work than available; YAFFLEDESK_CREW_KIND, _PERIOD */
+};
+
+#define YAFFLEDESK_NUMBER(answer) ((unsigned)((answer) & 255))
+#define YAFFLEDESK_REST(answer) ((uint64_t)(answer) >> 8)
+
+/* Of an answer 0 of yaffledesk_verdict: m, the count of activities, and K, the count of kinds. */
+#define YAFFLEDESK_ACTIVITIES(answer) ((unsigned)(YAFFLEDESK_REST(answer) & 255))
+#define YAFFLEDESK_KINDS(answer) ((unsigned)(YAFFLEDESK_REST(answer) >> 8))
+
+/* Of an answer 7: the lowest overloaded kind, its need, and the size of the set that yaffledesk_set gives. */
+#define YAFFLEDESK_OVERLOAD_KIND(answer) ((unsigned)(YAFFLEDESK_REST(answer) & 255))
+#define YAFFLEDESK_OVERLOAD_NEED(answer) ((uint32_t)(YAFFLEDESK_REST(answer) >> 8 & 0xFFFFFFFF))
+#define YAFFLEDESK_OVERLOAD_SIZE(answer) ((unsigned)(YAFFLEDESK_REST(answer) >> 40))
+
+/* Of an answer 254: the ends of the arc. Of an answer 255: the kind, and the period, which can be 4,294,967,296. */
+#define YAFFLEDESK_BROKEN_FROM(answer) ((unsigned)(YAFFLEDESK_REST(answer) & 255))
+#define YAFFLEDESK_BROKEN_TO(answer) ((unsigned)(YAFFLEDESK_REST(answer) >> 8))
+#define YAFFLEDESK_CREW_KIND(answer) ((unsigned)(YAFFLEDESK_REST(answer) & 255))
+#define YAFFLEDESK_CREW_PERIOD(answer) (YAFFLEDESK_REST(answer) >> 8)
+
+/* ---- Sizes ---- */
+
+enum {
+    YAFFLEDESK_RECORD_BYTES = 24,        /* any record: of a plan, of a flow, of an overload */
+    YAFFLEDESK_OVERLOAD_BYTES = 24,      /* what yaffledesk_overload needs */
+    YAFFLEDESK_MOST_PLAN_BYTES = 49152,  /* 2,048 records */
+    YAFFLEDESK_MOST_ACTIVITIES = 64,
+    YAFFLEDESK_MOST_KINDS = 8
+};
+
+/* What yaffledesk_flow needs for m activities, in bytes: 24 * (m(m-1)/2 + 2m + 1), whatever the flow then holds. For 64: 51,480. */
+#define YAFFLEDESK_FLOW_BYTES(m) ((size_t)YAFFLEDESK_RECORD_BYTES * ((size_t)(m) * ((size_t)(m) + 3) / 2 + 1))
+/* What yaffledesk_needs and yaffledesk_starts need, in numbers. */
+#define YAFFLEDESK_NEEDS_NUMBERS(kinds) ((size_t)(kinds))
+#define YAFFLEDESK_STARTS_NUMBERS(m) ((size_t)(m) + 1)
+
+/* ---- Operations ---- */
+
+/* Is the plan accepted? 0: m + 256 * K. Else 1 to 6, then 7. */
+uint64_t yaffledesk_verdict(const uint8_t *plan, size_t len);
+
+/* The set that belongs to the answer 7 of the verdict: bit i - 1 for activity i. No two of its members are ordered, and together
+ * they demand exactly the need. 0 where the verdict is not 7; the set of a 7 is never empty. */
+uint64_t yaffledesk_set(const uint8_t *plan, size_t len);
+
+/* Writes the need of each kind from 1 to K. 0: how many numbers were written, K. Else 1 to 6, then 9 (needs K numbers). Never 7. */
+uint64_t yaffledesk_needs(const uint8_t *plan, size_t len, uint32_t *out, size_t out_len);
+
+/* Writes the earliest starts of activities 1 to m and then of the end. 0: how many numbers were written, m + 1. Else 1 to 6, then
+ * 9 (needs m + 1 numbers). Never 7. */
+uint64_t yaffledesk_starts(const uint8_t *plan, size_t len, uint32_t *out, size_t out_len);
+
+/* Writes the flow of a kind as flow records, ascending by from, then to. 0: how many records were written, possibly none. Else 1 to
+ * 6, then 8, then 9 (needs YAFFLEDESK_FLOW_BYTES(m) bytes), then 7, for the lowest overloaded kind even if the one asked for fits. */
+uint64_t yaffledesk_flow(const uint8_t *plan, size_t len, uint64_t kind, uint8_t *out, size_t out_len);
+
+/* Writes the overload record of an overloaded plan. 0: how many records were written, 1, or 0 where no kind is overloaded. Else
+ * 1 to 6, then 9 (needs 24 bytes, whether the plan is overloaded or not). Never 7. */
+uint64_t yaffledesk_overload(const uint8_t *plan, size_t len, uint8_t *out, size_t out_len);
+
+/* Does a crew that works these starts and durations keep every arc, and fit what is available? Entry i - 1 of each list is activity
+ * i's; the durations are those worked, not the file's. 0: it fits, rest 0. Else 1 to 6, then 10, then 254 with the first broken
+ * arc by from, then to, then 255 with the first overloaded period and its lowest overloaded kind. Never 7. Nothing is written. */
+uint64_t yaffledesk_crew_check(const uint8_t *plan, size_t len, const uint32_t *starts, size_t starts_len,
+                               const uint32_t *durations, size_t durations_len);
+
+/* ---- Records ----
+ *
+ * Both are 24 bytes. Fields of several bytes are unsigned, lowest byte first; bytes not named are zero.
+ *
+ *     flow      0: 33   1: kind   2: from   3: to     4-7: units   8: added mark
+ *     overload  0: 32   1: kind   2: size             4-7: need    8-15: the set, bit i - 1 for activity i
+ *
+ * In a flow record 0 is the start and m + 1 the end. The added mark is 1 where both ends are activities and no job arc record
+ * names this pair, else 0. */
+
+enum {
+    YAFFLEDESK_OVERLOAD_RECORD = 32, /* byte 0 of an overload record */
+    YAFFLEDESK_FLOW_RECORD = 33,     /* byte 0 of a flow record */
+
+    YAFFLEDESK_AT_KIND = 1,   /* both */
+    YAFFLEDESK_AT_SIZE = 2,   /* overload */
+    YAFFLEDESK_AT_FROM = 2,   /* flow */
+    YAFFLEDESK_AT_TO = 3,     /* flow */
+    YAFFLEDESK_AT_UNITS = 4,  /* flow, four bytes */
+    YAFFLEDESK_AT_NEED = 4,   /* overload, four bytes */
+    YAFFLEDESK_AT_ADDED = 8,  /* flow */
+    YAFFLEDESK_AT_SET = 8     /* overload, eight bytes */
+};
+
+/* The number in `count` bytes, lowest byte first. */
+static inline uint64_t yaffledesk_number_at(const uint8_t *bytes, int count) {
+    uint64_t number = 0;
+    while (count > 0) number = number << 8 | bytes[--count];
+    return number;
+}
+
+/* The units of a flow record. */
+static inline uint32_t yaffledesk_units(const uint8_t *record) {
+    return (uint32_t)yaffledesk_number_at(record + YAFFLEDESK_AT_UNITS, 4);
+}
+
+/* The need of an overload record. */
+static inline uint32_t yaffledesk_need(const uint8_t *record) {
+    return (uint32_t)yaffledesk_number_at(record + YAFFLEDESK_AT_NEED, 4);
+}
+
+/* The set of an overload record. */
+static inline uint64_t yaffledesk_members(const uint8_t *record) {
+    return yaffledesk_number_at(record + YAFFLEDESK_AT_SET, 8);
+}
+
+/* Whether activity i, 1 to 64, is in a set. */
+static inline int yaffledesk_has(uint64_t set, unsigned i) {
+    return (int)(set >> (i - 1) & 1);
+}
+
+#ifdef __cplusplus
+}
+#endif
+
+#endif

@@ -1,0 +1,78 @@
+//! Valid files with bytes damaged, cut short, lengthened and with records moved about.
+
+use crate::bench::Bench;
+use crate::bytes::RECORD;
+use crate::model::Case;
+use crate::random::Random;
+use crate::sweep::{around, random_sheet};
+
+/// Damages `count` random files of at most 7 activities in every way below.
+pub fn damaged_plans(bench: &mut Bench, count: usize) {
+    for _ in 0..count {
+        let file = some_file(&mut bench.random);
+        every_byte(bench, &file);
+        several_bytes(bench, &file);
+        moved_records(bench, &file);
+    }
+    let file = some_file(&mut bench.random);
+    for length in 0..file.len() {
+        bench.all(&Case::new(file[..length].to_vec()));
+    }
+}
+
+fn some_file(random: &mut Random) -> Vec<u8> {
+    let size = random.between(2, 7) as usize;
+    let mut sheet = random_sheet(random, size, 9);
+    sheet.job.truncate(4);
+    sheet.extra.truncate(4);
+    // The availabilities need no exact relation to the needs here, only some of both verdicts.
+    let guess: Vec<u32> = (0..sheet.kinds).map(|_| random.below(20) as u32).collect();
+    sheet.available = around(random, &guess);
+    sheet.bytes()
+}
+
+fn every_byte(bench: &mut Bench, file: &[u8]) {
+    for place in 0..file.len() {
+        let old = file[place];
+        let random = bench.random.next() as u8;
+        let mut values = vec![0, 1, 255, old.wrapping_add(1), old.wrapping_sub(1), old ^ 128, random];
+        values.sort();
+        values.dedup();
+        for value in values.into_iter().filter(|&value| value != old) {
+            let mut damaged = file.to_vec();
+            damaged[place] = value;
+            bench.all(&Case::new(damaged));
+        }
+    }
+}
+
+/// Two or three faults at once: the earlier record wins, and within it the lower number.
+fn several_bytes(bench: &mut Bench, file: &[u8]) {
+    for _ in 0..300 {
+        let mut damaged = file.to_vec();
+        let within = bench.random.index(file.len() / RECORD);
+        for _ in 0..bench.random.between(2, 3) {
+            // Half of them in one record, at its type, its fields or its spare bytes.
+            let byte = bench.random.pick(&[0, 1, 2, 3, 19, 20, 23]);
+            let anywhere = bench.random.index(file.len());
+            let place = if bench.random.percent(50) { within * RECORD + byte } else { anywhere };
+            let any = bench.random.next() as u8;
+            damaged[place] = bench.random.pick(&[0, 1, 2, 3, 4, 5, 8, 9, 255, any]);
+        }
+        bench.all(&Case::new(damaged));
+    }
+}
+
+/// Records swapped, doubled and left out: types and numbers out of order, no crew, two crews.
+fn moved_records(bench: &mut Bench, file: &[u8]) {
+    for _ in 0..60 {
+        let mut records: Vec<&[u8]> = file.chunks(RECORD).collect();
+        let (one, two) = (bench.random.index(records.len()), bench.random.index(records.len()));
+        match bench.random.below(3) {
+            0 => records.swap(one, two),
+            1 => records.insert(one, records[two]),
+            _ => drop(records.remove(one)),
+        }
+        bench.all(&Case::new(records.concat()));
+    }
+}

@@ -1,0 +1,62 @@
+//! Holds the static library to an independent reading of the paper. The seed names the run; give
+//! another one as the argument or in REFERENCE_SEED.
+
+#![deny(unsafe_code)]
+
+mod bench;
+mod big;
+mod bytes;
+mod cases;
+mod check;
+mod crew;
+mod damage;
+#[allow(unsafe_code)]
+mod desk;
+#[allow(unsafe_code)]
+mod guard;
+mod model;
+mod random;
+mod read;
+mod readings;
+mod sweep;
+mod tally;
+#[allow(unsafe_code)]
+mod trap;
+
+use std::process::ExitCode;
+use std::time::Instant;
+
+const SEED: u64 = 20_261_115;
+const RANDOM_PLANS: usize = 6_000;
+const BIG_PLANS: usize = 60;
+const DAMAGED_PLANS: usize = 8;
+
+fn seed() -> u64 {
+    let given = std::env::args().nth(1).or_else(|| std::env::var("REFERENCE_SEED").ok());
+    given.map_or(SEED, |word| word.parse().expect("the seed is a whole number"))
+}
+
+fn main() -> ExitCode {
+    let begun = Instant::now();
+    let seed = seed();
+    println!("seed {seed}");
+    trap::install();
+    let mut bench = bench::Bench::new(seed);
+    let mut part = |name: &str, run: &dyn Fn(&mut bench::Bench)| {
+        run(&mut bench);
+        println!("{name}: done after {:.1} s", begun.elapsed().as_secs_f64());
+    };
+    part("plans A to F", &cases::plans_a_to_f);
+    part("open points", &readings::readings);
+    part("bounds", &big::bounds);
+    part("random plans", &|bench| sweep::random_plans(bench, RANDOM_PLANS));
+    part("damaged plans", &|bench| damage::damaged_plans(bench, DAMAGED_PLANS));
+    part("big plans", &|bench| big::big_plans(bench, BIG_PLANS));
+    bench.tally.close();
+    bench.tally.print_last_line();
+    if bench.tally.all_passed() {
+        ExitCode::SUCCESS
+    } else {
+        ExitCode::FAILURE
+    }
+}

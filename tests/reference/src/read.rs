@@ -1,0 +1,121 @@
+//! The independent reader: causes 1 to 4, record by record, in the order of the check list.
+
+use crate::bytes::{ACTIVITY, CREW, EXTRA, JOB, RECORD};
+use std::collections::BTreeSet;
+
+pub const MOST_BYTES: usize = 49_152;
+pub const MOST_ACTIVITIES: usize = 64;
+
+/// A refusal's number and the value that goes with it (a place, an activity, a count).
+#[derive(Clone, Copy, Debug, PartialEq)]
+pub struct Refusal {
+    pub number: u8,
+    pub value: u64,
+}
+
+/// Activities are indexed from 0 in the lists and named from 1 in the arcs, as the file names them.
+#[derive(Clone, Default)]
+pub struct Plan {
+    pub durations: Vec<u32>,
+    pub demands: Vec<[u32; 8]>,
+    pub kinds: usize,
+    pub available: [u32; 8],
+    pub job: BTreeSet<(usize, usize)>,
+    pub extra: BTreeSet<(usize, usize)>,
+}
+
+impl Plan {
+    pub fn size(&self) -> usize {
+        self.durations.len()
+    }
+
+    /// All arcs, each once, by from and then to.
+    pub fn arcs(&self) -> BTreeSet<(usize, usize)> {
+        self.job.union(&self.extra).copied().collect()
+    }
+}
+
+pub fn read(file: &[u8]) -> Result<Plan, Refusal> {
+    if file.is_empty() || !file.len().is_multiple_of(RECORD) || file.len() > MOST_BYTES {
+        return Err(Refusal { number: 1, value: 0 });
+    }
+    let mut plan = Plan::default();
+    let mut last = ACTIVITY;
+    for (place, record) in file.chunks(RECORD).enumerate() {
+        let refuse = |number| Refusal { number, value: place as u64 };
+        if !follows(last, record[0]) {
+            return Err(refuse(2));
+        }
+        last = record[0];
+        if !take(&mut plan, record) {
+            return Err(refuse(3));
+        }
+        if !spare_is_zero(record) {
+            return Err(refuse(4));
+        }
+    }
+    // Only the end of the file shows that the crew record never came.
+    if last == ACTIVITY {
+        return Err(Refusal { number: 2, value: (file.len() / RECORD) as u64 });
+    }
+    Ok(plan)
+}
+
+/// Which type may come after which. `last` is activity at the start of the file.
+fn follows(last: u8, next: u8) -> bool {
+    match last {
+        ACTIVITY => next == ACTIVITY || next == CREW,
+        CREW | JOB => next == JOB || next == EXTRA,
+        _ => next == EXTRA,
+    }
+}
+
+/// Adds the record to the plan; false when a field is outside its rule.
+fn take(plan: &mut Plan, record: &[u8]) -> bool {
+    match record[0] {
+        ACTIVITY => take_activity(plan, record),
+        CREW => take_crew(plan, record),
+        _ => take_arc(plan, record),
+    }
+}
+
+fn take_activity(plan: &mut Plan, record: &[u8]) -> bool {
+    let number = plan.size() + 1;
+    let duration = two_bytes(record, 2);
+    plan.durations.push(duration);
+    plan.demands.push(eight(record));
+    number <= MOST_ACTIVITIES && record[1] as usize == number && duration > 0
+}
+
+fn take_crew(plan: &mut Plan, record: &[u8]) -> bool {
+    plan.kinds = record[1] as usize;
+    plan.available = eight(record);
+    let zero_beyond = |values: &[u32; 8]| values.iter().skip(plan.kinds).all(|&value| value == 0);
+    (1..=8).contains(&plan.kinds) && zero_beyond(&plan.available) && plan.demands.iter().all(zero_beyond)
+}
+
+fn take_arc(plan: &mut Plan, record: &[u8]) -> bool {
+    let (from, to) = (record[1] as usize, record[2] as usize);
+    let known = 1..=plan.size();
+    let good = known.contains(&from) && known.contains(&to) && from != to;
+    let arcs = if record[0] == JOB { &mut plan.job } else { &mut plan.extra };
+    arcs.insert((from, to));
+    good
+}
+
+fn spare_is_zero(record: &[u8]) -> bool {
+    let spare: &[usize] = match record[0] {
+        ACTIVITY => &[20, 21, 22, 23],
+        CREW => &[2, 3, 20, 21, 22, 23],
+        _ => return record[3..].iter().all(|&byte| byte == 0),
+    };
+    spare.iter().all(|&at| record[at] == 0)
+}
+
+fn two_bytes(record: &[u8], at: usize) -> u32 {
+    record[at] as u32 + 256 * record[at + 1] as u32
+}
+
+fn eight(record: &[u8]) -> [u32; 8] {
+    std::array::from_fn(|kind| two_bytes(record, 4 + 2 * kind))
+}

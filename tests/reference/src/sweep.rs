@@ -1,0 +1,138 @@
+//! Random plans small enough to try all subsets of.
+
+use crate::bench::Bench;
+use crate::bytes::{Activity, Arc, Sheet};
+use crate::model::{needs_by_subsets, ordered, Case, MOST_TRIED};
+use crate::random::Random;
+use crate::read::read;
+
+/// Of each type, so that 64 activities, the crew, both types and some repetitions stay within 2,048 records.
+const MOST_ARCS: usize = 980;
+
+pub fn random_plans(bench: &mut Bench, count: usize) {
+    for turn in 0..count {
+        let most = if turn % 8 == 0 { MOST_TRIED } else { 9 };
+        let size = bench.random.index(most + 1);
+        let mut sheet = random_sheet(&mut bench.random, size, u16::MAX);
+        if bench.random.percent(15) {
+            add_circle(&mut bench.random, &mut sheet);
+        }
+        crowd(&mut bench.random, &mut sheet);
+        let case = Case::new(sheet.bytes());
+        bench.all(&case);
+        equal_flows(bench, &sheet);
+    }
+}
+
+/// Demands go up to `most`; arcs run forward in a random order of the activities, so that their
+/// numbers say nothing, and some are repeated, in the same type or in the other.
+pub fn random_sheet(random: &mut Random, size: usize, most: u16) -> Sheet {
+    let kinds = random.between(1, 8) as u8;
+    let highest = random.pick(&[1, 3, 10, most]);
+    let idle = random.pick(&[0, 20, 60]);
+    let activities = (0..size).map(|_| random_activity(random, kinds, highest, idle)).collect();
+    let mut line: Vec<u8> = (1..=size as u8).collect();
+    random.shuffle(&mut line);
+    let mut job = random_arcs(random, &line);
+    let mut extra = random_arcs(random, &line);
+    repeat_some(random, &mut job, &mut extra);
+    Sheet { activities, kinds, available: [0; 8], job, extra }
+}
+
+fn random_activity(random: &mut Random, kinds: u8, highest: u16, idle: u64) -> Activity {
+    let duration = random.pick(&[1, 1, 2, 3, 7, 255, 256, 65_535]);
+    let mut demands = [0; 8];
+    for demand in &mut demands[..kinds as usize] {
+        *demand = if random.percent(idle) { 0 } else { random.between(0, highest as u64) as u16 };
+    }
+    Activity { duration, demands }
+}
+
+fn random_arcs(random: &mut Random, line: &[u8]) -> Vec<Arc> {
+    let density = random.pick(&[0, 3, 10, 25, 60]);
+    let pairs = (0..line.len()).flat_map(|from| (from + 1..line.len()).map(move |to| (from, to)));
+    let mut arcs: Vec<Arc> = Vec::new();
+    for (from, to) in pairs {
+        if random.percent(density) {
+            arcs.push((line[from], line[to]));
+        }
+    }
+    random.shuffle(&mut arcs);
+    arcs.truncate(MOST_ARCS);
+    arcs
+}
+
+fn repeat_some(random: &mut Random, job: &mut Vec<Arc>, extra: &mut Vec<Arc>) {
+    for _ in 0..random.pick(&[0, 0, 1, 4]) {
+        let all = [job.as_slice(), extra.as_slice()].concat();
+        if !all.is_empty() {
+            let arc = random.pick(&all);
+            if random.percent(30) {
+                job.push(arc)
+            } else {
+                extra.push(arc)
+            }
+        }
+    }
+}
+
+/// Closes a circle round some activities, through job arcs alone or through both types.
+pub fn add_circle(random: &mut Random, sheet: &mut Sheet) {
+    let mut round: Vec<u8> = (1..=sheet.activities.len() as u8).collect();
+    random.shuffle(&mut round);
+    round.truncate(random.between(2, 4) as usize);
+    if round.len() < 2 {
+        return;
+    }
+    let in_job = random.percent(40);
+    for place in 0..round.len() {
+        let arc = (round[place], round[(place + 1) % round.len()]);
+        if in_job || random.percent(30) {
+            sheet.job.push(arc)
+        } else {
+            sheet.extra.push(arc)
+        }
+    }
+}
+
+/// Availabilities at the needs, one less and one more, and at both ends of what a file can say.
+fn crowd(random: &mut Random, sheet: &mut Sheet) {
+    let plan = read(&sheet.bytes()).unwrap_or_else(|refusal| panic!("a built plan is refused: {refusal:?}"));
+    let needs = match ordered(&plan) {
+        Ok(order) => needs_by_subsets(&plan, &order).iter().map(|need| need.units).collect(),
+        Err(_) => vec![1; plan.kinds],
+    };
+    sheet.available = around(random, &needs);
+}
+
+pub fn around(random: &mut Random, needs: &[u32]) -> [u16; 8] {
+    let generous = random.percent(65);
+    let mut available = [0; 8];
+    for (kind, &need) in needs.iter().enumerate() {
+        let above = [need, need, need + 1, need + random.below(9) as u32, 65_535];
+        let any = [need, need, need + 1, need.saturating_sub(1), 0];
+        let chosen = if generous { random.pick(&above) } else { random.pick(&any) };
+        available[kind] = chosen.min(65_535) as u16;
+    }
+    available
+}
+
+/// The same arcs in another order and number, job and extra arcs apart, must give the same flows.
+pub fn equal_flows(bench: &mut Bench, sheet: &Sheet) {
+    let mut other = sheet.clone();
+    for arcs in [&mut other.job, &mut other.extra] {
+        if !arcs.is_empty() && bench.random.percent(70) {
+            arcs.push(bench.random.pick(arcs));
+        }
+        bench.random.shuffle(arcs);
+    }
+    let lent = vec![0xA7; 24 * 2145];
+    let (file, twin) = (sheet.bytes(), other.bytes());
+    for kind in 1..=sheet.kinds as u64 {
+        let (one, two) = (bench.desk.flow(&file, kind, &lent), bench.desk.flow(&twin, kind, &lent));
+        // Only accepted plans have flows; the rest is compared elsewhere.
+        let equal = one.answer & 255 != 0 || (one.answer, one.after) == (two.answer, two.after);
+        let outcome = if equal { Ok(()) } else { Err(format!("kind {kind}: another flow after reordering arcs")) };
+        bench.tally.count(&file, "Flow of equal plans", outcome);
+    }
+}
