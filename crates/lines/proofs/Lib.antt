@@ -1,0 +1,3 @@
+-- Laws of text. Assumes nothing.
+pub mod Decimals
+pub mod Texts
