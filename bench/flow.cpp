@@ -3,70 +3,23 @@
 //   flow --lemon-flow the same, with LEMON's run() (which also finds the flow) in place of runMinCut() (only the value and a cut)
 //   flow --ours F K   only the proved function, once on each of the first K plans of the family F (0 to 13): for valgrind
 //   flow --plan F S   only checks the plan with the seed S of the family F: for a seed that a mismatch has printed
-#include <algorithm>
-#include <array>
-#include <chrono>
-#include <cstdint>
+#include "families.h"
+#include "network.h"
+#include "turns.h"
+
 #include <cstdio>
 #include <cstdlib>
 #include <cstring>
-#include <malloc.h>
-#include <numeric>
 #include <string>
-#include <utility>
-#include <vector>
-
-#define LEMON_ONLY_TEMPLATES // LEMON's headers alone: its constants are then known to the compiler, and nothing is to be linked.
-#include <lemon/preflow.h>
-#include <lemon/static_graph.h>
 
 #include <boost/graph/adjacency_list.hpp>
 #include <boost/graph/push_relabel_max_flow.hpp>
 
 extern "C" uint32_t yaffledesk_quote(const uint64_t arcs[64], const uint32_t demand[64], uint32_t flow[4096], uint64_t *set);
 
-constexpr int N = 64;
-constexpr int PLANS = 1000, REPETITIONS = 5, TRIES = 3;
-constexpr double WANTED = 4, SILLY = 1.25;
-constexpr uint64_t SEED = 20241115;
-using Rows = std::array<uint64_t, N>;
-using Demand = std::array<uint32_t, N>;
+constexpr double WANTED = 4;
 
 // ---- The plans ----
-
-// SplitMix64, and not a generator of the library: the same plans with every compiler.
-struct Random {
-    uint64_t state;
-    uint64_t next() {
-        uint64_t z = (state += 0x9e3779b97f4a7c15u);
-        z = (z ^ (z >> 30)) * 0xbf58476d1ce4e5b9u;
-        z = (z ^ (z >> 27)) * 0x94d049bb133111ebu;
-        return z ^ (z >> 31);
-    }
-    uint32_t below(uint32_t n) { return uint32_t(((next() >> 32) * n) >> 32); }
-    std::array<int, N> permutation() {
-        std::array<int, N> p;
-        std::iota(p.begin(), p.end(), 0);
-        for (int i = N - 1; i > 0; i--) std::swap(p[i], p[below(i + 1)]);
-        return p;
-    }
-};
-
-enum Kind { ACYCLIC, LAYERS, PLANE };
-struct Family {
-    const char *name;
-    Kind kind;
-    uint32_t permille;
-    uint32_t demands; // each demand is below this
-};
-const Family FAMILIES[] = {
-    {"acyclic 0.5 %", ACYCLIC, 5, 65536}, {"acyclic 2 %", ACYCLIC, 20, 65536},   {"acyclic 5 %", ACYCLIC, 50, 65536},
-    {"acyclic 15 %", ACYCLIC, 150, 65536}, {"acyclic 50 %", ACYCLIC, 500, 65536}, {"four layers 20 %", LAYERS, 200, 65536},
-    {"two dimensions", PLANE, 0, 65536},   {"acyclic 0.5 %", ACYCLIC, 5, 4},      {"acyclic 2 %", ACYCLIC, 20, 4},
-    {"acyclic 5 %", ACYCLIC, 50, 4},       {"acyclic 15 %", ACYCLIC, 150, 4},     {"acyclic 50 %", ACYCLIC, 500, 4},
-    {"four layers 20 %", LAYERS, 200, 4},  {"two dimensions", PLANE, 0, 4},
-};
-constexpr int COUNT = sizeof FAMILIES / sizeof *FAMILIES;
 
 struct Plan {
     uint64_t seed;
@@ -76,22 +29,9 @@ struct Plan {
 
 Plan plan_of(const Family &family, uint64_t seed) {
     Random random{seed};
-    Plan plan{seed, {}, {}};
-    const auto p = random.permutation(), q = random.permutation();
-    for (int i = 0; i < N; i++)
-        for (int j = 0; j < N; j++) {
-            bool arc = false;
-            switch (family.kind) {
-            case ACYCLIC: arc = p[i] < p[j] && random.below(1000) < family.permille; break;
-            case LAYERS: arc = p[i] / 16 + 1 == p[j] / 16 && random.below(1000) < family.permille; break;
-            case PLANE: arc = p[i] < p[j] && q[i] < q[j]; break;
-            }
-            plan.rows[i] |= uint64_t(arc) << j;
-        }
-    for (int k = 0; k < N; k++)
-        for (int i = 0; i < N; i++)
-            if (plan.rows[i] >> k & 1) plan.rows[i] |= plan.rows[k];
-    for (uint32_t &d : plan.demand) d = random.below(family.demands);
+    Plan plan{seed, arcs_of(family, random), {}};
+    close_order(plan.rows);
+    plan.demand = demand_of(family.demands, random);
     return plan;
 }
 
@@ -113,36 +53,7 @@ struct Answer {
 
 uint32_t ours(const Plan &plan) { return yaffledesk_quote(plan.rows.data(), plan.demand.data(), answer.flow, &answer.set); }
 
-uint32_t sum(const Demand &demand) { return std::accumulate(demand.begin(), demand.end(), 0u); }
-
-// The network's nodes: the source, the left copies, the right copies, the sink.
-constexpr int SOURCE = 0, LEFT = 1, RIGHT = 1 + N, SINK = 1 + 2 * N, NODES = 2 + 2 * N;
-
-// StaticDigraph was the fastest of LEMON's graphs in every family (ListDigraph and SmartDigraph with reserved space were tried), and the default
-// elevator the faster one. Its arcs have to come sorted by their first node. "Infinite" is the sum of the demands.
-template <bool FLOW> uint32_t lemon_need(const Plan &plan) {
-    using Graph = lemon::StaticDigraph;
-    using Map = Graph::ArcMap<int>;
-    size_t size = 2 * N;
-    for (uint64_t row : plan.rows) size += __builtin_popcountll(row);
-    std::vector<std::pair<int, int>> arcs;
-    arcs.reserve(size);
-    for (int i = 0; i < N; i++) arcs.emplace_back(SOURCE, LEFT + i);
-    for (int i = 0; i < N; i++)
-        for (uint64_t row = plan.rows[i]; row != 0; row &= row - 1) arcs.emplace_back(LEFT + i, RIGHT + __builtin_ctzll(row));
-    for (int j = 0; j < N; j++) arcs.emplace_back(RIGHT + j, SINK);
-    Graph graph;
-    graph.build(NODES, arcs.begin(), arcs.end());
-    const uint32_t all = sum(plan.demand);
-    Map capacity(graph, int(all));
-    for (int i = 0; i < N; i++) {
-        capacity[Graph::arc(i)] = int(plan.demand[i]);
-        capacity[Graph::arc(int(size) - N + i)] = int(plan.demand[i]);
-    }
-    lemon::Preflow<Graph, Map> preflow(graph, capacity, Graph::node(SOURCE), Graph::node(SINK));
-    FLOW ? preflow.run() : preflow.runMinCut();
-    return all - uint32_t(preflow.flowValue());
-}
+template <bool FLOW> uint32_t by_lemon(const Plan &plan) { return lemon_need<FLOW>(plan.rows.data(), plan.demand.data()); }
 
 // As the documentation of push_relabel_max_flow has it: each arc with its reverse, of capacity 0.
 uint32_t boost_need(const Plan &plan) {
@@ -210,11 +121,6 @@ void check(int family, const Plan &plan, uint32_t need, uint32_t lemon, uint32_t
 using Need = uint32_t (*)(const Plan &);
 constexpr int OURS = 0, LEMON = 1, BOOST = 2, CONTESTANTS = 3;
 
-double median(std::vector<double> a) {
-    std::nth_element(a.begin(), a.begin() + a.size() / 2, a.end());
-    return a[a.size() / 2];
-}
-
 struct Measured {
     std::vector<double> time[CONTESTANTS], ratio; // for each plan: the least of its repetitions, in microseconds; the faster library's over ours
     double spread;                                // of the median ratios of the ten tenths of the plans, the largest over the least
@@ -230,26 +136,18 @@ Measured measure(int family, const std::vector<Plan> &plans, const Need contesta
         uint32_t need[CONTESTANTS][REPETITIONS];
         std::memset(&answer, 0xff, sizeof answer); // An answer that is not written is not to pass as the one before.
         for (int c = 0; c < CONTESTANTS; c++) {
-            least[c] = 1e9;
-            for (int r = 0; r < REPETITIONS; r++) {
-                const auto from = std::chrono::steady_clock::now();
-                need[c][r] = contestants[c](plan);
-                const auto to = std::chrono::steady_clock::now();
-                least[c] = std::min(least[c], std::chrono::duration<double, std::micro>(to - from).count());
-            }
+            least[c] = least_time([&](int r) { need[c][r] = contestants[c](plan); });
             m.time[c].push_back(least[c]);
         }
         m.ratio.push_back(std::min(least[LEMON], least[BOOST]) / least[OURS]);
         for (int r = 0; r < REPETITIONS; r++) check(family, plan, need[OURS][r], need[LEMON][r], need[BOOST][r]);
     }
-    std::vector<double> tenths;
-    for (auto at = m.ratio.begin(); at != m.ratio.end(); at += PLANS / 10) tenths.push_back(median({at, at + PLANS / 10}));
-    m.spread = *std::max_element(tenths.begin(), tenths.end()) / *std::min_element(tenths.begin(), tenths.end());
+    m.spread = spread_of(m.ratio);
     return m;
 }
 
 int bench(bool lemon_flow) {
-    const Need contestants[CONTESTANTS] = {ours, lemon_flow ? lemon_need<true> : lemon_need<false>, boost_need};
+    const Need contestants[CONTESTANTS] = {ours, lemon_flow ? by_lemon<true> : by_lemon<false>, boost_need};
     std::printf("seed %llu, %d plans to a family, least of %d repetitions, medians in microseconds; LEMON: StaticDigraph, %s\n\n",
                 (unsigned long long)SEED, PLANS, REPETITIONS, lemon_flow ? "run()" : "runMinCut()");
     std::printf("| order            | demands  |   ours |  LEMON |  Boost | ratio, median | ratio of medians | spread |\n");
@@ -257,12 +155,8 @@ int bench(bool lemon_flow) {
     double least = 1e9;
     for (int f = 0; f < COUNT; f++) {
         const auto plans = plans_of(f, PLANS);
-        Measured m = measure(f, plans, contestants);
-        int tries = 1;
-        for (; m.spread > SILLY && tries < TRIES; tries++) { // A family that was disturbed is measured again, and the calmest measurement counts.
-            Measured again = measure(f, plans, contestants);
-            if (again.spread < m.spread) m = std::move(again);
-        }
+        int tries;
+        const Measured m = calmest([&] { return measure(f, plans, contestants); }, tries);
         const double a = median(m.time[OURS]), b = median(m.time[LEMON]), c = median(m.time[BOOST]);
         const double each = median(m.ratio), all = std::min(b, c) / a;
         least = std::min({least, each, all});
@@ -277,9 +171,7 @@ int bench(bool lemon_flow) {
 }
 
 int main(int argc, char **argv) {
-    // Memory that is given back to the kernel and asked for again would cost the libraries time that is not theirs.
-    mallopt(M_TRIM_THRESHOLD, 1 << 28);
-    mallopt(M_MMAP_THRESHOLD, 1 << 28);
+    keep_memory();
     const std::string mode = argc > 1 ? argv[1] : "";
     if (argc == 1 || (argc == 2 && mode == "--lemon-flow")) return bench(argc == 2);
     const int family = argc == 4 ? std::atoi(argv[2]) : -1;
@@ -290,7 +182,7 @@ int main(int argc, char **argv) {
     if (family >= 0 && family < COUNT && mode == "--plan") {
         const Plan plan = plan_of(FAMILIES[family], std::strtoull(argv[3], nullptr, 10));
         const uint32_t need = ours(plan);
-        check(family, plan, need, lemon_need<true>(plan), boost_need(plan));
+        check(family, plan, need, by_lemon<true>(plan), boost_need(plan));
         std::printf("need %u, checked\n", need);
         return 0;
     }

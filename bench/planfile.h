@@ -1,0 +1,123 @@
+// Plan files of the families: 64 activities, a crew record with 8 kinds, and the arcs of an order.
+#ifndef PLANFILE_H
+#define PLANFILE_H
+#include "families.h"
+
+#include <algorithm>
+#include <utility>
+#include <vector>
+
+constexpr int KINDS = 8, RECORD = 24, RECORDS = 2048, MOST_ARCS = RECORDS - N - 1;
+
+// With demands up to 65,535 the need would be far beyond 65,535, which is the most that a file can have available: every plan would be refused for
+// its first kind. All 64 demands of 1,023 are 65,472, so that every need can be met, and all 8 kinds are weighed.
+constexpr uint32_t DEMANDS = 1024;
+inline uint32_t demands(const Family &family) { return std::min(family.demands, DEMANDS); }
+
+using Arc = std::pair<int, int>;
+using Crew = std::array<uint32_t, KINDS>;
+
+struct PlanFile {
+    uint64_t seed;
+    Rows rows; // the plan order, closed
+    std::array<Demand, KINDS> demand;
+    Crew need, available;
+    std::vector<uint8_t> bytes;
+};
+
+template <class T> void shuffle(std::vector<T> &a, Random &random) {
+    for (size_t i = a.size(); i > 1; i--) std::swap(a[i - 1], a[random.below(uint32_t(i))]);
+}
+
+inline std::vector<Arc> pairs_of(const Rows &rows) {
+    std::vector<Arc> arcs;
+    for (int i = 0; i < N; i++)
+        for (uint64_t row = rows[i]; row != 0; row &= row - 1) arcs.emplace_back(i, __builtin_ctzll(row));
+    return arcs;
+}
+
+// The arcs that a file states: those that were drawn, and of the pairs that follow from them a share that is drawn for each file, from none to all, as
+// far as there is room. The order is the same whatever the share. Full: then any of them again, up to the 2,048 records of the longest file.
+inline std::vector<Arc> stated_arcs(const Family &family, bool full, Random &random) {
+    const Rows drawn = arcs_of(family, random);
+    Rows rest = drawn;
+    close_order(rest);
+    for (int i = 0; i < N; i++) rest[i] &= ~drawn[i];
+    std::vector<Arc> arcs = pairs_of(drawn);
+    const uint32_t share = random.below(1001);
+    for (const Arc &arc : pairs_of(rest))
+        if (random.below(1000) < share) arcs.push_back(arc);
+    if (arcs.size() > MOST_ARCS) arcs.resize(MOST_ARCS); // those that were drawn stand first, and never come near this
+    while (full && !arcs.empty() && arcs.size() < MOST_ARCS) arcs.push_back(arcs[random.below(uint32_t(arcs.size()))]);
+    shuffle(arcs, random);
+    return arcs;
+}
+
+inline void put_half(uint8_t *at, uint32_t value) { at[0] = uint8_t(value), at[1] = uint8_t(value >> 8); }
+
+// The crew record, in its place: once the needs are known, and again where they change.
+inline void put_crew(PlanFile &file) {
+    uint8_t *record = &file.bytes[N * RECORD];
+    record[0] = 2, record[1] = KINDS;
+    for (int k = 0; k < KINDS; k++) put_half(record + 4 + 2 * k, file.available[k]);
+}
+
+inline void put_activities(PlanFile &file, Random &random) {
+    for (int i = 0; i < N; i++) {
+        uint8_t *record = &file.bytes[i * RECORD];
+        record[0] = 1, record[1] = uint8_t(i + 1);
+        put_half(record + 2, 1 + random.below(65535));
+        for (int k = 0; k < KINDS; k++) put_half(record + 4 + 2 * k, file.demand[k][i]);
+    }
+}
+
+// About half of the arcs are job arcs, which stand before the extra ones.
+inline void put_arcs(PlanFile &file, std::vector<Arc> arcs, Random &random) {
+    const auto extra = std::partition(arcs.begin(), arcs.end(), [&](const Arc &) { return random.below(2) == 0; });
+    uint8_t *record = &file.bytes[(N + 1) * RECORD];
+    for (auto arc = arcs.begin(); arc != arcs.end(); ++arc, record += RECORD)
+        record[0] = arc < extra ? 3 : 4, record[1] = uint8_t(arc->first + 1), record[2] = uint8_t(arc->second + 1);
+}
+
+// Three plans of four are accepted: each kind has its need available, or up to a sixteenth more. In the fourth, one kind has less than its need.
+inline Crew available_for(const Crew &need, Random &random) {
+    Crew available;
+    for (int k = 0; k < KINDS; k++) available[k] = std::min(need[k] + random.below(need[k] / 16 + 1), 65535u);
+    const uint32_t k = random.below(KINDS);
+    if (random.below(4) == 0 && need[k] > 0) available[k] = random.below(need[k]);
+    return available;
+}
+
+// The order is that of flow.cpp's plan with the same seed. need_of finds the need of a kind: it gets the closed rows and the demands.
+template <class NeedOf> PlanFile file_of(const Family &family, uint64_t seed, bool full, NeedOf need_of) {
+    Random random{seed};
+    PlanFile file{seed, {}, {}, {}, {}, {}};
+    const std::vector<Arc> arcs = stated_arcs(family, full, random);
+    for (const Arc &arc : arcs) file.rows[arc.first] |= uint64_t(1) << arc.second;
+    close_order(file.rows);
+    file.bytes.resize((N + 1 + arcs.size()) * RECORD);
+    for (int k = 0; k < KINDS; k++) {
+        file.demand[k] = demand_of(demands(family), random);
+        file.need[k] = need_of(file.rows.data(), file.demand[k].data());
+    }
+    file.available = available_for(file.need, random);
+    put_activities(file, random);
+    put_crew(file);
+    put_arcs(file, arcs, random);
+    return file;
+}
+
+// A damaged copy: one byte of any value, an arc turned around, or the end cut off.
+inline std::vector<uint8_t> damaged(const PlanFile &file, Random &random) {
+    std::vector<uint8_t> bytes = file.bytes;
+    const uint32_t length = uint32_t(bytes.size()), arcs = length / RECORD - N - 1;
+    const uint32_t how = random.below(3);
+    if (how == 0) bytes[random.below(length)] = uint8_t(random.below(256));
+    if (how == 1 && arcs > 0) {
+        uint8_t *record = &bytes[(N + 1 + random.below(arcs)) * RECORD];
+        std::swap(record[1], record[2]);
+    }
+    if (how == 2) bytes.resize(random.below(2) == 0 ? random.below(length) : random.below(length / RECORD) * RECORD);
+    return bytes;
+}
+#endif
