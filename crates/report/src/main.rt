@@ -18,10 +18,17 @@ fn text_buffer() -> [u8; 131072]
     [0; 131072]
 }
 
+// A program has no exit status of its own in Rattle: that output is lost is said on standard error.
+fn print_text(text: &[u8]) {
+    if !io::write_all(1, text) {
+        io::write_all(2, b"report: the output cannot be written\n");
+    }
+}
+
 fn print_refusal(c: Cause) {
     let mut out = io::buffer();
     let n = refusal::refused_text(&mut out, c);
-    io::write_all(1, &out[..n]);
+    print_text(&out[..n]);
 }
 
 fn print_head(s: &[u8], m: usize, n: usize)
@@ -36,7 +43,7 @@ fn print_head(s: &[u8], m: usize, n: usize)
     let available = q.available;
     let mut out = io::buffer();
     let end = head::head_text(&mut out, m, n, &needs, &available, &starts);
-    io::write_all(1, &out[..end]);
+    print_text(&out[..end]);
 }
 
 fn print_flow(s: &[u8], kind: usize) {
@@ -46,7 +53,7 @@ fn print_flow(s: &[u8], kind: usize) {
         Output::Written(n) => {
             let mut out = text_buffer();
             let end = flows::flow_text(&mut out, &records, n);
-            io::write_all(1, &out[..end]);
+            print_text(&out[..end]);
         }
         Output::Refused(c) => print_refusal(c),
     }
