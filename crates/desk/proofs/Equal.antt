@@ -1,20 +1,20 @@
 -- "plans with the same activities, crew, set of job arcs and set of extra arcs get equal flows" (01, Flow), and equal verdicts and needs.
 -- Assumes nothing.
-use mathlib.Core.Path.{_≡_, refl, sym, ap, _∙_}
+use mathlib.Core.Path.{_≡_, sym, ap, _∙_}
 use mathlib.Core.Bool.{true, not}
 use mathlib.Core.List.{List}
 use mathlib.Core.Logic.{_↔_, Iff·trans, Iff·symm, by-cases}
-use Prim.Native.Nat.{ℕ, zero, suc, _+_, _-_, _*_, _≤_, _<_}
+use Prim.Native.Nat.{ℕ, _+_, _-_, _*_, _<_}
 use native.Mathlib.Decide.{decLt}
 use native.Mathlib.Omega.{arith}
 use lib.Dec.{ltb, leb}
-use lib.ListN.{length, take}
-use lib.Seq.{getD-take}
+use lib.ListN.{length}
 use borrow.Author.Tests.{leb-true}
 use Rattle.words.specs.Tables.{table}
-use Rattle.words.proofs.Tables.{length-table, getD-table, is-table}
+use Rattle.words.proofs.Tables.{table-same}
+use Rattle.records.proofs.Fields.{field-same, byte-same}
 use Rattle.words.proofs.Tests.{test-same, and-right, ⊎-iff}
-use Rattle.records.specs.Bytes.{byte, field}
+use Rattle.records.specs.Bytes.{field}
 use Rattle.order.specs.Orders.{Direct}
 use Rattle.order.specs.Rows.{after}
 use Rattle.order.proofs.Orders.{direct-same}
@@ -39,26 +39,6 @@ use Rattle.desk.proofs.Faults.{readable-fault}
 use Rattle.desk.proofs.Handing.{flow-fine}
 
 -- ---- lists
-
--- a table goes by its elements
-table-same : (n : ℕ) (f g : ℕ → ℕ) → ((i : ℕ) → i < n → f i ≡ g i) → table n f ≡ table n g
-table-same n f g same = is-table n g (table n f) 0 (length-table n f) (λ i h. getD-table n f i 0 h ∙ same i h)
-
--- a field is one of the bytes that it is within
-field-take : (m : ℕ) (l : List ℕ) (i n : ℕ) → i + n ≤ m → field (take m l) i n ≡ field l i n
-unfolding field
-field-take m l i zero h = refl
-field-take m l i (suc n) h =
-    let b : byte (take m l) i ≡ byte l i = getD-take m l i 0 (omega arith) in
-    let f : field (take m l) (i + 1) n ≡ field l (i + 1) n = field-take m l (i + 1) n (omega arith) in
-    rw (b, f)
-
--- records of the same 24 bytes have the same fields
-field-same : (l r : List ℕ) → take 24 l ≡ take 24 r → (i n : ℕ) → i + n ≤ 24 → field l i n ≡ field r i n
-field-same l r e i n h = sym (field-take 24 l i n h) ∙ ap (λ (x : List ℕ). field x i n) e ∙ field-take 24 r i n h
-
-byte-same : (l r : List ℕ) → take 24 l ≡ take 24 r → (i : ℕ) → i < 24 → byte l i ≡ byte r i
-byte-same l r e i h = sym (getD-take 24 l i 0 h) ∙ ap (λ (x : List ℕ). byte x i) e ∙ getD-take 24 r i 0 h
 
 -- ---- FILES THAT SAY THE SAME PLAN
 
@@ -101,7 +81,7 @@ module _ (s t : List ℕ) (e : Readable s) (f : Readable t) (same : SamePlan s t
       (λ l. said-in s e .no-demand k i hk (omega arith) h ∙ sym (said-in t f .no-demand k i hk (omega (arith, counts)) h))
     where
       demanded : i < planIn s .count → field (recordAt s i) (4 + 2 * k) 2 ≡ field (recordAt t i) (4 + 2 * k) 2
-      demanded l = field-same (recordAt s i) (recordAt t i) (same .activities i (omega (arith, count-in s e))) (4 + 2 * k) 2 (omega arith)
+      demanded l = field-same 24 (recordAt s i) (recordAt t i) (same .activities i (omega (arith, count-in s e))) (4 + 2 * k) 2 (omega arith)
 
   demands : (k : ℕ) → k < 8 → demandsFor (planIn s .demand) k ≡ demandsFor (planIn t .demand) k
   unfolding demandsFor
@@ -113,12 +93,12 @@ module _ (s t : List ℕ) (e : Readable s) (f : Readable t) (same : SamePlan s t
       let d = recordAt t (activityCount t) in
       record {
         count = counts;
-        kinds = kinds-in s e ∙ byte-same c d (same .crew) 1 (omega arith) ∙ sym (kinds-in t f);
+        kinds = kinds-in s e ∙ byte-same 24 c d (same .crew) 1 (omega arith) ∙ sym (kinds-in t f);
         few = said-in s e .few;
         few-kinds = kinds-few s;
         order = plan-orders;
         demand = demands;
-        available = λ k h. available-in s e k h ∙ field-same c d (same .crew) (4 + 2 * k) 2 (omega arith) ∙ sym (available-in t f k h);
+        available = λ k h. available-in s e k h ∙ field-same 24 c d (same .crew) (4 + 2 * k) 2 (omega arith) ∙ sym (available-in t f k h);
         drawn = drawn;
       }
 

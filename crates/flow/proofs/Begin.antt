@@ -1,21 +1,22 @@
 -- Where the solver starts: nothing is handed over, and all demands are left. Assumes nothing.
 use mathlib.Core.Path.{_≡_, ap, _∙_}
+use mathlib.Core.Bool.{cond}
 use mathlib.Core.List.{List}
-use mathlib.Core.Logic.{⊎-elim, by-cases}
-use Prim.Native.Nat.{ℕ, zero, suc, _≤_, _<_}
-use native.Mathlib.Decide.{decLt}
+use Prim.Native.Nat.{ℕ, _<_}
 use native.Mathlib.Omega.{arith}
-use lib.ListN.{List·getD-eq-default, getD, getD-replicate, length, length-replicate, length-set}
-use lib.Seq.{getD-set-other, getD-set-same}
+use lib.Dec.{ltb}
+use lib.ListN.{getD, getD-replicate, length, length-replicate}
+use borrow.Author.Tests.{lt-ltb}
 use Rattle.words.specs.Bits.{digit}
-use Rattle.words.specs.Loops.{upto}
+use Rattle.words.specs.Tables.{table}
 use Rattle.words.proofs.Bits.{digit-none}
 use Rattle.words.proofs.Sums.{sum-zero}
-use Rattle.words.proofs.Tests.{same-or-not}
+use Rattle.words.proofs.Tables.{getD-table, getD-zeros, length-table, stored}
+use Rattle.words.proofs.Tests.{cond-true}
 use Rattle.flow_math.specs.Handover.{col, row}
 use Rattle.flow.specs.Network.{cell, handed}
 use Rattle.flow.specs.Solve.{blanks}
-use Rattle.flow.specs.Quote.{copied, copying, untouched, unused}
+use Rattle.flow.specs.Quote.{copied, untouched, unused}
 use Rattle.flow.proofs.Consistent.{Consistent}
 
 unused-long : length unused ≡ 4096
@@ -30,12 +31,9 @@ unused-at : (i j : ℕ) → i < 64 → j < 64 → handed unused i j ≡ 0
 unfolding unused
 unused-at i j hi hj = getD-replicate 4096 (cell i j) 0 0 (omega arith)
 
-blank-in : (j : ℕ) → j < 64 → getD (blanks 0) j 0 ≡ 0
-unfolding blanks
-blank-in j h = getD-replicate 64 j 0 0 h
-
 blank-word : (j : ℕ) → getD (blanks 0) j 0 ≡ 0
-blank-word j = by-cases (decLt j 64) (blank-in j) (λ h. List·getD-eq-default (blanks 0) 0 {n = j} (omega (arith, blank-long)))
+unfolding blanks
+blank-word j = getD-zeros 64 j
 
 blank-at : (j i : ℕ) → digit (getD (blanks 0) j 0) i ≡ 0
 blank-at j i = ap (λ (x : ℕ). digit x i) (blank-word j) ∙ digit-none i
@@ -48,28 +46,19 @@ unused-col : (j : ℕ) → j < 64 → col 64 (handed unused) j ≡ 0
 unfolding col
 unused-col j hj = sum-zero 64 (λ i. handed unused i j) (λ i hi. unused-at i j hi hj)
 
--- a copy of k entries
-copy-long : (a : List ℕ) (k : ℕ) → length (upto (copying a) k (blanks 0)) ≡ 64
-unfolding upto
-copy-long a zero = blank-long
-copy-long a (suc k) = length-set (upto (copying a) k (blanks 0)) k (getD a k 0) ∙ copy-long a k
-
-copy-at : (a : List ℕ) (k : ℕ) → k ≤ 64 → (i : ℕ) → i < k → getD (upto (copying a) k (blanks 0)) i 0 ≡ getD a i 0
-unfolding upto
-copy-at a zero h i l = absurd (omega arith)
-copy-at a (suc k) h i l =
-    ⊎-elim
-    (λ e. rw e (getD-set-same (upto (copying a) k (blanks 0)) k (getD a k 0) 0 (omega (arith, copy-long a k))))
-    (λ n. getD-set-other (upto (copying a) k (blanks 0)) k i (getD a k 0) 0 n ∙ copy-at a k (omega arith) i (omega arith))
-    (same-or-not i k)
+-- a copy of 64 entries
+copied-table : (a : List ℕ) → copied a ≡ table 64 (λ i. cond (ltb i 64) (getD a i 0) 0)
+unfolding copied blanks
+copied-table a = stored (λ i. getD a i 0) 64 64 (omega arith)
 
 copied-long : (a : List ℕ) → length (copied a) ≡ 64
-unfolding copied
-copied-long a = copy-long a 64
+copied-long a = ap length (copied-table a) ∙ length-table 64 (λ i. cond (ltb i 64) (getD a i 0) 0)
 
 copied-at : (a : List ℕ) (i : ℕ) → i < 64 → getD (copied a) i 0 ≡ getD a i 0
-unfolding copied
-copied-at a i h = copy-at a 64 (omega arith) i h
+copied-at a i h =
+    ap (λ (l : List ℕ). getD l i 0) (copied-table a)
+    ∙ getD-table 64 (λ i. cond (ltb i 64) (getD a i 0) 0) i 0 h
+    ∙ cond-true (getD a i 0) 0 (lt-ltb i 64 h)
 
 pub untouched-consistent : (rows demand : List ℕ) → Consistent (λ i. getD demand i 0) rows (untouched demand)
 untouched-consistent rows demand =

@@ -14,7 +14,7 @@ use Rattle.words.specs.Bits.{bit}
 use Rattle.words.specs.Tables.{table}
 use Rattle.words.proofs.Bits.{bit-zero}
 use Rattle.words.proofs.Tests.{by-test, cond-true, cond-false, cond-least, clash}
-use Rattle.words.proofs.Tables.{getD-table, length-table}
+use Rattle.words.proofs.Tables.{getD-table, length-table, getD-zeros}
 use Rattle.order.specs.Orders.{Direct}
 use Rattle.order.specs.Rows.{after}
 use Rattle.records.specs.Bytes.{byte, field, AreBytes}
@@ -26,7 +26,6 @@ use Rattle.plan.specs.Causes.{isReadable, recordsCause}
 use Rattle.plan.specs.Reads.{isLength, answerOf}
 use Rattle.plan.specs.Meaning.{Readable, ArcsOf, Said}
 use Rattle.plan.proofs.Facts.{activity-kept, ArcKept}
-use Rattle.plan.proofs.Stores.{getD-zeros}
 use Rattle.plan.proofs.Arcs.{arcs-skip, arcs-more, arcs-start, length-arcs, with-arc}
 use Rattle.plan.proofs.Parts.{Faultless, faultless, activity-typed, activity-fine, few, crew-fine, arc-fine, no-arc}
 

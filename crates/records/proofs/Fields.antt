@@ -1,11 +1,11 @@
 -- What is read of the bytes of a number, and that they are bytes. Assumes nothing.
-use mathlib.Core.Path.{_≡_, refl, ap, _∙_}
+use mathlib.Core.Path.{_≡_, refl, sym, ap, _∙_}
 use mathlib.Core.List.{List, [], _∷_, _++_}
 use Prim.Native.Nat.{ℕ, zero, suc, _+_, _*_, _/_, _%_, _^_, _≤_, _<_}
 use native.Mathlib.Omega.{arith}
 use native.Mathlib.Nat.{pow-zero, pow-suc, mod-lt, mod-add-div, div-lt-iff-lt-mul}
-use lib.ListN.{length, drop, replicate, List·getD-append}
-use lib.Seq.{getD-drop}
+use lib.ListN.{length, take, drop, replicate, List·getD-append}
+use lib.Seq.{getD-take, getD-drop}
 use Rattle.records.specs.Bytes.{byte, field, bytes, AreBytes}
 
 pub length-bytes : (n x : ℕ) → length (bytes n x) ≡ n
@@ -40,6 +40,22 @@ field-append l r i (suc n) h =
     let b : byte (l ++ r) i ≡ byte l i = List·getD-append l r 0 i (omega arith) in
     let f : field (l ++ r) (i + 1) n ≡ field l (i + 1) n = field-append l r (i + 1) n (omega arith) in
     rw (b, f)
+
+-- a field is one of the bytes that it is within
+pub field-take : (m : ℕ) (l : List ℕ) (i n : ℕ) → i + n ≤ m → field (take m l) i n ≡ field l i n
+unfolding field
+field-take m l i zero h = refl
+field-take m l i (suc n) h =
+    let b : byte (take m l) i ≡ byte l i = getD-take m l i 0 (omega arith) in
+    let f : field (take m l) (i + 1) n ≡ field l (i + 1) n = field-take m l (i + 1) n (omega arith) in
+    rw (b, f)
+
+-- lists that begin with the same m bytes have the same fields there
+pub field-same : (m : ℕ) (l r : List ℕ) → take m l ≡ take m r → (i n : ℕ) → i + n ≤ m → field l i n ≡ field r i n
+field-same m l r e i n h = sym (field-take m l i n h) ∙ ap (λ (x : List ℕ). field x i n) e ∙ field-take m r i n h
+
+pub byte-same : (m : ℕ) (l r : List ℕ) → take m l ≡ take m r → (i : ℕ) → i < m → byte l i ≡ byte r i
+byte-same m l r e i h = sym (getD-take m l i 0 h) ∙ ap (λ (x : List ℕ). byte x i) e ∙ getD-take m r i 0 h
 
 -- the field that the bytes of a number are is the number
 pub field-bytes : (n x : ℕ) (l : List ℕ) → x < 256 ^ n → field (bytes n x ++ l) 0 n ≡ x

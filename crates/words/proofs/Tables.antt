@@ -1,16 +1,19 @@
 -- Lists that are given by their elements. Assumes nothing.
 use mathlib.Core.Path.{_≡_, refl, sym, ap, _∙_}
+use mathlib.Core.Bool.{cond}
 use mathlib.Core.List.{List, _++_}
 use Prim.Native.Nat.{ℕ, zero, suc, _+_, _≤_, _<_}
 use native.Mathlib.Omega.{arith}
 use native.Mathlib.Nat.{zero-add}
 use native.Mathlib.Numerals.{add-one}
-use lib.ListN.{length, getD, set, drop, length-append, length-drop, length-set}
+use lib.Dec.{ltb}
+use lib.ListN.{length, getD, set, drop, replicate, length-append, length-drop, length-set, length-replicate}
 use lib.Seq.{ext-getD, getD-set-same, getD-set-other, paste-suc, length-take-le, take-length}
 use borrow.Author.Count.{below-more}
+use borrow.Author.Tests.{ltb-true, ltb-false}
 use Rattle.words.specs.Tables.{table, over}
 use Rattle.words.specs.Loops.{upto, update}
-use Rattle.words.proofs.Tests.{below-suc}
+use Rattle.words.proofs.Tests.{below-suc, by-test, cond-true, cond-false}
 
 pub length-table : {A : Type 0} (n : ℕ) (f : ℕ → A) → length (table n f) ≡ n
 unfolding table
@@ -78,3 +81,43 @@ pub updated : (f : ℕ → ℕ → ℕ) (n : ℕ) (old : List ℕ) → length ol
 updated f n old e =
     let u = updating f old n (omega arith) in
     is-table n (λ i. f i (getD old i 0)) (upto (update f) n old) 0 (u .long ∙ e) (u .done)
+
+-- tables of the same elements
+pub table-same : (n : ℕ) (f g : ℕ → ℕ) → ((i : ℕ) → i < n → f i ≡ g i) → table n f ≡ table n g
+table-same n f g same = is-table n g (table n f) 0 (length-table n f) (λ i h. getD-table n f i 0 h ∙ same i h)
+
+-- zeros, also past the end
+pub getD-zeros : (n i : ℕ) → getD {A = ℕ} (replicate n 0) i 0 ≡ 0
+getD-zeros zero i = refl
+getD-zeros (suc n) zero = refl
+getD-zeros (suc n) (suc i) = getD-zeros n i
+
+-- ---- a list of n zeros, into which a loop stores f 0, f 1, .., f (i - 1) at the start
+
+record Storing (f : ℕ → ℕ) (n i : ℕ) (now : List ℕ) : Type 0 where
+  long : length now ≡ n
+  done : (k : ℕ) → k < i → getD now k 0 ≡ f k
+  left : (k : ℕ) → i ≤ k → getD now k 0 ≡ 0
+
+storing : (f : ℕ → ℕ) (n i : ℕ) → i ≤ n → Storing f n i (upto (λ k l. set l k (f k)) i (replicate n 0))
+unfolding upto
+storing f n zero h = record { long = length-replicate {A = ℕ} n 0; done = λ k l. absurd (omega arith); left = λ k l. getD-zeros n k }
+storing f n (suc i) h = go (upto (λ k l. set l k (f k)) i (replicate n 0)) (storing f n i (omega arith))
+  where
+    go : (now : List ℕ) → Storing f n i now → Storing f n (suc i) (set now i (f i))
+    go now u =
+        record {
+          long = length-set now i (f i) ∙ u .long;
+          done =
+              below-suc (λ k. getD (set now i (f i)) k 0 ≡ f k) i
+              (λ k m. getD-set-other now i k (f i) 0 (omega arith) ∙ u .done k m)
+              (getD-set-same now i (f i) 0 (omega (arith, u .long)));
+          left = λ k m. getD-set-other now i k (f i) 0 (omega arith) ∙ u .left k (omega arith);
+        }
+
+-- it is the table of f up to i, and of zeros from there on
+pub stored : (f : ℕ → ℕ) (n i : ℕ) → i ≤ n → upto (λ k l. set l k (f k)) i (replicate n 0) ≡ table n (λ k. cond (ltb k i) (f k) 0)
+stored f n i h =
+    let u = storing f n i h in
+    is-table n (λ k. cond (ltb k i) (f k) 0) (upto (λ k l. set l k (f k)) i (replicate n 0)) 0 (u .long)
+    (λ k l. by-test (ltb k i) (λ t. u .done k (ltb-true k i t) ∙ sym (cond-true (f k) 0 t)) (λ t. u .left k (ltb-false k i t) ∙ sym (cond-false (f k) 0 t)))
