@@ -2,8 +2,7 @@
 use mathlib.Core.Path.{_≡_, sym, ap, _∙_}
 use mathlib.Core.Bool.{Bool, true, false, not}
 use mathlib.Core.List.{List}
-use Prim.Native.Nat.{ℕ, _+_, _-_, _*_, _≤_, _<_}
-use native.Mathlib.Nat.{mul-le-mul}
+use Prim.Native.Nat.{ℕ, _+_, _-_, _≤_, _<_}
 use native.Mathlib.Omega.{arith}
 use lib.Dec.{ltb, leb}
 use lib.ListN.{length, getD}
@@ -53,12 +52,6 @@ module _ (kind n : ℕ) where
 pub length-none : (m : ℕ) → m ≡ 0 → 24 ≡ flowLength m
 unfolding flowLength
 length-none m e = rw e
-
--- of at most 64 elements the pairs are few
-pub pairs-few : (m : ℕ) → m ≤ 64 → m * (m - 1) ≤ 64 * 63
-pairs-few m h =
-    let l : m - 1 ≤ 63 = omega arith in
-    mul-le-mul h l
 
 -- ---- when Flow goes on
 

@@ -35,12 +35,14 @@ use Rattle.desk.proofs.Opening.{plan-in, opens-readable, count-few}
 use Rattle.desk.proofs.Meaning.{opens-strict}
 use Rattle.desk.proofs.Weighing.{sound-in, need-quoted, demand-small}
 
--- at most 64 elements: at most 2145 pairs of nodes
-pairs-room : (m : ℕ) → m ≤ 64 → m * (m - 1) / 2 + 2 * m + 1 ≤ 2145
-pairs-room m h =
+-- of at most 64 elements the pairs are few, and those of nodes are at most 2145
+pub pairs-few : (m : ℕ) → m ≤ 64 → m * (m - 1) ≤ 64 * 63
+pairs-few m h =
     let l : m - 1 ≤ 63 = omega arith in
-    let p : m * (m - 1) ≤ 64 * 63 = mul-le-mul h l in
-    omega arith
+    mul-le-mul h l
+
+pairs-room : (m : ℕ) → m ≤ 64 → m * (m - 1) / 2 + 2 * m + 1 ≤ 2145
+pairs-room m h = omega (arith, pairs-few m h)
 
 -- the units of kind k as the code has them
 abbrev pub codedUnits : List ℕ → ℕ → ℕ → ℕ → ℕ

@@ -44,8 +44,8 @@ use Rattle.desk.proofs.Weighing.{count-in, kinds-in, quotable, need-quo
 use Rattle.desk.proofs.Quoting.{need-some, need-every, crew-none, crew-some}
 use Rattle.desk.proofs.Passing.{flow-said}
 use Rattle.desk.proofs.Flowing.{file-flow, file-unused}
-use Rattle.desk.proofs.Handing.{flow-fine, fine-flow}
-use Rattle.desk.proofs.Showing.{few, needs-answers, need-written, quoted-is, over-when, over-kind, over-below, shown, enough-not, not-enough}
+use Rattle.desk.proofs.Handing.{flow-fine, fine-flow, not-over}
+use Rattle.desk.proofs.Showing.{few, needs-answers, need-written, quoted-is, over-when, over-kind, over-below, shown, enough-not}
 
 -- ---- answers and causes
 
@@ -227,7 +227,7 @@ module _ (s : List ℕ) (small : AreBytes s) (o : Opens s) where
 
     meets : FileFlow s k (unitsRead n (flowOut s (k + 1) out))
     meets =
-        file-flow s small o k (few s small o kind-there .1) (not-enough s small o (went .3) k kind-there) (unitsRead n (flowOut s (k + 1) out)) units-said
+        file-flow s small o k (few s small o kind-there .1) (not-over s (went .3) k (few s small o kind-there .0)) (unitsRead n (flowOut s (k + 1) out)) units-said
 
     unused : unitsRead n (flowOut s (k + 1) out) 0 (activityCount s + 1) ≡ fileAvailable s k - quotedNeed s k
     unused =

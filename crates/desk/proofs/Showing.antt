@@ -3,7 +3,6 @@ use mathlib.Core.Path.{_≡_, refl, sym, ap, _∙_}
 use mathlib.Core.Bool.{true, false}
 use mathlib.Core.List.{List}
 use Prim.Native.Nat.{ℕ, _+_, _≤_, _<_}
-use native.Mathlib.Decide.{decLe}
 use native.Mathlib.Omega.{arith}
 use lib.Dec.{ltb}
 use lib.ListN.{length, getD, drop, replicate, length-replicate, List·getD-append}
@@ -12,7 +11,7 @@ use Rattle.words.specs.Bits.{bit}
 use Rattle.words.specs.Members.{count}
 use Rattle.words.proofs.Firsts.{first-below, at-first, before-first}
 use Rattle.words.proofs.Tables.{getD-table, length-table}
-use Rattle.words.proofs.Tests.{by-test, clash}
+use Rattle.words.proofs.Tests.{by-test}
 use Rattle.records.specs.Bytes.{AreBytes}
 use Rattle.plan.specs.Meaning.{Readable}
 use Rattle.desk.specs.Open.{planIn, faultOf, Opens}
@@ -111,16 +110,9 @@ module _ (s : List ℕ) (small : AreBytes s) (o : Opens s) where
           size-is = refl;
         }
 
-  -- enough is available of every kind exactly where the plan is not overloaded
+  -- where enough is available of every kind, the plan is not overloaded
   pub enough-not : Enough s → isOverloaded (planIn s) ≡ false
   enough-not en =
       by-test (isOverloaded (planIn s))
       (λ t. let x = over-kind t in absurd (omega (arith, x .1, en (overKind (planIn s)) (x .0))))
       (λ t. t)
-
-  pub not-enough : isOverloaded (planIn s) ≡ false → (k : ℕ) → k < fileKinds s → needFor (planIn s) k ≤ availableFor (planIn s) k
-  not-enough e k h = go (decLe (needFor (planIn s) k) (availableFor (planIn s) k))
-    where
-      go : Dec (needFor (planIn s) k ≤ availableFor (planIn s) k) → needFor (planIn s) k ≤ availableFor (planIn s) k
-      go (yes l) = l
-      go (no l) = let w = over-at k h in clash (over-when k (h, omega (arith, l, w .0, w .1))) e

@@ -1,7 +1,8 @@
 -- `desk::handover::flow_length` meets its contract, by whether there are activities. Assumes nothing.
 use native.Mathlib.Omega.{arith}
 use Rattle.desk.specs.Flow.{flowLength}
-use Rattle.desk.proofs.Handing.{length-none, pairs-few}
+use Rattle.desk.proofs.Handing.{length-none}
+use Rattle.desk.proofs.Passing.{pairs-few}
 use borrow.Author.Needs.{needs}
 use Rattle.desk.proofs.handover.flow_length.Statement.{statement}
 use Rattle.desk.proofs.handover.flow_length.Tie as tie
