@@ -50,8 +50,8 @@ use Rattle.desk.specs.declared.Fault.the-variants.{Fine, Refused}
 use Rattle.desk.proofs.Turns.{cause-fine}
 use Rattle.desk.proofs.Opening.{count-few}
 use Rattle.desk.proofs.Weighing.{kinds-few, need-quoted, quotable, over-below}
-use Rattle.desk.proofs.Passing.{count-room}
-use Rattle.desk.proofs.Handing.{kind-within, pairs-few, flow-fine, not-over}
+use Rattle.desk.proofs.Passing.{count-room, pairs-few}
+use Rattle.desk.proofs.Handing.{kind-within, flow-fine, not-over}
 use Rattle.desk.proofs.Checking.{crew-fine}
 use Rattle.counter.specs.Codes.{unreadCode, causeCode, verdictCode, outputCode, foundCode, crewCode}
 

@@ -16,8 +16,8 @@ use Rattle.desk.specs.declared.Output.the-variants as output
 use Rattle.desk.proofs.Opening.{count-few}
 use Rattle.desk.proofs.Weighing.{kinds-few}
 use Rattle.desk.proofs.Writing.{output-is-fine}
-use Rattle.desk.proofs.Handing.{kind-within, pairs-few, flow-fine, not-over}
-use Rattle.desk.proofs.Passing.{count-room}
+use Rattle.desk.proofs.Handing.{kind-within, flow-fine, not-over}
+use Rattle.desk.proofs.Passing.{count-room, pairs-few}
 
 accepted-is : (f : Fault) (a b m n : ℕ) → verdictOf f a b ≡ decision.Accepted m n → (a ≡ m) × (b ≡ n)
 accepted-is Fine a b m n e = (cc, cc)
