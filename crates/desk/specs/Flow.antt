@@ -35,7 +35,7 @@ flowFault s kind n =
     orCause roomy (isOverloaded q) (overCause q)
 
 -- THE FLOW SHOWN is free: it is what the solver hands over from activity to activity, with what the start and the end then pass and take. That it is
--- a flow of the paper's is `file-flow` of proofs/Flowing.antt. From node u to node v, where node 0 is the start and m + 1 the end, pass
+-- a flow of the paper's is `file-flow` of promises/proofs/Flowing.antt. From node u to node v, where node 0 is the start and m + 1 the end, pass
 unfoldable pub flowUnits : Plan → ℕ → ℕ → ℕ → ℕ
 flowUnits q k u v =
     nodeFlow (q .count) (demandFor q k) (handed (flowOf (orderFor q) (demandsFor (q .demand) k))) (needFor q k) (availableFor q k) u v

@@ -1,6 +1,5 @@
 -- What the operations answer and write, from the plan's bytes, in reading order. Quotations are from document 01, section "Operations and causes",
--- unless another is named. Element i stands for activity i + 1. The laws are in `proofs/`: what the answers mean in the file's own terms (File)
--- is shown in Meaning, Faults and Crews there.
+-- unless another is named. Element i stands for activity i + 1. File has the file's own terms, in which the crate `promises` says what the answers mean.
 pub mod Open
 pub mod Numbers
 pub mod Output
@@ -12,6 +11,3 @@ pub mod Flow
 pub mod Overload
 pub mod Crew
 pub mod File
-pub mod Same
-pub mod PriceList
-pub mod Cases

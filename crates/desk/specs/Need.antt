@@ -32,7 +32,7 @@ unfoldable pub isOverloaded : Plan → Bool
 isOverloaded q = ltb (overKind q) (q .kinds)
 
 -- THE SET SHOWN, BY WHICHEVER OPERATION, is free: "unrelated, belongs to the lowest such kind, has that need as its sum, and holds only activities that
--- demand the kind". It is the solver's; that it is such a set is `shown` of proofs/Showing.antt.
+-- demand the kind". It is the solver's; that it is such a set is `shown` of promises/proofs/Showing.antt.
 abbrev pub shownSet : Plan → ℕ → Set
 shownSet q k = quoteFor (orderFor q) (q .demand) k .set
 

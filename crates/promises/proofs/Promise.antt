@@ -21,31 +21,31 @@ use Rattle.kinds.specs.Needs.{demandsFor}
 use Rattle.kinds.specs.Reading.{unitsRead}
 use Rattle.flow.proofs.Headline.{need-small}
 use Rattle.flow.proofs.First.{set-small}
 use Rattle.desk.specs.Open.{planIn, planOrder, isFine, faultOf, orCause, Opens}
 use Rattle.desk.specs.Numbers.{numbersOf}
 use Rattle.desk.specs.Need.{needFor, overKind, isOverloaded, shownSet, overCause}
 use Rattle.desk.specs.Verdict.{verdictFault, verdictOf, verdictAnswer}
 use Rattle.desk.specs.Overload.{overloadFault, overCount, overBytes, overloadAnswer, overloadOut}
 use Rattle.desk.specs.Flow.{isKind, flowLength, flowFault, flowUnits, flowCount, recordBytes, flowAnswer, flowOut}
 use Rattle.desk.specs.File.{fileKinds, fileAvailable, FileFlow}
-use Rattle.desk.specs.PriceList.{quotedNeed, Exceeds, Enough, IsSeven, Shown, PriceList, PriceListSentence}
+use Rattle.promises.specs.PriceList.{quotedNeed, Exceeds, Enough, IsSeven, Shown, PriceList, PriceListSentence}
 use Rattle.desk.specs.declared.Cause.{Cause}
 use Rattle.desk.specs.declared.Cause.the-variants.{NoKind, Short}
 use Rattle.desk.specs.declared.Fault.{Fault}
 use Rattle.desk.specs.declared.Fault.the-variants as fault
 use Rattle.desk.specs.declared.Decision.{Decision}
 use Rattle.desk.specs.declared.Decision.the-variants.{Accepted, Refused}
 use Rattle.desk.specs.declared.Output.the-variants as output
 use Rattle.desk.proofs.Turns.{cause-none, cause-next, fine-is}
 use Rattle.desk.proofs.Writing.{output-fine, output-is-fine, output-is-refused, lent-fine}
 use Rattle.desk.proofs.Opening.{opens-readable}
-use Rattle.desk.proofs.Faults.{opens-when}
+use Rattle.promises.proofs.Faults.{opens-when}
 use Rattle.desk.proofs.Weighing.{count-in, kinds-in, quotable, need-quoted}
-use Rattle.desk.proofs.Quoting.{need-some, need-every, crew-none, crew-some}
+use Rattle.promises.proofs.Quoting.{need-some, need-every, crew-none, crew-some}
 use Rattle.desk.proofs.Passing.{flow-said}
-use Rattle.desk.proofs.Flowing.{file-flow, file-unused}
+use Rattle.promises.proofs.Flowing.{file-flow, file-unused}
 use Rattle.desk.proofs.Handing.{flow-fine, fine-flow, not-over}
-use Rattle.desk.proofs.Showing.{few, needs-answers, need-written, quoted-is, over-when, over-kind, over-below, shown, enough-not}
+use Rattle.promises.proofs.Showing.{few, needs-answers, need-written, quoted-is, over-when, over-kind, over-below, shown, enough-not}
 
 -- ---- answers and causes
 

@@ -22,15 +22,15 @@ use Rattle.flow.specs.Network.{giver, positive, joined, shifted, handing}
 use Rattle.flow.specs.Solve.{blanks, ranked, started, rounded, solved}
 use Rattle.flow.specs.Quote.{unused, copied, outcome, amount, quoteOf}
 use Rattle.kinds.specs.Needs.{demandsFor}
 use Rattle.desk.specs.Open.{circlesOf, faultOf}
 use Rattle.desk.specs.Output.{lentAfter}
 use Rattle.desk.specs.Need.{needFor, overKind, isOverloaded, overCause}
 use Rattle.desk.specs.Verdict.{verdictFault}
 use Rattle.desk.specs.Needs.{needsFault, needNumbers, needsOut}
 use Rattle.desk.specs.Starts.{startsFault, startsOut, startNumbers, withEnd}
 use Rattle.desk.specs.Overload.{overloadFault, overCount, overBytes, overloadOut}
 use Rattle.desk.specs.Crew.{someZero, badLists, crewFault, crewFound}
-use Rattle.desk.specs.Cases.{Cases}
+use Rattle.promises.specs.Cases.{Cases}
 
 pub cases : Cases
 unfolding digit bit each run upto first members count sum maximum table grow arcsFrom arcsIn circleIn extended circleOf orderOf orderIn joinedRows afterWords field zeros bytes overloadRecord leading activityFields crewFields arcFields durationsOf demandsOf availableOf withArc arcsUpTo planOf activityCause crewCause arcCause causeAt firstRefusal recordsCause isLength answerOf readOf asked rounds earliestOf endOf brokenTo brokenFrom occupied lowestKind lastFinish quiet firstPeriod checkOf startsOf heaviest needOf advance giver positive joined shifted handing blanks ranked started rounded solved unused copied outcome amount quoteOf demandsFor circlesOf faultOf lentAfter needFor overKind isOverloaded overCause verdictFault needsFault needNumbers needsOut startsFault startsOut startNumbers withEnd overloadFault overCount overBytes overloadOut someZero badLists crewFault crewFound

@@ -14,19 +14,19 @@ use Rattle.words.proofs.Tables.{getD-table, length-table}
 use Rattle.words.proofs.Tests.{by-test}
 use Rattle.records.specs.Bytes.{AreBytes}
 use Rattle.plan.specs.Meaning.{Readable}
 use Rattle.desk.specs.Open.{planIn, faultOf, Opens}
 use Rattle.desk.specs.Need.{availableFor, needFor, overKind, isOverloaded, shownSet}
 use Rattle.desk.specs.Needs.{needsFault, needNumbers, needsAnswer, needsOut}
 use Rattle.desk.specs.File.{fileKinds, fileAvailable}
-use Rattle.desk.specs.PriceList.{quotedNeed, Exceeds, Enough, Shown}
+use Rattle.promises.specs.PriceList.{quotedNeed, Exceeds, Enough, Shown}
 use Rattle.desk.specs.declared.Cause.the-variants.{Short}
 use Rattle.desk.specs.declared.Fault.the-variants.{Fine}
 use Rattle.desk.specs.declared.Output.the-variants.{Written}
 use Rattle.desk.proofs.Turns.{cause-none}
 use Rattle.desk.proofs.Writing.{output-fine, lent-fine}
 use Rattle.desk.proofs.Opening.{opens-readable}
 use Rattle.desk.proofs.Weighing.{kinds-few, kinds-in, available-in}
-use Rattle.desk.proofs.Quoting.{set-unrelated, set-demands, set-members}
+use Rattle.promises.proofs.Quoting.{set-unrelated, set-demands, set-members}
 
 module _ (s : List ℕ) (small : AreBytes s) (o : Opens s) where
   readable : Readable s

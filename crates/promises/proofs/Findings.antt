@@ -14,13 +14,13 @@ use Rattle.schedule.specs.Arrays.{crewNet}
 use Rattle.schedule.specs.declared.Checked.{Checked}
 use Rattle.schedule.specs.declared.Checked.the-variants.{Fits, Broken, Overload}
 use Rattle.schedule.proofs.Answers as answers
 use Rattle.desk.specs.Open.{planIn, rowsOf, Opens}
 use Rattle.desk.specs.Crew.{someZero, crewWork, crewFound, crewAnswer}
 use Rattle.desk.specs.File.{KeepsWorked, FirstBrokenArc}
 use Rattle.desk.specs.declared.CrewChecked.the-variants.{Found}
 use Rattle.desk.proofs.Checking.{bad-zero}
-use Rattle.desk.proofs.Answering.{crew-looks}
-use Rattle.desk.proofs.Crews.{CrewRight, crew-arcs}
+use Rattle.promises.proofs.Answering.{crew-looks}
+use Rattle.promises.proofs.Crews.{CrewRight, crew-arcs}
 
 all-worked : (xs : List ℕ) → ((i : ℕ) → i < length xs → 1 ≤ getD xs i 0) → someZero xs ≡ false
 unfolding someZero
