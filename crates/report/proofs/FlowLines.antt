@@ -1,13 +1,14 @@
--- The lines of a flow: how long one is, and what the code holds of it. Assumes nothing.
-use mathlib.Core.Path.{_≡_, refl}
+-- The lines of a flow: how long one is, what the code holds of one, and that only the bytes matter. Assumes nothing.
+use mathlib.Core.Path.{_≡_, refl, sym, _∙_}
 use mathlib.Core.List.{List, [], _∷_, _++_}
-use Prim.Native.Nat.{ℕ, _+_, _-_, _*_, _^_, _≤_, _<_}
+use Prim.Native.Nat.{ℕ, zero, suc, _+_, _-_, _*_, _^_, _≤_, _<_}
 use native.Mathlib.Omega.{arith}
 use lib.ListN.{length, take, drop, length-append}
 use lib.Seq.{getD-drop}
 use Rattle.records.specs.Bytes.{AreBytes, byte, field}
 use Rattle.records.specs.Records.{joined}
 use Rattle.records.proofs.Fields.{field-below}
+use Rattle.records.proofs.Runs.{joined-same}
 use Rattle.records.proofs.Steps.{rest-of}
 use Rattle.lines.specs.Text.{places, decimal, spaced, lineOf}
 use Rattle.lines.proofs.Decimals.{places-fewest, length-decimal}
@@ -72,3 +73,21 @@ pub units-field : (r : List ℕ) {a b c d : ℕ} → a ≡ byte r 4 → b ≡ by
     → a + 256 * (b + 256 * (c + 256 * d)) ≡ field r 4 4
 unfolding field
 units-field r p q s t = rw (p, q, s, t) (omega arith)
+
+-- ---- lists with the same bytes have the same lines
+
+line-same : (r t : List ℕ) → ((i : ℕ) → byte r i ≡ byte t i) → lineOf flowWord (flowNumbers r) ≡ lineOf flowWord (flowNumbers t)
+line-same r t e =
+    record-line t (e 1) (e 2) (e 3) (sym (units-field r refl refl refl refl) ∙ units-field t (e 4) (e 5) (e 6) (e 7)) (e 8)
+
+pub flow-same : (n : ℕ) (r t : List ℕ) → ((i : ℕ) → byte r i ≡ byte t i) → flowLines n r ≡ flowLines n t
+unfolding flowLines
+flow-same n r t e =
+    joined-same (flowLine r) (flowLine t) n
+    (λ k h. line-same (drop (24 * k) r) (drop (24 * k) t) (λ i. getD-drop (24 * k) r i 0 ∙ e (24 * k + i) ∙ sym (getD-drop (24 * k) t i 0)))
+
+-- so zeros behind a list do not matter
+pub zeros-behind : (r zs : List ℕ) → ((i : ℕ) → byte zs i ≡ 0) → (i : ℕ) → byte (r ++ zs) i ≡ byte r i
+zeros-behind [] zs z i = z i
+zeros-behind (b ∷ r) zs z zero = refl
+zeros-behind (b ∷ r) zs z (suc i) = zeros-behind r zs z i

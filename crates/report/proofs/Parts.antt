@@ -9,6 +9,7 @@ use lib.ListN.{length, getD, length-append}
 use lib.Seq.{length-take-le}
 use Rattle.io.specs.Counts.{Counts}
 use Rattle.records.specs.Records.{joined}
+use Rattle.records.proofs.Runs.{joined-same}
 use Rattle.lines.specs.Text.{Text, lineOf, text, more}
 use Rattle.lines.proofs.Texts.{more-more, more-none, grown, line-length}
 use Rattle.report.specs.Report.{needWord, startWord, planWord, endWord, needLines, startLines, headLines}
@@ -16,11 +17,12 @@ use Rattle.report.specs.Report.{needWord, startWord, planWord, endWord, 
 -- ---- lines f 0, f 1, .., f (n - 1), each of at most `most` bytes
 
 -- i of n lines are written behind the `at` bytes that were, up to byte `end`
-pub record Putting (f : ℕ → List ℕ) (n at : ℕ) (old : List ℕ) (i end : ℕ) (out : List ℕ) : Type 0 where
+pub record Putting (f : ℕ → List ℕ) (most n at : ℕ) (old : List ℕ) (i end : ℕ) (out : List ℕ) : Type 0 where
   pub some : i ≤ n
+  pub short : end ≤ at + most * i
   pub done : text end out ≡ more (text at old) (joined f i)
 
-pub joined-short : (f : ℕ → List ℕ) (most : ℕ) → ((k : ℕ) → length (f k) ≤ most) → (n : ℕ) → length (joined f n) ≤ most * n
+joined-short : (f : ℕ → List ℕ) (most : ℕ) → ((k : ℕ) → length (f k) ≤ most) → (n : ℕ) → length (joined f n) ≤ most * n
 unfolding joined
 joined-short f most short zero = omega arith
 joined-short f most short (suc n) =
@@ -31,48 +33,54 @@ joined-more : (f : ℕ → List ℕ) (n : ℕ) → joined f (n + 1) ≡ joined f
 unfolding joined
 joined-more f n = rw add-one
 
-module _ (f : ℕ → List ℕ) (n at : ℕ) (old : List ℕ) where
-  pub putting-none : Putting f n at old 0 at old
-  unfolding joined
-  putting-none = record { some = omega arith; done = sym (more-none (text at old)) }
+-- where text ends that some bytes were added to
+pub grown-by : (at e : ℕ) (a old out : List ℕ) → text e out ≡ more (text at old) a → e ≡ at + length a
+grown-by at e a old out w = ap (λ (t : Text). t .at) w
 
-  module _ (most i end : ℕ) (out : List ℕ) (short : (k : ℕ) → length (f k) ≤ most) (p : Putting f n at old i end out)
-      (fits : at + most * n ≤ length old) where
-    within : most * i ≤ most * n
-    within = mul-le-mul-left most (p .some)
+pub putting-none : {f : ℕ → List ℕ} {most n at : ℕ} {old : List ℕ} → Putting f most n at old 0 at old
+unfolding joined
+putting-none {f} {most} {n} {at} {old} = record { some = omega arith; short = omega arith; done = sym (more-none (text at old)) }
 
-    -- where the lines end, and that the bytes stay as long
-    pub putting-room : (end ≤ at + most * i) × (length out ≡ length old)
-    putting-room =
-        let s = joined-short f most short i in
-        let g = grown at end (joined f i) old out (omega (arith, within)) (p .done) in
-        (omega arith, g .1)
+module _ {f : ℕ → List ℕ} {most n at : ℕ} {old : List ℕ} {i end : ℕ} {out : List ℕ}
+    (p : Putting f most n at old i end out) (fits : at + most * n ≤ length old) where
+  so-far : end ≡ at + length (joined f i)
+  so-far = grown-by at end (joined f i) old out (p .done)
 
-    -- one more has room
-    pub putting-next-room : i < n → end + most ≤ length out
-    putting-next-room h =
+  -- the bytes stay as long
+  pub putting-length : length out ≡ length old
+  putting-length =
+      let l : most * i ≤ most * n = mul-le-mul-left most (p .some) in
+      grown at end (joined f i) old out (omega (arith, so-far, p .short)) (p .done) .1
+
+  module _ (h : i < n) where
+    further : most * i + most ≤ most * n
+    further =
         let e : most * suc i ≡ most * i + most = omega arith in
         let l : most * suc i ≤ most * n = mul-le-mul-left most h in
-        omega (arith, putting-room)
+        omega arith
 
-    pub putting-next : i < n → (e : ℕ) (o : List ℕ) → text e o ≡ more (text end out) (f i) → Putting f n at old (i + 1) e o
-    putting-next h e o w =
-        let m : most * suc i ≡ most * i + most = omega arith in
-        let l : most * suc i ≤ most * n = mul-le-mul-left most h in
-        let s = joined-short f most short i in
+    -- one more has room
+    pub putting-room : end + most ≤ length out
+    putting-room = omega (arith, further, p .short, putting-length)
+
+    pub putting-next : {e : ℕ} {o : List ℕ} → text e o ≡ more (text end out) (f i) → length (f i) ≤ most → Putting f most n at old (i + 1) e o
+    putting-next {e} {o} w l =
+        let m : most * (i + 1) ≡ most * i + most = omega arith in
         record {
           some = omega arith;
+          short = omega (arith, p .short, grown-by end e (f i) out o w);
           done =
               w
               ∙ ap (λ (t : Text). more t (f i)) (p .done)
-              ∙ more-more (text at old) (joined f i) (f i) (omega (arith, short i))
+              ∙ more-more (text at old) (joined f i) (f i) (omega (arith, further, so-far, p .short))
               ∙ ap (more (text at old)) (sym (joined-more f i));
         }
 
-    pub putting-end : n ≤ i → text end out ≡ more (text at old) (joined f n)
-    putting-end h =
-        let e : i ≡ n = omega (arith, p .some) in
-        p .done ∙ rw e
+  -- all are written
+  pub putting-end : n ≤ i → (text end out ≡ more (text at old) (joined f n)) × (end ≤ at + most * n)
+  putting-end h =
+      let e : i ≡ n = omega (arith, p .some) in
+      (p .done ∙ rw e, rw e at (p .short))
 
 -- so many bytes at the front of a list that has them
 pub counts-within : (r : ℕ) (out : List ℕ) → r ≤ length out → Counts r out
@@ -116,6 +124,29 @@ unfolding startLines
 starts-short m starts = joined-short (startLine starts) 48 (start-short starts) m
 
 -- ---- the head: the plan, the needs, the starts and the end
+
+pub head-short : (m n : ℕ) (needs available starts : List ℕ) → m ≤ 64 → n ≤ 8 → length (headLines m n needs available starts) ≤ 4096
+unfolding headLines
+head-short m n needs available starts few kinds =
+    let last : List ℕ = lineOf endWord (getD starts m 0 ∷ []) in
+    rw (length-append, length-append, length-append) (
+    omega (
+      arith,
+      line-length planWord (m ∷ n ∷ []),
+      needs-short n needs available,
+      starts-short m starts,
+      line-length endWord (getD starts m 0 ∷ []),
+    )
+    )
+
+-- they are given by the first n needs and the first m + 1 starts
+pub head-same : (m n : ℕ) (needs needs′ available starts starts′ : List ℕ) → ((k : ℕ) → k < n → getD needs k 0 ≡ getD needs′ k 0)
+    → ((i : ℕ) → i ≤ m → getD starts i 0 ≡ getD starts′ i 0) → headLines m n needs available starts ≡ headLines m n needs′ available starts′
+unfolding headLines needLines startLines
+head-same m n needs needs′ available starts starts′ p q =
+    let a = joined-same (needLine needs available) (needLine needs′ available) n (λ k h. need-line needs′ available k (p k h) refl) in
+    let b = joined-same (startLine starts) (startLine starts′) m (λ i h. start-line starts′ i (q i (omega arith))) in
+    rw (a, b, q m (omega arith))
 
 module _ (m n : ℕ) (needs available starts old one two three : List ℕ) (named needed started : ℕ)
     (few : m ≤ 64) (kinds : n ≤ 8) (fits : 4096 ≤ length old) (first : text named one ≡ more (text 0 old) (lineOf planWord (m ∷ n ∷ []))) where

@@ -1,5 +1,5 @@
 -- The lines of the report (document 01, "Plans A to F"): "Fields: m, K; kind, need, availability; activity, start; end's start; kind, from, to, units, added
--- mark. Kinds ascend." Every line ends in a newline. Assumes nothing.
+-- mark. Kinds ascend." Every line ends in a newline. THE WHOLE REPORT of a file's bytes is `reportOf`. Assumes nothing.
 use mathlib.Core.List.{List, [], _∷_, _++_, map}
 use Prim.Native.Nat.{ℕ, suc, _+_, _*_}
 use lib.ListN.{getD, drop}
@@ -7,9 +7,17 @@ use Rattle.words.specs.Members.{members}
 use Rattle.records.specs.Bytes.{byte, field}
 use Rattle.records.specs.Records.{joined}
 use Rattle.lines.specs.Text.{lineOf}
+use Rattle.plan.specs.declared.Plan.{Plan}
+use Rattle.desk.specs.Open.{planIn}
+use Rattle.desk.specs.Needs.{needNumbers}
+use Rattle.desk.specs.Starts.{startNumbers}
+use Rattle.desk.specs.Flow.{flowCount, recordBytes}
+use Rattle.desk.specs.Verdict.{verdictAnswer}
 use Rattle.desk.specs.Numbers.{numbersOf}
 use Rattle.desk.specs.declared.Cause.{Cause}
 use Rattle.desk.specs.declared.Cause.the-variants.{Unreadable, JobCircle, PlanCircle, Overloaded, NoKind, Short, Lists}
+use Rattle.desk.specs.declared.Decision.{Decision}
+use Rattle.desk.specs.declared.Decision.the-variants.{Accepted, Refused}
 
 -- plan, need, start, end, flow, refused
 abbrev pub planWord : List ℕ
@@ -63,3 +71,22 @@ refusedNumbers (Lists m) = 10 ∷ m ∷ []
 
 unfoldable pub refusedLine : Cause → List ℕ
 refusedLine c = lineOf refusedWord (refusedNumbers c)
+
+-- ---- THE REPORT
+
+-- the lines of the flow of kind k + 1, from the records that Flow writes
+unfoldable pub kindLines : Plan → ℕ → List ℕ
+kindLines q k = flowLines (flowCount q k) (recordBytes q k)
+
+-- an accepted plan: its first lines, then those of each kind's flow
+unfoldable pub planLines : List ℕ → List ℕ
+planLines s =
+    headLines (planIn s .count) (planIn s .kinds) (needNumbers s) (planIn s .available) (startNumbers s) ++ joined (kindLines (planIn s)) (planIn s .kinds)
+
+-- the report of a file's bytes, by what Verdict answers
+abbrev pub reportBy : Decision → List ℕ → List ℕ
+reportBy (Accepted m n) s = planLines s
+reportBy (Refused c) s = refusedLine c
+
+unfoldable pub reportOf : List ℕ → List ℕ
+reportOf s = reportBy (verdictAnswer s) s

@@ -3,7 +3,6 @@ ghost use mathlib.Core.Path.{_≡_};
 ghost use Prim.Native.Nat.{_+_, _*_, _≤_, _<_};
 ghost use lib.ListN.{length};
 ghost use Rattle.records.specs.Bytes.{field};
-ghost use Rattle.io.specs.Counts.{Counts};
 ghost use Rattle.lines.specs.Text.{text, more, lineOf};
 ghost use Rattle.report.specs.Report.{flowWord, flowNumbers, flowLines};
 
@@ -37,13 +36,13 @@ fn put_record(out: &mut [u8], at: usize, bytes: &[u8]) -> usize
     lines::put_line(out, at, b"flow", &numbers)
 }
 
-// Writes the lines of n records to the front of the lent bytes. Gives their length.
-pub fn flow_text(out: &mut [u8], records: &[u8], n: usize) -> usize
-    requires { ⌜ (n ≤ 2145) × (24 * n ≤ length (now records)) × (131072 ≤ length (now out)) ⌝ }
-    ensures { λ r. ⌜ text r (now (out .exit)) ≡ more (text 0 (now (out .entry))) (flowLines n (now (records .entry))) ⌝ }
-    ensures { λ r. ⌜ Counts r (now (out .exit)) ⌝ }
+// Writes the lines of n records behind what is written, each of at most 32 bytes.
+pub fn put_records(out: &mut [u8], at: usize, records: &[u8], n: usize) -> usize
+    requires { ⌜ (n ≤ 2145) × (24 * n ≤ length (now records)) × (at + 32 * n + 78 ≤ length (now out)) ⌝ }
+    ensures { λ r. ⌜ text r (now (out .exit)) ≡ more (text at (now (out .entry))) (flowLines n (now (records .entry))) ⌝ }
+    ensures { λ r. ⌜ r ≤ at + 32 * n ⌝ }
 {
-    let mut end: usize = 0;
+    let mut end = at;
     for i in 0..n {
         end = put_record(out, end, &records[24 * i..]);
     }

@@ -4,30 +4,24 @@ use Prim.Native.Nat.{_-_}
 use native.Mathlib.Omega.{arith}
 use borrow.Author.Needs.{needs}
 use Rattle.lines.specs.Text.{text, more}
-use Rattle.report.proofs.Parts.{Putting, putting-none, putting-room, putting-next-room, putting-next, putting-end}
+use Rattle.report.proofs.Parts.{Putting, putting-none, putting-length, putting-room, putting-next, putting-end}
 use Rattle.report.proofs.Parts.{needLine, need-short, need-line, needs-end}
 use Rattle.report.proofs.head.put_needs.Statement.{statement}
 use Rattle.report.proofs.head.put_needs.Tie as tie
 
 abbrev Inv-loop : tie.InvT-loop
-Inv-loop out₀ at n needs available end₀ k₀ t9 out end k = Putting (needLine needs available) n at out₀ k end out
+Inv-loop out₀ at n needs available end₀ k₀ t9 out end k = Putting (needLine needs available) 68 n at out₀ k end out
 
 abbrev μ-loop : tie.MeasureT-loop
 μ-loop out₀ at n needs available end₀ k₀ t9 out end k = n - k
 
 loop-holds : tie.Need-loop-holds Inv-loop μ-loop
-loop-holds c =
-    let a = c .before .args in
-    putting-none (needLine (a .needs .now) (a .available .now)) (a .n) (a .at) (a .out .now)
+loop-holds c = putting-none
 
 put-line-requires : tie.Need-put-line-requires Inv-loop μ-loop
 put-line-requires c κs =
     let t = c .before .before .before .before .before .before .before .before in
-    let s = t .before .before in
-    let a = s .args in
-    let room =
-    putting-next-room (needLine (a .needs .now) (a .available .now)) (a .n) (a .at) (a .out .now) 68 (t .loop .k) (t .loop .end) (t .loop .out)
-    (need-short (a .needs .now) (a .available .now)) (t .loop .inv) (s .pre .1) (omega arith) in
+    let room = putting-room (t .loop .inv) (t .before .before .pre .1) (omega arith) in
     omega arith
 
 loop-again : tie.Need-loop-again Inv-loop μ-loop
@@ -38,27 +32,20 @@ loop-again c =
     let t = x .before .before .before in
     let s = t .before .before in
     let a = s .args in
-    putting-next (needLine (a .needs .now) (a .available .now)) (a .n) (a .at) (a .out .now) 68 (t .loop .k) (t .loop .end) (t .loop .out)
-    (need-short (a .needs .now) (a .available .now)) (t .loop .inv) (s .pre .1) (omega arith)
-    (w .put-line .result) (w .put-line .last .0)
+    putting-next (t .loop .inv) (s .pre .1) (omega arith)
     (w .put-line .ensures
     ∙ ap (more (text (t .loop .end) (t .loop .out))) (need-line (a .needs .now) (a .available .now) (t .loop .k) (x .wide .ensures .0) (y .wide2 .ensures .0)))
+    (need-short (a .needs .now) (a .available .now) (t .loop .k))
 
 same-length : tie.Need-same-length Inv-loop μ-loop
-same-length c =
-    let t = c .before in
-    let s = t .before .before in
-    let a = s .args in
-    putting-room (needLine (a .needs .now) (a .available .now)) (a .n) (a .at) (a .out .now) 68 (t .loop .k) (t .loop .end) (t .loop .out)
-    (need-short (a .needs .now) (a .available .now)) (t .loop .inv) (s .pre .1) .1
+same-length c = putting-length (c .before .loop .inv) (c .before .before .before .pre .1)
 
 returns : tie.Need-returns Inv-loop μ-loop
 returns c =
     let t = c .before in
     let s = t .before .before in
     let a = s .args in
-    putting-end (needLine (a .needs .now) (a .available .now)) (a .n) (a .at) (a .out .now) 68 (t .loop .k) (t .loop .end) (t .loop .out)
-    (need-short (a .needs .now) (a .available .now)) (t .loop .inv) (s .pre .1) (omega arith)
+    putting-end (t .loop .inv) (s .pre .1) (omega arith) .0
     ∙ ap (more (text (a .at) (a .out .now))) (needs-end (a .n) (a .needs .now) (a .available .now))
 
 pub put-needs-spec : {M : Type 1} → statement M

@@ -4,30 +4,24 @@ use Prim.Native.Nat.{_-_}
 use native.Mathlib.Omega.{arith}
 use borrow.Author.Needs.{needs}
 use Rattle.lines.specs.Text.{text, more}
-use Rattle.report.proofs.Parts.{Putting, putting-none, putting-room, putting-next-room, putting-next, putting-end}
+use Rattle.report.proofs.Parts.{Putting, putting-none, putting-length, putting-room, putting-next, putting-end}
 use Rattle.report.proofs.Parts.{startLine, start-short, start-line, starts-end}
 use Rattle.report.proofs.head.put_starts.Statement.{statement}
 use Rattle.report.proofs.head.put_starts.Tie as tie
 
 abbrev Inv-loop : tie.InvT-loop
-Inv-loop out₀ at m starts end₀ i₀ t8 out end i = Putting (startLine starts) m at out₀ i end out
+Inv-loop out₀ at m starts end₀ i₀ t8 out end i = Putting (startLine starts) 48 m at out₀ i end out
 
 abbrev μ-loop : tie.MeasureT-loop
 μ-loop out₀ at m starts end₀ i₀ t8 out end i = m - i
 
 loop-holds : tie.Need-loop-holds Inv-loop μ-loop
-loop-holds c =
-    let a = c .before .args in
-    putting-none (startLine (a .starts .now)) (a .m) (a .at) (a .out .now)
+loop-holds c = putting-none
 
 put-line-requires : tie.Need-put-line-requires Inv-loop μ-loop
 put-line-requires c κs =
     let t = c .before .before .before .before .before .before in
-    let s = t .before .before in
-    let a = s .args in
-    let room =
-    putting-next-room (startLine (a .starts .now)) (a .m) (a .at) (a .out .now) 48 (t .loop .i) (t .loop .end) (t .loop .out)
-    (start-short (a .starts .now)) (t .loop .inv) (s .pre .1) (omega arith) in
+    let room = putting-room (t .loop .inv) (t .before .before .pre .1) (omega arith) in
     omega arith
 
 loop-again : tie.Need-loop-again Inv-loop μ-loop
@@ -37,27 +31,19 @@ loop-again c =
     let t = x .before .before .before in
     let s = t .before .before in
     let a = s .args in
-    putting-next (startLine (a .starts .now)) (a .m) (a .at) (a .out .now) 48 (t .loop .i) (t .loop .end) (t .loop .out)
-    (start-short (a .starts .now)) (t .loop .inv) (s .pre .1) (omega arith)
-    (w .put-line .result) (w .put-line .last .0)
-    (w .put-line .ensures
-    ∙ ap (more (text (t .loop .end) (t .loop .out))) (start-line (a .starts .now) (t .loop .i) (x .wide .ensures .0)))
+    putting-next (t .loop .inv) (s .pre .1) (omega arith)
+    (w .put-line .ensures ∙ ap (more (text (t .loop .end) (t .loop .out))) (start-line (a .starts .now) (t .loop .i) (x .wide .ensures .0)))
+    (start-short (a .starts .now) (t .loop .i))
 
 same-length : tie.Need-same-length Inv-loop μ-loop
-same-length c =
-    let t = c .before in
-    let s = t .before .before in
-    let a = s .args in
-    putting-room (startLine (a .starts .now)) (a .m) (a .at) (a .out .now) 48 (t .loop .i) (t .loop .end) (t .loop .out)
-    (start-short (a .starts .now)) (t .loop .inv) (s .pre .1) .1
+same-length c = putting-length (c .before .loop .inv) (c .before .before .before .pre .1)
 
 returns : tie.Need-returns Inv-loop μ-loop
 returns c =
     let t = c .before in
     let s = t .before .before in
     let a = s .args in
-    putting-end (startLine (a .starts .now)) (a .m) (a .at) (a .out .now) 48 (t .loop .i) (t .loop .end) (t .loop .out)
-    (start-short (a .starts .now)) (t .loop .inv) (s .pre .1) (omega arith)
+    putting-end (t .loop .inv) (s .pre .1) (omega arith) .0
     ∙ ap (more (text (a .at) (a .out .now))) (starts-end (a .m) (a .starts .now))
 
 pub put-starts-spec : {M : Type 1} → statement M

@@ -1,0 +1,96 @@
+-- What the desk answers of an accepted plan, and what it writes. Assumes nothing.
+use mathlib.Core.Path.{_≡_, refl, sym, ap, _∙_}
+use mathlib.Core.Bool.{true, false}
+use mathlib.Core.List.{List, _++_}
+use Prim.Native.Nat.{ℕ, _-_, _*_, _≤_, _<_}
+use native.Mathlib.Omega.{arith}
+use lib.Dec.{ltb}
+use lib.ListN.{length, getD, drop, List·getD-append}
+use borrow.Author.Tests.{le-ltb, le-leb}
+use Rattle.records.specs.Bytes.{AreBytes}
+use Rattle.desk.specs.Open.{planIn, isFine, faultOf, Opens}
+use Rattle.desk.specs.Output.{lentAfter}
+use Rattle.desk.specs.Need.{isOverloaded, overCause}
+use Rattle.desk.specs.Verdict.{verdictFault, verdictOf, verdictAnswer}
+use Rattle.desk.specs.Needs.{needsFault, needNumbers, needsOut}
+use Rattle.desk.specs.Starts.{needed, startsFault, startNumbers, startsOut}
+use Rattle.desk.specs.Flow.{flowLength, flowFault, flowCount, recordBytes, flowAnswer, flowOut}
+use Rattle.desk.specs.declared.Cause.the-variants.{Short}
+use Rattle.desk.specs.declared.Fault.{Fault}
+use Rattle.desk.specs.declared.Fault.the-variants.{Fine, Refused}
+use Rattle.desk.specs.declared.Decision.{Decision}
+use Rattle.desk.specs.declared.Decision.the-variants as decision
+use Rattle.desk.specs.declared.Output.the-variants.{Written}
+use Rattle.desk.proofs.Turns.{cause-fine, cause-none}
+use Rattle.desk.proofs.Writing.{output-fine, lent-fine}
+use Rattle.desk.proofs.Opening.{count-few}
+use Rattle.desk.proofs.Weighing.{kinds-few}
+use Rattle.desk.proofs.Pricing.{length-numbers as length-needs}
+use Rattle.desk.proofs.Starting.{length-numbers as length-starts}
+use Rattle.desk.proofs.Handing.{kind-some, fine-flow, not-over}
+use Rattle.desk.proofs.Passing.{count-room, pairs-few}
+
+-- ---- Verdict
+
+accepted-is : (f : Fault) (a b m n : ℕ) → verdictOf f a b ≡ decision.Accepted m n → (isFine f ≡ true) × (m ≡ a) × (n ≡ b)
+accepted-is Fine a b m n e = (refl, cc, cc)
+accepted-is (Refused c) a b m n e = absurd (let z : _≡_ {A = ℕ} 0 1 = cc in omega arith)
+
+-- an accepted plan has no fault, and the answer says its sizes
+pub accepted : (s : List ℕ) {r : Decision} (m n : ℕ) → r ≡ verdictAnswer s → r ≡ decision.Accepted m n
+    → (isFine (verdictFault s) ≡ true) × (m ≡ planIn s .count) × (n ≡ planIn s .kinds)
+accepted s m n q e = accepted-is (verdictFault s) (planIn s .count) (planIn s .kinds) m n (sym q ∙ e)
+
+-- ---- the rest, of a plan that is accepted
+
+-- what is written stands at the front
+lent-front : (f : Fault) (written out : List ℕ) → f ≡ Fine → (i : ℕ) → i < length written → getD (lentAfter f written out) i 0 ≡ getD written i 0
+lent-front f written out e i h =
+    ap (λ (xs : List ℕ). getD xs i 0) (lent-fine f written out e) ∙ List·getD-append written (drop (length written) out) 0 i h
+
+-- a flow has at most 2145 records
+length-small : (m : ℕ) → m ≤ 64 → flowLength m ≤ 24 * 2145
+unfolding flowLength
+length-small m h = omega (arith, pairs-few m h)
+
+module _ (s : List ℕ) (fine : isFine (verdictFault s) ≡ true) where
+  opens : Opens s × (isOverloaded (planIn s) ≡ false)
+  unfolding verdictFault
+  opens = cause-fine (faultOf s) (isOverloaded (planIn s)) (overCause (planIn s)) fine
+
+  -- ---- Needs and Starts, with as many numbers lent as are needed
+
+  pub need-front : (out : List ℕ) → planIn s .kinds ≤ length out → (k : ℕ) → k < planIn s .kinds → getD (needsOut s out) k 0 ≡ getD (needNumbers s) k 0
+  unfolding needsFault needsOut
+  need-front out h k l =
+      lent-front (needsFault s (length out)) (needNumbers s) out
+      (cause-none (faultOf s) (ltb (length out) (planIn s .kinds)) (Short (planIn s .kinds)) (opens .0) (le-ltb (length out) (planIn s .kinds) h))
+      k (omega (arith, length-needs s))
+
+  pub start-front : (out : List ℕ) → needed s ≤ length out → (i : ℕ) → i ≤ planIn s .count → getD (startsOut s out) i 0 ≡ getD (startNumbers s) i 0
+  unfolding startsFault startsOut
+  start-front out h i l =
+      lent-front (startsFault s (length out)) (startNumbers s) out
+      (cause-none (faultOf s) (ltb (length out) (needed s)) (Short (needed s)) (opens .0) (le-ltb (length out) (needed s) h))
+      i (omega (arith, length-starts s))
+
+  -- ---- Flow of a kind
+
+  pub flow-few : AreBytes s → (k : ℕ) → k < planIn s .kinds → flowCount (planIn s) k ≤ 2145
+  flow-few bytes k h =
+      let room = count-room s bytes (opens .0) k (omega (arith, kinds-few s)) (not-over s (opens .1) k h) in
+      omega (arith, length-small (planIn s .count) (count-few s))
+
+  -- with enough bytes lent it is written
+  module _ (kind : ℕ) (some : 1 ≤ kind) (within : kind ≤ planIn s .kinds) (out : List ℕ) (room : 24 * 2145 ≤ length out) where
+    flow-goes : flowFault s kind (length out) ≡ Fine
+    flow-goes =
+        fine-flow s kind (length out) (opens .0) (sym (kind-some kind (planIn s .kinds) some) ∙ le-leb kind (planIn s .kinds) within)
+        (omega (arith, length-small (planIn s .count) (count-few s))) (opens .1)
+
+    pub flow-answers : flowAnswer s kind (length out) ≡ Written (flowCount (planIn s) (kind - 1))
+    flow-answers = output-fine (flowFault s kind (length out)) (flowCount (planIn s) (kind - 1)) flow-goes
+
+    pub flow-writes : flowOut s kind out ≡ recordBytes (planIn s) (kind - 1) ++ drop (length (recordBytes (planIn s) (kind - 1))) out
+    unfolding flowOut
+    flow-writes = lent-fine (flowFault s kind (length out)) (recordBytes (planIn s) (kind - 1)) out flow-goes
