@@ -26,7 +26,7 @@ use Rattle.kinds.specs.Needs.{demandsFor}
 use Rattle.kinds.specs.Flows.{units, kindUnits, Bounded, markOf, flowBytes, pairsFrom, pairsOf}
 use Rattle.kinds.specs.Writing.{Room, lent, putFlow}
 use Rattle.kinds.specs.Reading.{unitsRead}
-use Rattle.kinds.proofs.Written.{flow-written, flow-same, pairs-same}
+use Rattle.kinds.proofs.Written.{length-flow, flow-written, flow-same, pairs-same}
 use Rattle.kinds.proofs.Read.{flow-read, flow-read-none}
 use Rattle.desk.specs.Open.{planIn, planOrder, Opens}
 use Rattle.desk.specs.Need.{demandFor, availableFor, needFor}
@@ -43,6 +43,11 @@ pairs-few m h =
 
 pairs-room : (m : ℕ) → m ≤ 64 → m * (m - 1) / 2 + 2 * m + 1 ≤ 2145
 pairs-room m h = omega (arith, pairs-few m h)
+
+-- a record takes 24 bytes
+pub records-length : (q : Plan) (k : ℕ) → length (recordBytes q k) ≡ 24 * flowCount q k
+unfolding flowCount recordBytes
+records-length q k = length-flow (k + 1) (flowUnits q k) (markOf (q .job) (q .count)) (q .count + 2)
 
 -- the units of kind k as the code has them
 abbrev pub codedUnits : List ℕ → ℕ → ℕ → ℕ → ℕ

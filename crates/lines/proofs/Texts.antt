@@ -38,10 +38,13 @@ pub more-one : (at b : ℕ) (out : List ℕ) → at < length out → text (at + 
 more-one at b out h =
     ap (text (at + 1)) (set-split out at b h ∙ sym (append-snoc (take at out) b (drop (suc at) out)) ∙ rw add-one)
 
--- where text ends that some bytes were added to, and that it stays as long
+-- where text ends that some bytes were added to, and that it stays as long where there is room for them
+pub grown-by : (at e : ℕ) (a old out : List ℕ) → text e out ≡ more (text at old) a → e ≡ at + length a
+grown-by at e a old out w = ap (λ (t : Text). t .at) w
+
 pub grown : (at e : ℕ) (a old out : List ℕ) → at + length a ≤ length old → text e out ≡ more (text at old) a
     → (e ≡ at + length a) × (length out ≡ length old)
-grown at e a old out h w = (ap (λ (t : Text). t .at) w, ap (λ (t : Text). length (t .out)) w ∙ more-length (text at old) a h)
+grown at e a old out h w = (grown-by at e a old out w, ap (λ (t : Text). length (t .out)) w ∙ more-length (text at old) a h)
 
 -- ---- the loop that copies bytes
 

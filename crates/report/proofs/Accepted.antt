@@ -29,6 +29,7 @@ use Rattle.desk.proofs.Pricing.{length-numbers as length-needs}
 use Rattle.desk.proofs.Starting.{length-numbers as length-starts}
 use Rattle.desk.proofs.Handing.{kind-some, fine-flow, not-over}
 use Rattle.desk.proofs.Passing.{count-room, pairs-few}
+use Rattle.report.specs.Report.{Accepts}
 
 -- ---- Verdict
 
@@ -38,7 +39,7 @@ accepted-is (Refused c) a b m n e = absurd (let z : _≡_ {A = ℕ} 0 1 = cc in 
 
 -- an accepted plan has no fault, and the answer says its sizes
 pub accepted : (s : List ℕ) {r : Decision} (m n : ℕ) → r ≡ verdictAnswer s → r ≡ decision.Accepted m n
-    → (isFine (verdictFault s) ≡ true) × (m ≡ planIn s .count) × (n ≡ planIn s .kinds)
+    → Accepts s × (m ≡ planIn s .count) × (n ≡ planIn s .kinds)
 accepted s m n q e = accepted-is (verdictFault s) (planIn s .count) (planIn s .kinds) m n (sym q ∙ e)
 
 -- ---- the rest, of a plan that is accepted
@@ -53,7 +54,7 @@ length-small : (m : ℕ) → m ≤ 64 → flowLength m ≤ 24 * 2145
 unfolding flowLength
 length-small m h = omega (arith, pairs-few m h)
 
-module _ (s : List ℕ) (fine : isFine (verdictFault s) ≡ true) where
+module _ (s : List ℕ) (fine : Accepts s) where
   opens : Opens s × (isOverloaded (planIn s) ≡ false)
   unfolding verdictFault
   opens = cause-fine (faultOf s) (isOverloaded (planIn s)) (overCause (planIn s)) fine

@@ -1,24 +1,23 @@
--- The lines of a kind's flow are those of what Flow of an accepted plan writes over zeros. Assumes nothing.
+-- The lines of a kind's flow are those of what Flow of an accepted plan writes. Assumes nothing.
 use mathlib.Core.Path.{_≡_, ap₂, _∙_}
-use mathlib.Core.Bool.{true}
-use mathlib.Core.List.{List, _++_}
-use Prim.Native.Nat.{ℕ, _+_, _-_, _*_, _≤_}
+use mathlib.Core.List.{List}
+use Prim.Native.Nat.{ℕ, _-_, _*_, _≤_}
 use native.Mathlib.Omega.{arith}
 use lib.ListN.{length, drop}
-use lib.Seq.{getD-drop}
-use Rattle.records.specs.Bytes.{AreBytes, byte}
-use Rattle.desk.specs.Open.{planIn, isFine}
-use Rattle.desk.specs.Verdict.{verdictFault}
+use Rattle.records.specs.Bytes.{AreBytes}
+use Rattle.desk.specs.Open.{planIn}
 use Rattle.desk.specs.Flow.{flowCount, recordBytes, flowAnswer, flowOut}
 use Rattle.desk.specs.declared.Cause.{Cause}
 use Rattle.desk.specs.declared.Output.{Output}
 use Rattle.desk.specs.declared.Output.the-variants.{Written, Refused}
-use Rattle.report.specs.Report.{flowLines, kindLines}
+use Rattle.desk.proofs.Passing.{records-length}
+use Rattle.report_lines.specs.Lines.{flowLines}
+use Rattle.report_lines.proofs.FlowLines.{flow-front}
+use Rattle.report.specs.Report.{Accepts, kindLines}
 use Rattle.report.proofs.Accepted.{flow-few, flow-answers, flow-writes}
-use Rattle.report.proofs.FlowLines.{flow-same, zeros-behind}
 
 -- what the code holds: `old` are the bytes that it lent, and `r` is the answer
-module _ (s : List ℕ) (fine : isFine (verdictFault s) ≡ true) (kind : ℕ) (some : 1 ≤ kind) (within : kind ≤ planIn s .kinds)
+module _ (s : List ℕ) (fine : Accepts s) (kind : ℕ) (some : 1 ≤ kind) (within : kind ≤ planIn s .kinds)
     (old : List ℕ) (room : 24 * 2145 ≤ length old) {r : Output} (answer : r ≡ flowAnswer s kind (length old)) where
   answered : r ≡ Written (flowCount (planIn s) (kind - 1))
   answered = answer ∙ flow-answers s fine kind some within old room
@@ -31,16 +30,15 @@ module _ (s : List ℕ) (fine : isFine (verdictFault s) ≡ true) (kind : ℕ) (
       omega arith
 
   -- it wrote n records
-  pub written-lines : AreBytes s → ((i : ℕ) → byte old i ≡ 0) → (n : ℕ) {records : List ℕ} → r ≡ Written n → records ≡ flowOut s kind old
+  pub written-lines : AreBytes s → (n : ℕ) {records : List ℕ} → r ≡ Written n → records ≡ flowOut s kind old
       → (n ≤ 2145) × (flowLines n records ≡ kindLines (planIn s) (kind - 1))
   unfolding kindLines
-  written-lines small zeros n e f =
+  written-lines small n e f =
       let w = answered in
       let k : ℕ = kind - 1 in
       let bytes : List ℕ = recordBytes (planIn s) k in
       let count : n ≡ flowCount (planIn s) k = cc in
-      let lines = ap₂ flowLines count (f ∙ flow-writes s fine kind some within old room) in
-      let behind = zeros-behind bytes (drop (length bytes) old) (λ i. getD-drop (length bytes) old i 0 ∙ zeros (length bytes + i)) in (
+      let lines = ap₂ flowLines count (f ∙ flow-writes s fine kind some within old room) in (
         omega (arith, flow-few s fine small k (omega arith)),
-        lines ∙ flow-same (flowCount (planIn s) k) (bytes ++ drop (length bytes) old) bytes behind,
+        lines ∙ flow-front (flowCount (planIn s) k) bytes (drop (length bytes) old) (omega (arith, records-length (planIn s) k)),
       )

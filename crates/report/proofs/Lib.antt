@@ -1,7 +1,4 @@
--- Laws of the report's lines, and of what the desk answers of an accepted plan. Assumes nothing.
+-- Laws of the whole report, and of what the desk answers of an accepted plan. Assumes nothing.
 pub mod Accepted
-pub mod FlowLines
 pub mod KindLines
-pub mod Parts
-pub mod Refusing
 pub mod Whole

@@ -1,26 +1,31 @@
 -- The whole text: the first lines of an accepted plan and those of its flows behind them, or a refused plan's line. Assumes nothing.
 use mathlib.Core.Path.{_≡_, sym, ap, ap₂, _∙_}
-use mathlib.Core.Bool.{true}
 use mathlib.Core.List.{List, _++_}
 use Prim.Native.Nat.{ℕ, _+_, _*_, _≤_}
 use native.Mathlib.Omega.{arith}
 use lib.ListN.{length}
+use lib.Seq.{length-take-le}
 use Rattle.io.specs.Counts.{Counts}
 use Rattle.records.specs.Records.{joined}
 use Rattle.lines.specs.Text.{Text, text, more}
-use Rattle.lines.proofs.Texts.{more-more, grown}
+use Rattle.lines.proofs.Texts.{more-more, grown, grown-by}
 use Rattle.plan.specs.Reads.{readOf}
 use Rattle.plan.specs.declared.Reading.{Reading}
-use Rattle.desk.specs.Open.{planIn, isFine}
-use Rattle.desk.specs.Verdict.{verdictFault, verdictAnswer}
+use Rattle.desk.specs.Open.{planIn}
+use Rattle.desk.specs.Verdict.{verdictAnswer}
 use Rattle.desk.specs.Needs.{needNumbers, needsOut}
 use Rattle.desk.specs.Starts.{startNumbers, startsOut}
 use Rattle.desk.specs.declared.Decision.{Decision}
 use Rattle.desk.proofs.Opening.{count-few}
 use Rattle.desk.proofs.Weighing.{kinds-few}
-use Rattle.report.specs.Report.{headLines, kindLines, planLines, reportBy, reportOf}
+use Rattle.report_lines.specs.Lines.{headLines}
+use Rattle.report_lines.proofs.HeadLines.{head-short, head-same}
+use Rattle.report.specs.Report.{Accepts, kindLines, planLines, reportBy, reportOf}
 use Rattle.report.proofs.Accepted.{need-front, start-front}
-use Rattle.report.proofs.Parts.{head-short, head-same, grown-by, counts-within}
+
+-- so many bytes at the front of a list that has them
+pub counts-within : (r : ℕ) (out : List ℕ) → r ≤ length out → Counts r out
+counts-within r out h = (h, sym (length-take-le r out h))
 
 -- the first lines of a file's plan of m activities and n kinds
 abbrev pub headOf : List ℕ → ℕ → ℕ → List ℕ
@@ -31,7 +36,7 @@ module _ (s : List ℕ) {m n : ℕ} (activities : m ≡ planIn s .count) (kinds 
   sizes-few = (omega (arith, count-few s), omega (arith, kinds-few s))
 
   -- what the code holds: `needs` and `starts` are what it lent, `r` is what it read
-  pub head-read : isFine (verdictFault s) ≡ true → (needs starts : List ℕ) {needs′ starts′ : List ℕ} {r : Reading} → 8 ≤ length needs → 65 ≤ length starts
+  pub head-read : Accepts s → (needs starts : List ℕ) {needs′ starts′ : List ℕ} {r : Reading} → 8 ≤ length needs → 65 ≤ length starts
       → needs′ ≡ needsOut s needs → starts′ ≡ startsOut s starts → r ≡ readOf s
       → (t : Text) {u : Text} → u ≡ more t (headLines m n needs′ (r .plan .available) starts′) → u ≡ more t (headOf s m n)
   head-read fine needs starts {needs′} {starts′} {r} many long a b e t w =

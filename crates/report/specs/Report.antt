@@ -1,78 +1,18 @@
--- The lines of the report (document 01, "Plans A to F"): "Fields: m, K; kind, need, availability; activity, start; end's start; kind, from, to, units, added
--- mark. Kinds ascend." Every line ends in a newline. THE WHOLE REPORT of a file's bytes is `reportOf`. Assumes nothing.
-use mathlib.Core.List.{List, [], _∷_, _++_, map}
-use Prim.Native.Nat.{ℕ, suc, _+_, _*_}
-use lib.ListN.{getD, drop}
-use Rattle.words.specs.Members.{members}
-use Rattle.records.specs.Bytes.{byte, field}
+-- THE REPORT of a file's bytes (document 01, "Plans A to F"): `reportOf`. Its lines are those of report_lines. Assumes nothing.
+use mathlib.Core.Path.{_≡_}
+use mathlib.Core.Bool.{true}
+use mathlib.Core.List.{List, _++_}
+use Prim.Native.Nat.{ℕ}
 use Rattle.records.specs.Records.{joined}
-use Rattle.lines.specs.Text.{lineOf}
 use Rattle.plan.specs.declared.Plan.{Plan}
-use Rattle.desk.specs.Open.{planIn}
+use Rattle.desk.specs.Open.{planIn, isFine}
 use Rattle.desk.specs.Needs.{needNumbers}
 use Rattle.desk.specs.Starts.{startNumbers}
 use Rattle.desk.specs.Flow.{flowCount, recordBytes}
-use Rattle.desk.specs.Verdict.{verdictAnswer}
-use Rattle.desk.specs.Numbers.{numbersOf}
-use Rattle.desk.specs.declared.Cause.{Cause}
-use Rattle.desk.specs.declared.Cause.the-variants.{Unreadable, JobCircle, PlanCircle, Overloaded, NoKind, Short, Lists}
+use Rattle.desk.specs.Verdict.{verdictFault, verdictAnswer}
 use Rattle.desk.specs.declared.Decision.{Decision}
 use Rattle.desk.specs.declared.Decision.the-variants.{Accepted, Refused}
-
--- plan, need, start, end, flow, refused
-abbrev pub planWord : List ℕ
-planWord = 112 ∷ 108 ∷ 97 ∷ 110 ∷ []
-
-abbrev pub needWord : List ℕ
-needWord = 110 ∷ 101 ∷ 101 ∷ 100 ∷ []
-
-abbrev pub startWord : List ℕ
-startWord = 115 ∷ 116 ∷ 97 ∷ 114 ∷ 116 ∷ []
-
-abbrev pub endWord : List ℕ
-endWord = 101 ∷ 110 ∷ 100 ∷ []
-
-abbrev pub flowWord : List ℕ
-flowWord = 102 ∷ 108 ∷ 111 ∷ 119 ∷ []
-
-abbrev pub refusedWord : List ℕ
-refusedWord = 114 ∷ 101 ∷ 102 ∷ 117 ∷ 115 ∷ 101 ∷ 100 ∷ []
-
--- ---- an accepted plan of m activities and n kinds, with its needs, availabilities and starts
-
-unfoldable pub needLines : ℕ → List ℕ → List ℕ → List ℕ
-needLines n needs available = joined (λ k. lineOf needWord ((k + 1) ∷ getD needs k 0 ∷ getD available k 0 ∷ [])) n
-
-unfoldable pub startLines : ℕ → List ℕ → List ℕ
-startLines m starts = joined (λ i. lineOf startWord ((i + 1) ∷ getD starts i 0 ∷ [])) m
-
-unfoldable pub headLines : ℕ → ℕ → List ℕ → List ℕ → List ℕ → List ℕ
-headLines m n needs available starts =
-    lineOf planWord (m ∷ n ∷ []) ++ needLines n needs available ++ startLines m starts ++ lineOf endWord (getD starts m 0 ∷ [])
-
--- then, for each kind, the n records of its flow
-abbrev pub flowNumbers : List ℕ → List ℕ
-flowNumbers r = byte r 1 ∷ byte r 2 ∷ byte r 3 ∷ field r 4 4 ∷ byte r 8 ∷ []
-
-unfoldable pub flowLines : ℕ → List ℕ → List ℕ
-flowLines n records = joined (λ i. lineOf flowWord (flowNumbers (drop (24 * i) records))) n
-
--- ---- "A refused plan prints one line: `refused`, the number, then nothing (1), place (2–4), activity (5, 6), or kind, need and members ascending (7).
--- A number added later is followed by what it returns."
-
-abbrev pub refusedNumbers : Cause → List ℕ
-refusedNumbers (Unreadable c) = numbersOf (Unreadable c)
-refusedNumbers (JobCircle i) = 5 ∷ i ∷ []
-refusedNumbers (PlanCircle i) = 6 ∷ i ∷ []
-refusedNumbers (Overloaded k need set) = 7 ∷ k ∷ need ∷ map suc (members 64 set)
-refusedNumbers (NoKind n) = 8 ∷ n ∷ []
-refusedNumbers (Short n) = 9 ∷ n ∷ []
-refusedNumbers (Lists m) = 10 ∷ m ∷ []
-
-unfoldable pub refusedLine : Cause → List ℕ
-refusedLine c = lineOf refusedWord (refusedNumbers c)
-
--- ---- THE REPORT
+use Rattle.report_lines.specs.Lines.{headLines, flowLines, refusedLine}
 
 -- the lines of the flow of kind k + 1, from the records that Flow writes
 unfoldable pub kindLines : Plan → ℕ → List ℕ
@@ -90,3 +30,7 @@ reportBy (Refused c) s = refusedLine c
 
 unfoldable pub reportOf : List ℕ → List ℕ
 reportOf s = reportBy (verdictAnswer s) s
+
+-- Verdict accepts the plan: it meets none of Verdict's causes
+abbrev pub Accepts : List ℕ → Type 0
+Accepts s = isFine (verdictFault s) ≡ true

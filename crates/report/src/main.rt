@@ -3,9 +3,6 @@
 ghost use mathlib.Core.Path.{_≡_};
 ghost use lib.ListN.{length};
 
-mod flows;
-mod head;
-mod refusal;
 mod text;
 
 // Zeros, for the whole text: as many as `report_text` asks for.

@@ -1,40 +1,29 @@
 // The whole text of a report.
 ghost use mathlib.Core.Path.{_≡_};
-ghost use mathlib.Core.Bool.{true};
 ghost use Prim.Native.Nat.{ℕ, _+_, _-_, _*_, _≤_};
 ghost use lib.ListN.{length};
 ghost use Rattle.io.specs.Counts.{Counts};
 ghost use Rattle.lines.specs.Text.{text, more};
-ghost use Rattle.records.specs.Bytes.{byte};
 ghost use Rattle.records.specs.Records.{joined};
-ghost use Rattle.desk.specs.Open.{planIn, isFine};
-ghost use Rattle.desk.specs.Verdict.{verdictFault};
+ghost use Rattle.desk.specs.Open.{planIn};
 ghost use Rattle.desk.specs.Needs.{needNumbers};
 ghost use Rattle.desk.specs.Starts.{startNumbers};
-ghost use Rattle.report.specs.Report.{headLines, kindLines, planLines, reportOf};
-use crate::flows::put_records;
-use crate::head::head_text;
-use crate::refusal::refused_text;
+ghost use Rattle.report_lines.specs.Lines.{headLines};
+ghost use Rattle.report.specs.Report.{kindLines, planLines, reportOf, Accepts};
 use desk::Decision;
 use desk::Output;
+use report_lines::head_text;
+use report_lines::put_records;
+use report_lines::refused_text;
 
-// 65,536 zeros, for the records of a flow: those of the largest plan take 51,480. Behind a list's end a definition reads 0; so, over zeros, the lines are
-// those of the records, however long these are.
-fn zeros() -> [u8; 65536]
-    ensures { λ r. ⌜ ((i : ℕ) → byte r i ≡ 0) ⌝ }
-    ensures { λ r. ⌜ 65536 ≡ length r ⌝ }
-{
-    [0; 65536]
-}
-
-// Writes the lines of one kind's flow behind what is written: at most 2,145, each of at most 32 bytes, and the last may ask for 78 more. Flow of an accepted
-// plan refuses none of its kinds: the second case does not happen.
+// Writes the lines of one kind's flow behind what is written: at most 2,145, each of at most 32 bytes, and the last may ask for 78 more. The records of the
+// largest plan take 51,480 of the buffer's 65,536 bytes; so Flow of an accepted plan refuses none of its kinds, and the second case does not happen.
 fn put_flow(out: &mut [u8], at: usize, s: &[u8], kind: usize) -> usize
-    requires { ⌜ (isFine (verdictFault (now s)) ≡ true) × (1 ≤ kind) × (kind ≤ planIn (now s) .kinds) × (at + 68718 ≤ length (now out)) ⌝ }
+    requires { ⌜ Accepts (now s) × (1 ≤ kind) × (kind ≤ planIn (now s) .kinds) × (at + 68718 ≤ length (now out)) ⌝ }
     ensures { λ r. ⌜ text r (now (out .exit)) ≡ more (text at (now (out .entry))) (kindLines (planIn (now (s .entry))) (kind - 1)) ⌝ }
     ensures { λ r. ⌜ r ≤ at + 68640 ⌝ }
 {
-    let mut records = zeros();
+    let mut records = io::large_buffer();
     let written = desk::flow(s, kind, &mut records);
     match written {
         Output::Written(n) => put_records(out, at, &records, n),
@@ -44,7 +33,7 @@ fn put_flow(out: &mut [u8], at: usize, s: &[u8], kind: usize) -> usize
 
 // Writes the lines of the flows of the first n kinds behind what is written.
 fn put_flows(out: &mut [u8], at: usize, s: &[u8], n: usize) -> usize
-    requires { ⌜ (isFine (verdictFault (now s)) ≡ true) × (n ≤ planIn (now s) .kinds) × (at + 68640 * n + 78 ≤ length (now out)) ⌝ }
+    requires { ⌜ Accepts (now s) × (n ≤ planIn (now s) .kinds) × (at + 68640 * n + 78 ≤ length (now out)) ⌝ }
     ensures { λ r. ⌜ text r (now (out .exit)) ≡ more (text at (now (out .entry))) (joined (kindLines (planIn (now (s .entry)))) n) ⌝ }
     ensures { λ r. ⌜ r ≤ at + 68640 * n ⌝ }
 {
@@ -57,7 +46,7 @@ fn put_flows(out: &mut [u8], at: usize, s: &[u8], n: usize) -> usize
 
 // Writes the first lines of an accepted plan of m activities and n kinds to the front of the lent bytes.
 fn put_head(out: &mut [u8], s: &[u8], m: usize, n: usize) -> usize
-    requires { ⌜ (isFine (verdictFault (now s)) ≡ true) × (m ≡ planIn (now s) .count) × (n ≡ planIn (now s) .kinds) × (4096 ≤ length (now out)) ⌝ }
+    requires { ⌜ Accepts (now s) × (m ≡ planIn (now s) .count) × (n ≡ planIn (now s) .kinds) × (4096 ≤ length (now out)) ⌝ }
     ensures { λ r. ⌜ text r (now (out .exit))
         ≡ more (text 0 (now (out .entry)))
         (headLines m n (needNumbers (now (s .entry))) (planIn (now (s .entry)) .available) (startNumbers (now (s .entry)))) ⌝ }
@@ -74,7 +63,7 @@ fn put_head(out: &mut [u8], s: &[u8], m: usize, n: usize) -> usize
 
 // Writes the report of an accepted plan of m activities and n kinds to the front of the lent bytes.
 fn put_plan(out: &mut [u8], s: &[u8], m: usize, n: usize) -> usize
-    requires { ⌜ (isFine (verdictFault (now s)) ≡ true) × (m ≡ planIn (now s) .count) × (n ≡ planIn (now s) .kinds) × (553294 ≤ length (now out)) ⌝ }
+    requires { ⌜ Accepts (now s) × (m ≡ planIn (now s) .count) × (n ≡ planIn (now s) .kinds) × (553294 ≤ length (now out)) ⌝ }
     ensures { λ r. ⌜ text r (now (out .exit)) ≡ more (text 0 (now (out .entry))) (planLines (now (s .entry))) ⌝ }
     ensures { λ r. ⌜ Counts r (now (out .exit)) ⌝ }
 {

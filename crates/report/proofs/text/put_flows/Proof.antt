@@ -6,7 +6,8 @@ use borrow.Author.Needs.{needs}
 use Rattle.lines.specs.Text.{text, more}
 use Rattle.desk.specs.Open.{planIn}
 use Rattle.report.specs.Report.{kindLines}
-use Rattle.report.proofs.Parts.{Putting, putting-none, putting-length, putting-next, putting-end, grown-by}
+use Rattle.lines.proofs.Texts.{grown-by}
+use Rattle.lines.proofs.Putting.{Putting, putting-none, putting-length, putting-next, putting-end}
 use Rattle.report.proofs.text.put_flows.Statement.{statement}
 use Rattle.report.proofs.text.put_flows.Tie as tie
 

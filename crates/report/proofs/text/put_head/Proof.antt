@@ -21,7 +21,7 @@ returns c =
     let s = d .before .before .before .before in
     let a = s .args in
     head-read (a .s .now) (s .pre .1) (s .pre .2) (s .pre .0) _ _ (omega arith) (omega arith) (d .needs2 .ensures .1) (i .starts2 .ensures .1)
-    (r .read .ensures) (text 0 (a .out .now)) (h .head-text .ensures .0)
+    (r .read .ensures) (text 0 (a .out .now)) (h .head-text .ensures)
 
 pub put-head-spec : {M : Type 1} → statement M
 put-head-spec =

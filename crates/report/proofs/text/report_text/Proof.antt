@@ -3,7 +3,7 @@ use mathlib.Core.Path.{ap, _∙_}
 use borrow.Author.Needs.{needs}
 use Rattle.lines.specs.Text.{text, more}
 use Rattle.report.proofs.Accepted.{accepted}
-use Rattle.report.proofs.Whole.{report-is}
+use Rattle.report.proofs.Whole.{report-is, counts-within}
 use Rattle.report.proofs.text.report_text.Statement.{statement}
 use Rattle.report.proofs.text.report_text.Tie as tie
 
@@ -29,7 +29,7 @@ returns-2 c =
     let d = p .before .before .before in
     let v = d .before .before in
     let a = v .before .before .before .args in
-    (p .refused-text .ensures .0 ∙ ap (more (text 0 (a .out .now))) (report-is (a .s .now) (v .verdict .ensures) (d .decision2 .given .1)), p .refused-text .ensures .1)
+    (p .refused-text .ensures .0 ∙ ap (more (text 0 (a .out .now))) (report-is (a .s .now) (v .verdict .ensures) (d .decision2 .given .1)), counts-within _ _ (p .refused-text .ensures .1))
 
 pub report-text-spec : {M : Type 1} → statement M
 report-text-spec =
