@@ -4,13 +4,11 @@ use mathlib.Core.List.{List}
 use mathlib.Core.Logic.{⊎-elim}
 use Prim.Native.Nat.{ℕ, _+_, _-_, _^_, _<_, min}
 use native.Mathlib.Omega.{arith}
-use lib.Bits.{or-lt}
 use lib.ListN.{getD, length, length-set, set}
-use lib.Pow.{pow-lt}
 use lib.Seq.{getD-set-other, getD-set-same}
 use borrow.Author.Tests.{eq-eqb, ne-eqb}
 use Rattle.words.specs.Bits.{digit, minus, withBit}
-use Rattle.words.proofs.Bits.{digit-lt, digit-minus, digit-or, digit-other, digit-self}
+use Rattle.words.proofs.Bits.{digit-lt, digit-minus, digit-other, digit-self, with-lt, with-there, with-other}
 use Rattle.words.proofs.Tests.{cond-false, cond-true, same-or-not}
 use Rattle.flow.specs.Network.{Network, cell, giver, joined, move, shifted, toLeft, toRight, wrap}
 
@@ -26,19 +24,19 @@ module _ (w i n : ℕ) where
   as-some z = cond-false (minus w (2 ^ i)) (withBit w i) (ne-eqb n 0 z)
 
   pub giver-lt : i < 64 → w < 2 ^ 64 → giver w i n < 2 ^ 64
-  giver-lt h l = ⊎-elim (λ z. omega (arith, as-none z)) (λ z. omega (arith, as-some z, or-lt 64 w (2 ^ i) l (pow-lt h))) (same-or-not n 0)
+  giver-lt h l = ⊎-elim (λ z. omega (arith, as-none z)) (λ z. omega (arith, as-some z, with-lt w i 64 h l)) (same-or-not n 0)
 
   pub giver-gone : n ≡ 0 → digit (giver w i n) i ≡ 0
   giver-gone z = omega (arith, ap (λ (x : ℕ). digit x i) (as-none z), digit-minus w (2 ^ i) i, digit-self i, digit-lt w i)
 
   pub giver-there : (n ≡ 0 → ⊥) → digit (giver w i n) i ≡ 1
-  giver-there z = omega (arith, ap (λ (x : ℕ). digit x i) (as-some z), digit-or w (2 ^ i) i, digit-self i, digit-lt w i)
+  giver-there z = ap (λ (x : ℕ). digit x i) (as-some z) ∙ with-there w i
 
   pub giver-other : (x : ℕ) → (x ≡ i → ⊥) → digit (giver w i n) x ≡ digit w x
   giver-other x d =
       ⊎-elim
       (λ z. omega (arith, ap (λ (y : ℕ). digit y x) (as-none z), digit-minus w (2 ^ i) x, digit-other i x d))
-      (λ z. omega (arith, ap (λ (y : ℕ). digit y x) (as-some z), digit-or w (2 ^ i) x, digit-other i x d))
+      (λ z. ap (λ (y : ℕ). digit y x) (as-some z) ∙ with-other w i x d)
       (same-or-not n 0)
 
 -- ---- the words of givers

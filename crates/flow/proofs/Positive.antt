@@ -5,37 +5,60 @@ use mathlib.Core.Logic.{⊎-elim}
 use Prim.Native.Nat.{ℕ, zero, suc, _^_, _≤_, _<_}
 use native.Mathlib.Omega.{arith}
 use lib.ListN.{getD}
-use Rattle.words.specs.Bits.{digit}
-use Rattle.words.proofs.Bits.{zero-or-one}
-use Rattle.words.proofs.Tests.{same-or-not}
-use Rattle.flow.specs.Network.{giver, positive}
-use Rattle.flow.proofs.Linked.{giver-gone, giver-lt, giver-other, giver-there}
+use borrow.Author.Tests.{eq-eqb, ne-eqb}
+use Rattle.words.specs.Bits.{digit, withBit}
+use Rattle.words.proofs.Bits.{digit-none, with-lt, with-there, with-other}
+use Rattle.words.proofs.Tests.{cond-false, cond-true, same-or-not}
+use Rattle.flow.specs.Network.{noted, positive}
+
+module _ (w i n : ℕ) where
+  pub noted-none : n ≡ 0 → noted w i n ≡ w
+  noted-none z = cond-true w (withBit w i) (eq-eqb n 0 z)
+
+  pub noted-some : (n ≡ 0 → ⊥) → noted w i n ≡ withBit w i
+  noted-some z = cond-false w (withBit w i) (ne-eqb n 0 z)
+
+  noted-lt : i < 64 → w < 2 ^ 64 → noted w i n < 2 ^ 64
+  noted-lt h l = ⊎-elim (λ z. omega (arith, noted-none z)) (λ z. omega (arith, noted-some z, with-lt w i 64 h l)) (same-or-not n 0)
+
+  noted-there : (n ≡ 0 → ⊥) → digit (noted w i n) i ≡ 1
+  noted-there z = ap (λ (x : ℕ). digit x i) (noted-some z) ∙ with-there w i
+
+  noted-other : (x : ℕ) → (x ≡ i → ⊥) → digit (noted w i n) x ≡ digit w x
+  noted-other x d =
+      ⊎-elim
+      (λ z. ap (λ (y : ℕ). digit y x) (noted-none z))
+      (λ z. ap (λ (y : ℕ). digit y x) (noted-some z) ∙ with-other w i x d)
+      (same-or-not n 0)
 
 pub positive-lt : (k : ℕ) → k ≤ 64 → (a : List ℕ) → positive k a < 2 ^ 64
 unfolding positive
 positive-lt zero h a = omega arith
-positive-lt (suc k) h a = giver-lt (positive k a) k (getD a k 0) (omega arith) (positive-lt k (omega arith) a)
+positive-lt (suc k) h a = noted-lt (positive k a) k (getD a k 0) (omega arith) (positive-lt k (omega arith) a)
 
 pub positive-bit : (k : ℕ) (a : List ℕ) (i : ℕ) → i < k → 0 < getD a i 0 → digit (positive k a) i ≡ 1
 unfolding positive
 positive-bit zero a i l p = absurd (omega arith)
 positive-bit (suc k) a i l p =
     ⊎-elim
-    (λ e. rw e (giver-there (positive k a) k (getD a k 0) (λ z. omega (arith, ap (λ (x : ℕ). getD a x 0) e))))
-    (λ n. giver-other (positive k a) k (getD a k 0) i n ∙ positive-bit k a i (omega arith) p)
+    (λ e. rw e (noted-there (positive k a) k (getD a k 0) (λ z. omega (arith, ap (λ (x : ℕ). getD a x 0) e))))
+    (λ n. noted-other (positive k a) k (getD a k 0) i n ∙ positive-bit k a i (omega arith) p)
     (same-or-not i k)
 
-last-is : (w k n : ℕ) → digit (giver w k n) k ≡ 1 → 0 < n
-last-is w k n e = ⊎-elim (λ z. absurd (omega (arith, giver-gone w k n z))) (λ d. omega arith) (same-or-not n 0)
-
-pub positive-is : (k : ℕ) (a : List ℕ) (i : ℕ) → i < k → digit (positive k a) i ≡ 1 → 0 < getD a i 0
+-- no member from k on
+positive-past : (k : ℕ) (a : List ℕ) (i : ℕ) → k ≤ i → digit (positive k a) i ≡ 0
 unfolding positive
-positive-is zero a i l e = absurd (omega arith)
-positive-is (suc k) a i l e =
-    ⊎-elim
-    (λ q. rw q (last-is (positive k a) k (getD a k 0) (ap (λ (x : ℕ). digit (giver (positive k a) k (getD a k 0)) x) (sym q) ∙ e)))
-    (λ n. positive-is k a i (omega arith) (sym (giver-other (positive k a) k (getD a k 0) i n) ∙ e))
-    (same-or-not i k)
+positive-past zero a i l = digit-none i
+positive-past (suc k) a i l = noted-other (positive k a) k (getD a k 0) i (λ e. omega arith) ∙ positive-past k a i (omega arith)
 
 pub positive-none : (k : ℕ) (a : List ℕ) (i : ℕ) → i < k → getD a i 0 ≡ 0 → digit (positive k a) i ≡ 0
-positive-none k a i l z = ⊎-elim (λ e. e) (λ o. absurd (omega (arith, positive-is k a i l o))) (zero-or-one (positive k a) i)
+unfolding positive
+positive-none zero a i l z = absurd (omega arith)
+positive-none (suc k) a i l z =
+    ⊎-elim
+    (λ e. rw e (ap (λ (x : ℕ). digit x k) (noted-none (positive k a) k (getD a k 0) (sym (ap (λ (x : ℕ). getD a x 0) e) ∙ z)) ∙ positive-past k a k (omega arith)))
+    (λ n. noted-other (positive k a) k (getD a k 0) i n ∙ positive-none k a i (omega arith) z)
+    (same-or-not i k)
+
+pub positive-is : (k : ℕ) (a : List ℕ) (i : ℕ) → i < k → digit (positive k a) i ≡ 1 → 0 < getD a i 0
+positive-is k a i l e = ⊎-elim (λ z. absurd (omega (arith, positive-none k a i l z))) (λ n. omega arith) (same-or-not (getD a i 0) 0)

@@ -15,8 +15,8 @@ use Rattle.order.specs.Orders.{afterWords}
 use Rattle.flow.specs.declared.Search.{Search}
 use Rattle.flow.specs.declared.Quoted.{Quoted}
 use Rattle.flow.specs.Search.{low, marks, Seen, seen, visit, reached, fresh, found, onward, advance, begun, reach}
-use Rattle.flow.specs.Network.{Network, network, wrap, cell, giver, positive, joined, shifted, walk, handing, augmented}
-use Rattle.flow.specs.Solve.{blanks, Round, round, solved, rankOf, ranking, ranked, handRank, started, sought, rounded, next, settle}
+use Rattle.flow.specs.Network.{Network, network, wrap, cell, giver, noted, positive, joined, shifted, walk, handing, augmented}
+use Rattle.flow.specs.Solve.{blanks, Round, round, solved, rankOf, rankedAt, ranked, handRank, started, sought, rounded, next, settle}
 use Rattle.flow.specs.Quote.{unused, copied, outcome, amount, quoted, quoteOf, flowOf}
 
 -- ---- a search
@@ -86,9 +86,9 @@ pub positive-none : (a : List ℕ) → 0 ≡ positive 0 a
 unfolding positive
 positive-none a = refl
 
-pub positive-more : (a : List ℕ) (i w v : ℕ) → w ≡ positive i a → v ≡ giver w i (getD a i 0) → v ≡ positive (i + 1) a
+pub positive-more : (a : List ℕ) (i w v : ℕ) → w ≡ positive i a → v ≡ noted w i (getD a i 0) → v ≡ positive (i + 1) a
 unfolding positive
-positive-more a i w v e q = q ∙ ap (λ (x : ℕ). giver x i (getD a i 0)) e ∙ ap (λ (x : ℕ). positive x a) (sym (add-one i))
+positive-more a i w v e q = q ∙ ap (λ (x : ℕ). noted x i (getD a i 0)) e ∙ ap (λ (x : ℕ). positive x a) (sym (add-one i))
 
 pub joins : (f g l r : List ℕ) (i j d n : ℕ) (f′ g′ : List ℕ)
     → d ≡ min (getD l i 0) (getD r j 0)
@@ -126,9 +126,11 @@ module _ (i : ℕ) (s : Network) where
 
 -- ---- the start
 
-pub rankings : (rows b : List ℕ) (i c w : ℕ)
-    → c ≡ rankOf (getD rows i 0) → w ≡ giver (getD b c 0) i 1 → set b c w ≡ ranking rows i b
-rankings rows b i c w e q = cc (e, q)
+pub rank-none : (row i : ℕ) (b : List ℕ) → row ≡ 0 → b ≡ rankedAt row i b
+rank-none row i b z = sym (cond-true _ _ (eq-eqb row 0 z))
+
+pub rank-some : (row i : ℕ) (b : List ℕ) (c w : ℕ) → (row ≡ 0 → ⊥) → c ≡ rankOf row → w ≡ withBit (getD b c 0) i → set b c w ≡ rankedAt row i b
+rank-some row i b c w z e q = cc (e, q) ∙ sym (cond-false _ _ (ne-eqb row 0 z))
 
 pub starts : {b : List ℕ} (rows : List ℕ) (s : Network) → b ≡ ranked rows → upto (handRank rows b) 64 s ≡ started rows s
 unfolding started

@@ -33,10 +33,14 @@ handed f i j = getD f (cell i j) 0
 unfoldable pub giver : ℕ → ℕ → ℕ → ℕ
 giver w i n = cond (eqb n 0) (minus w (2 ^ i)) (withBit w i)
 
+-- the word with the member i, or as it is where n is 0
+abbrev pub noted : ℕ → ℕ → ℕ → ℕ
+noted w i n = cond (eqb n 0) w (withBit w i)
+
 -- the word of the places below k at which the list is not 0
 unfoldable pub positive : ℕ → List ℕ → ℕ
 positive zero a = 0
-positive (suc k) a = giver (positive k a) k (getD a k 0)
+positive (suc k) a = noted (positive k a) k (getD a k 0)
 
 -- what i hands over to j becomes n
 abbrev pub move : Network → ℕ → ℕ → ℕ → Network

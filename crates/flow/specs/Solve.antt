@@ -4,26 +4,29 @@ use mathlib.Core.Bool.{Bool, cond}
 use mathlib.Core.List.{List}
 use Prim.Native.Nat.{ℕ}
 use lib.Bits.{bitAnd}
-use lib.Dec.{ltb, leb}
+use lib.Dec.{eqb, ltb, leb}
 use lib.ListN.{getD, set, replicate}
-use Rattle.words.specs.Bits.{bit}
+use Rattle.words.specs.Bits.{bit, withBit}
 use Rattle.words.specs.Members.{count}
 use Rattle.words.specs.Loops.{each, upto, run}
 use Rattle.flow.specs.declared.Search.{Search}
 use Rattle.flow.specs.Search.{Reached, reached, begun, reach}
-use Rattle.flow.specs.Network.{Network, giver, positive, walk, augmented, handing}
+use Rattle.flow.specs.Network.{Network, positive, walk, augmented, handing}
 
 unfoldable pub blanks : ℕ → List ℕ
 blanks v = replicate 64 v
 
 -- ---- the start: the elements with the fewest after them hand over first
 
--- the elements by how many come after them, a word for each number
+-- the elements by how many come after them, a word for each number; one with none after it has nobody to hand over to, and is left out
 abbrev pub rankOf : ℕ → ℕ
 rankOf row = bitAnd (count 64 (bit row)) 63
 
+abbrev pub rankedAt : ℕ → ℕ → List ℕ → List ℕ
+rankedAt row i b = cond (eqb row 0) b (set b (rankOf row) (withBit (getD b (rankOf row) 0) i))
+
 abbrev pub ranking : List ℕ → ℕ → List ℕ → List ℕ
-ranking rows i b = set b (rankOf (getD rows i 0)) (giver (getD b (rankOf (getD rows i 0)) 0) i 1)
+ranking rows i b = rankedAt (getD rows i 0) i b
 
 unfoldable pub ranked : List ℕ → List ℕ
 ranked rows = upto (ranking rows) 64 (blanks 0)

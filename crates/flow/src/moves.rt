@@ -4,15 +4,27 @@ ghost use mathlib.Core.List.{List};
 ghost use Prim.Native.Nat.{ℕ, _<_};
 ghost use lib.ListN.{getD, set};
 ghost use Rattle.words.specs.Loops.{each};
-ghost use Rattle.flow.specs.Network.{giver, positive, cell, network, joined, shifted, walk, augmented, handing};
+ghost use Rattle.flow.specs.Network.{giver, noted, positive, cell, network, joined, shifted, walk, augmented, handing};
 
 // The word with the place i, or without it where n is 0.
-pub fn given(word: u64, i: usize, n: u32) -> u64
+fn given(word: u64, i: usize, n: u32) -> u64
     requires { ⌜ i < 64 ⌝ }
     ensures { λ r. ⌜ r ≡ giver word i n ⌝ }
 {
     if n == 0 {
         words::without_bit(word, i)
+    } else {
+        words::with_bit(word, i)
+    }
+}
+
+// The word with the place i, or as it is where n is 0.
+fn note(word: u64, i: usize, n: u32) -> u64
+    requires { ⌜ i < 64 ⌝ }
+    ensures { λ r. ⌜ r ≡ noted word i n ⌝ }
+{
+    if n == 0 {
+        word
     } else {
         words::with_bit(word, i)
     }
@@ -25,7 +37,7 @@ pub fn word_of(a: &[u32; 64]) -> u64
     let mut word: u64 = 0;
     let mut i: usize = 0;
     while i < 64 {
-        word = given(word, i, a[i]);
+        word = note(word, i, a[i]);
         i += 1;
     }
     word

@@ -7,11 +7,11 @@ use Prim.Native.Nat.{ℕ, zero, suc, _+_, _-_, _*_, _/_, _%_, _^_, _≤_, _<_, m
 use native.Mathlib.Nat.{one-mul, mod-lt, mod-eq-of-lt, zero-lt-suc, zero-max, zero-min, zero-sub, pow-suc, pow-succ', div-div-eq-div-mul, zero-div, div-one, lt-of-lt-of-le}
 use native.Mathlib.Omega.{arith}
 use lib.Dec.{lit<, eqb, eqb·suc-suc, eqb·zero-suc, eqb·suc-zero}
-use lib.Bits.{bitAnd, bitOr, bitXor, differ, and-step, or-step, xor-step, and-le-l, and-shr, or-shr, xor-shr, block-odd, block-half}
+use lib.Bits.{bitAnd, bitOr, bitXor, differ, and-step, or-step, xor-step, or-lt, and-le-l, and-shr, or-shr, xor-shr, block-odd, block-half}
 use lib.Pow.{pow-mono, pow-lt, shr-shr, high}
 use lib.Arith.{lt-one}
 use borrow.Author.Tests.{eq-eqb, ne-eqb, eqb-true}
-use Rattle.words.specs.Bits.{digit, bit, minus}
+use Rattle.words.specs.Bits.{digit, bit, minus, withBit}
 use Rattle.words.proofs.Tests.{clash}
 
 -- ---- a digit is that of the number itself, or one of its half
@@ -217,6 +217,17 @@ digit-self i = digit-one (2 ^ i) i (bit-single i i ∙ eq-eqb i i refl)
 
 pub digit-other : (j i : ℕ) → (i ≡ j → ⊥) → digit (2 ^ j) i ≡ 0
 digit-other j i n = digit-zero (2 ^ j) i (bit-single j i ∙ ne-eqb i j n)
+
+-- a number with one member more
+module _ (w i : ℕ) where
+  pub with-lt : (k : ℕ) → i < k → w < 2 ^ k → withBit w i < 2 ^ k
+  with-lt k h l = or-lt k w (2 ^ i) l (pow-lt h)
+
+  pub with-there : digit (withBit w i) i ≡ 1
+  with-there = omega (arith, digit-or w (2 ^ i) i, digit-self i, digit-lt w i)
+
+  pub with-other : (x : ℕ) → (x ≡ i → ⊥) → digit (withBit w i) x ≡ digit w x
+  with-other x d = omega (arith, digit-or w (2 ^ i) x, digit-other i x d)
 
 -- `1 << j` in a word of k bits is that number
 pub shl-one : (k j : ℕ) → j < k → 1 * 2 ^ j % 2 ^ k ≡ 2 ^ j

@@ -19,7 +19,7 @@ loop-holds : tie.Need-loop-holds Inv-loop μ-loop
 loop-holds c = (positive-none _, omega arith)
 
 loop-again : tie.Need-loop-again Inv-loop μ-loop
-loop-again c = (positive-more _ _ _ _ (c .before .before .before .loop .inv .0) (c .given .ensures), omega arith)
+loop-again c = (positive-more _ _ _ _ (c .before .before .before .loop .inv .0) (c .note .ensures), omega arith)
 
 returns : tie.Need-returns Inv-loop μ-loop
 returns c = c .before .loop .inv .0 ∙ ap (λ (x : ℕ). positive x (now (c .before .before .args .a))) (omega arith)
