@@ -50,7 +50,7 @@ use Rattle.desk.specs.declared.Fault.the-variants.{Fine, Refused}
 use Rattle.desk.proofs.Turns.{cause-fine}
 use Rattle.desk.proofs.Opening.{count-few}
 use Rattle.desk.proofs.Weighing.{kinds-few, need-quoted, quotable, over-below}
-use Rattle.desk.proofs.Passing.{count-room, pairs-few}
+use Rattle.desk.proofs.Passing.{count-room, length-few}
 use Rattle.desk.proofs.Handing.{kind-within, flow-fine, not-over}
 use Rattle.desk.proofs.Checking.{crew-fine}
 use Rattle.counter.specs.Codes.{unreadCode, causeCode, verdictCode, outputCode, foundCode, crewCode}
@@ -172,10 +172,6 @@ overload-small s n =
 
 -- ---- Flow
 
-length-small : (m : ℕ) → m ≤ 64 → flowLength m ≤ 65536
-unfolding flowLength
-length-small m h = omega (arith, pairs-few m h)
-
 pub flow-small : (s : List ℕ) → AreBytes s → (kind n : ℕ) → outputCode (flowAnswer s kind n) < 2 ^ 64
 unfolding flowFault
 flow-small s small kind n = output-small (flowFault s kind n) (flowCount (planIn s) (kind - 1)) refused written
@@ -187,7 +183,7 @@ flow-small s small kind n = output-small (flowFault s kind n) (flowCount (planIn
     short = ltb n (flowLength (planIn s .count))
 
     l : flowLength (planIn s .count) ≤ 65536
-    l = length-small (planIn s .count) (count-few s)
+    l = omega (arith, length-few (planIn s .count) (count-few s))
 
     opens : isFine (orCause known short (Short (flowLength (planIn s .count)))) ≡ true → Opens s
     opens e =

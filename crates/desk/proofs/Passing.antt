@@ -44,6 +44,10 @@ pairs-few m h =
 pairs-room : (m : ℕ) → m ≤ 64 → m * (m - 1) / 2 + 2 * m + 1 ≤ 2145
 pairs-room m h = omega (arith, pairs-few m h)
 
+pub length-few : (m : ℕ) → m ≤ 64 → flowLength m ≤ 24 * 2145
+unfolding flowLength
+length-few m h = omega (arith, pairs-room m h)
+
 -- a record takes 24 bytes
 pub records-length : (q : Plan) (k : ℕ) → length (recordBytes q k) ≡ 24 * flowCount q k
 unfolding flowCount recordBytes

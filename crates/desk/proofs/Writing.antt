@@ -2,9 +2,9 @@
 use mathlib.Core.Path.{_≡_, refl, sym, ap, _∙_}
 use mathlib.Core.Bool.{true, false, cond}
 use mathlib.Core.List.{List, _++_}
-use Prim.Native.Nat.{ℕ}
+use Prim.Native.Nat.{ℕ, _<_}
 use native.Mathlib.Omega.{arith}
-use lib.ListN.{length, drop}
+use lib.ListN.{length, getD, drop, List·getD-append}
 use Rattle.words.specs.Tables.{over}
 use Rattle.words.proofs.Tables.{over-all}
 use Rattle.words.proofs.Tests.{cond-true, cond-false}
@@ -58,6 +58,10 @@ lent-refused f c written out e = sym (lent-kept f written out (ap isFine e))
 -- else what is written stands at the front, and the rest is as it was
 pub lent-fine : (f : Fault) (written out : List ℕ) → f ≡ Fine → lentAfter f written out ≡ written ++ drop (length written) out
 lent-fine f written out e = sym (lent-written f written out (ap isFine e))
+
+pub lent-front : (f : Fault) (written out : List ℕ) → f ≡ Fine → (i : ℕ) → i < length written → getD (lentAfter f written out) i 0 ≡ getD written i 0
+lent-front f written out e i h =
+    ap (λ (xs : List ℕ). getD xs i 0) (lent-fine f written out e) ∙ List·getD-append written (drop (length written) out) 0 i h
 
 -- ---- equal faults, and where there is none equal numbers or lists: equal answers, and equal lists after
 

@@ -5,7 +5,7 @@ use mathlib.Core.List.{List}
 use Prim.Native.Nat.{ℕ, _+_, _≤_, _<_}
 use native.Mathlib.Omega.{arith}
 use lib.Dec.{ltb}
-use lib.ListN.{length, getD, drop, replicate, length-replicate, List·getD-append}
+use lib.ListN.{length, getD, replicate, length-replicate}
 use borrow.Author.Tests.{lt-ltb, le-ltb, ltb-true, ltb-false}
 use Rattle.words.specs.Bits.{bit}
 use Rattle.words.specs.Members.{count}
@@ -23,7 +23,7 @@ use Rattle.desk.specs.declared.Cause.the-variants.{Short}
 use Rattle.desk.specs.declared.Fault.the-variants.{Fine}
 use Rattle.desk.specs.declared.Output.the-variants.{Written}
 use Rattle.desk.proofs.Turns.{cause-none}
-use Rattle.desk.proofs.Writing.{output-fine, lent-fine}
+use Rattle.desk.proofs.Writing.{output-fine, lent-front}
 use Rattle.desk.proofs.Opening.{opens-readable}
 use Rattle.desk.proofs.Weighing.{kinds-few, kinds-in, available-in}
 use Rattle.promises.proofs.Quoting.{set-unrelated, set-demands, set-members}
@@ -51,8 +51,7 @@ module _ (s : List ℕ) (small : AreBytes s) (o : Opens s) where
     unfolding needsOut needNumbers
     need-written k l =
         let hk : k < length (needNumbers s) = omega (arith, few l .0, length-table (planIn s .kinds) (needFor (planIn s))) in
-        ap (λ (xs : List ℕ). getD xs k 0) (lent-fine (needsFault s (length out)) (needNumbers s) out needs-fine)
-        ∙ List·getD-append (needNumbers s) (drop (length (needNumbers s)) out) 0 k hk
+        lent-front (needsFault s (length out)) (needNumbers s) out needs-fine k hk
         ∙ getD-table (planIn s .kinds) (needFor (planIn s)) k 0 (few l .0)
 
   pub quoted-is : (k : ℕ) → k < fileKinds s → quotedNeed s k ≡ needFor (planIn s) k

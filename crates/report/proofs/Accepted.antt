@@ -1,20 +1,19 @@
 -- What the desk answers of an accepted plan, and what it writes. Assumes nothing.
-use mathlib.Core.Path.{_≡_, refl, sym, ap, _∙_}
+use mathlib.Core.Path.{_≡_, refl, sym, _∙_}
 use mathlib.Core.Bool.{true, false}
 use mathlib.Core.List.{List, _++_}
 use Prim.Native.Nat.{ℕ, _-_, _*_, _≤_, _<_}
 use native.Mathlib.Omega.{arith}
 use lib.Dec.{ltb}
-use lib.ListN.{length, getD, drop, List·getD-append}
+use lib.ListN.{length, getD, drop}
 use borrow.Author.Tests.{le-ltb, le-leb}
 use Rattle.records.specs.Bytes.{AreBytes}
 use Rattle.desk.specs.Open.{planIn, isFine, faultOf, Opens}
-use Rattle.desk.specs.Output.{lentAfter}
 use Rattle.desk.specs.Need.{isOverloaded, overCause}
 use Rattle.desk.specs.Verdict.{verdictFault, verdictOf, verdictAnswer}
 use Rattle.desk.specs.Needs.{needsFault, needNumbers, needsOut}
 use Rattle.desk.specs.Starts.{needed, startsFault, startNumbers, startsOut}
-use Rattle.desk.specs.Flow.{flowLength, flowFault, flowCount, recordBytes, flowAnswer, flowOut}
+use Rattle.desk.specs.Flow.{flowFault, flowCount, recordBytes, flowAnswer, flowOut}
 use Rattle.desk.specs.declared.Cause.the-variants.{Short}
 use Rattle.desk.specs.declared.Fault.{Fault}
 use Rattle.desk.specs.declared.Fault.the-variants.{Fine, Refused}
@@ -22,13 +21,13 @@ use Rattle.desk.specs.declared.Decision.{Decision}
 use Rattle.desk.specs.declared.Decision.the-variants as decision
 use Rattle.desk.specs.declared.Output.the-variants.{Written}
 use Rattle.desk.proofs.Turns.{cause-fine, cause-none}
-use Rattle.desk.proofs.Writing.{output-fine, lent-fine}
+use Rattle.desk.proofs.Writing.{output-fine, lent-fine, lent-front}
 use Rattle.desk.proofs.Opening.{count-few}
 use Rattle.desk.proofs.Weighing.{kinds-few}
 use Rattle.desk.proofs.Pricing.{length-numbers as length-needs}
 use Rattle.desk.proofs.Starting.{length-numbers as length-starts}
 use Rattle.desk.proofs.Handing.{kind-some, fine-flow, not-over}
-use Rattle.desk.proofs.Passing.{count-room, pairs-few}
+use Rattle.desk.proofs.Passing.{count-room, length-few}
 use Rattle.report.specs.Report.{Accepts}
 
 -- ---- Verdict
@@ -43,16 +42,6 @@ pub accepted : (s : List ℕ) {r : Decision} (m n : ℕ) → r ≡ verdictAnswer
 accepted s m n q e = accepted-is (verdictFault s) (planIn s .count) (planIn s .kinds) m n (sym q ∙ e)
 
 -- ---- the rest, of a plan that is accepted
-
--- what is written stands at the front
-lent-front : (f : Fault) (written out : List ℕ) → f ≡ Fine → (i : ℕ) → i < length written → getD (lentAfter f written out) i 0 ≡ getD written i 0
-lent-front f written out e i h =
-    ap (λ (xs : List ℕ). getD xs i 0) (lent-fine f written out e) ∙ List·getD-append written (drop (length written) out) 0 i h
-
--- a flow has at most 2145 records
-length-small : (m : ℕ) → m ≤ 64 → flowLength m ≤ 24 * 2145
-unfolding flowLength
-length-small m h = omega (arith, pairs-few m h)
 
 module _ (s : List ℕ) (fine : Accepts s) where
   opens : Opens s × (isOverloaded (planIn s) ≡ false)
@@ -80,14 +69,14 @@ module _ (s : List ℕ) (fine : Accepts s) where
   pub flow-few : AreBytes s → (k : ℕ) → k < planIn s .kinds → flowCount (planIn s) k ≤ 2145
   flow-few bytes k h =
       let room = count-room s bytes (opens .0) k (omega (arith, kinds-few s)) (not-over s (opens .1) k h) in
-      omega (arith, length-small (planIn s .count) (count-few s))
+      omega (arith, length-few (planIn s .count) (count-few s))
 
   -- with enough bytes lent it is written
   module _ (kind : ℕ) (some : 1 ≤ kind) (within : kind ≤ planIn s .kinds) (out : List ℕ) (room : 24 * 2145 ≤ length out) where
     flow-goes : flowFault s kind (length out) ≡ Fine
     flow-goes =
         fine-flow s kind (length out) (opens .0) (sym (kind-some kind (planIn s .kinds) some) ∙ le-leb kind (planIn s .kinds) within)
-        (omega (arith, length-small (planIn s .count) (count-few s))) (opens .1)
+        (omega (arith, length-few (planIn s .count) (count-few s))) (opens .1)
 
     pub flow-answers : flowAnswer s kind (length out) ≡ Written (flowCount (planIn s) (kind - 1))
     flow-answers = output-fine (flowFault s kind (length out)) (flowCount (planIn s) (kind - 1)) flow-goes
