@@ -1,5 +1,5 @@
 # make run [PLAN=file]  proves and builds the report program, and prints the report of a plan file; of examples/a.plan where none is named
-# make test             proves every crate, tries the edits that must fail, runs the programs and the other tests
+# make test             proves every crate, tries the wrong versions, runs the programs and the other tests
 PLAN ?= examples/a.plan
 .PHONY: run test
 

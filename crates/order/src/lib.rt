@@ -1,7 +1,7 @@
 // Which element comes before which, and sets of elements.
 ghost use mathlib.Core.Path.{_≡_};
 ghost use Prim.Native.Nat.{_<_};
-ghost use Rattle.order.specs.Sets.{member, emptySet, withElement, unionOf, meetOf, minusOf, sizeOf, lowestOf, withoutLowest};
+ghost use Rattle.order.specs.Sets.{member, withElement, unionOf, meetOf, minusOf, sizeOf, lowestOf, withoutLowest};
 ghost use Rattle.order.specs.Rows.{gained, passed, passing, endsIn, passingOver};
 ghost use Rattle.order.specs.Orders.{emptyOrder, extended, isBefore, afterOf, afterWords, circleOf, orderIn, joinedRows};
 
@@ -30,14 +30,6 @@ impl Set {
         Set {
             word: words::with_bit(self.word, i),
         }
-    }
-
-    // The set of one element.
-    pub fn single(i: usize) -> Set
-        requires { ⌜ i < 64 ⌝ }
-        ensures { λ r. ⌜ r ≡ withElement emptySet i ⌝ }
-    {
-        Set::EMPTY.with(i)
     }
 
     // The members of either set.

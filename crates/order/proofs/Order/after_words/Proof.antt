@@ -8,7 +8,7 @@ use Rattle.order.proofs.Order.after_words.Tie as tie
 
 returns : tie.Need-returns
 unfolding afterWords
-returns c = is-table 64 _ (c .before .args .self .rows) 0 (search needs) (λ i h. refl)
+returns c = is-table 64 _ _ 0 (search needs) (λ i h. refl)
 
 pub after-words-spec : {M : Type 1} → statement M
 after-words-spec = tie.close (tie.spec returns)
