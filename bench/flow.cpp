@@ -15,7 +15,8 @@
 #include <boost/graph/adjacency_list.hpp>
 #include <boost/graph/push_relabel_max_flow.hpp>
 
-extern "C" uint32_t yaffledesk_quote(const uint64_t arcs[64], const uint32_t demand[64], uint32_t flow[4096], uint64_t *set);
+// The elements from m on are passed over. A quote asks that their rows of `flow` are 0, and takes back what stands in the others: with m = N it asks nothing.
+extern "C" uint32_t yaffledesk_quote(const uint64_t arcs[N], size_t m, const uint32_t demand[N], uint32_t flow[N * N], uint64_t *set);
 
 constexpr double WANTED = 4;
 
@@ -51,7 +52,7 @@ struct Answer {
     uint64_t set;
 } answer;
 
-uint32_t ours(const Plan &plan) { return yaffledesk_quote(plan.rows.data(), plan.demand.data(), answer.flow, &answer.set); }
+uint32_t ours(const Plan &plan) { return yaffledesk_quote(plan.rows.data(), N, plan.demand.data(), answer.flow, &answer.set); }
 
 template <bool FLOW> uint32_t by_lemon(const Plan &plan) { return lemon_need<FLOW>(plan.rows.data(), plan.demand.data()); }
 

@@ -1,40 +1,81 @@
-// What bench/ measures, as functions that a C program can call. Each is one call of a proved function, and copies its answer out.
+// What bench/ measures, as functions that a C program can call. Each calls proved functions, and copies the answer out. A table of sets is one
+// of words for C, as is what is shown of a set: bit i for the element i.
 ghost use mathlib.Core.Path.{_≡_};
+ghost use Prim.Native.Nat.{_%_, _^_, _≤_};
 ghost use Rattle.order.specs.Before.{Acyclic};
-ghost use Rattle.order.specs.Orders.{afterWords, Direct, orderIn, joinedRows};
+ghost use Rattle.order.specs.Stored.{elements, numberOf as setNumber};
+ghost use Rattle.order.specs.Orders.{afterRows, Direct, orderIn, joinedRows};
 ghost use Rattle.plan.specs.Reads.{readOf};
 ghost use Rattle.schedule.specs.Arrays.{byDuration, startsOf, AllAtMost, Listed, crewNet, workOf};
 ghost use Rattle.schedule.specs.Checks.{checkOf};
 ghost use Rattle.bench_c.specs.Numbers.{numberOf};
-ghost use Rattle.flow.specs.Quote.{quoteOf, flowOf};
+ghost use Rattle.flow.specs.Solve.{ranked};
+ghost use Rattle.flow.specs.Quote.{unused, Clean, quoteIn, quoteOf, flowOf};
+use order::ELEMENTS;
 use order::Order;
+use order::Rows;
 use schedule::Checked;
 
-// The need of the order of arcs, from i to each member of row i, with a demand for each element; the set that has it, and the handover.
+// The need of the order of arcs, from i to each member of row i, with a demand for each of the m first elements; the set that has it, and the handover.
+// The rows of `flow` from m on come in at 0; what stands in the others is taken back first.
 #[no_mangle]
 pub extern "C" fn yaffledesk_quote(
-    arcs: &[u64; 64],
-    demand: &[u32; 64],
-    flow: &mut [u32; 4096],
+    arcs: &Rows,
+    m: usize,
+    demand: &[u32; ELEMENTS],
+    flow: &mut [u32; ELEMENTS * ELEMENTS],
     set: &mut u64,
 ) -> u32
-    ensures { λ r. ⌜ (r ≡ quoteOf (orderIn (now (arcs .entry))) (now (demand .entry)) .need) × (now (set .exit) ≡ quoteOf (orderIn (now (arcs .entry))) (now (demand .entry)) .set .word) × (now (flow .exit) ≡ flowOf (orderIn (now (arcs .entry))) (now (demand .entry))) ⌝ }
+    requires { ⌜ (m ≤ elements) × Clean m (now flow) ⌝ }
+    ensures { λ r. ⌜ (r ≡ quoteOf m (orderIn (now (arcs .entry))) (now (demand .entry)) .need) × (now (set .exit) ≡ setNumber (quoteOf m (orderIn (now (arcs .entry))) (now (demand .entry)) .set) % 2 ^ 64) × (now (flow .exit) ≡ flowOf m (orderIn (now (arcs .entry))) (now (demand .entry))) ⌝ }
 {
     let rows = *arcs;
-    let q = flow::quote(Order::of(rows), demand, flow);
+    flow::clear(flow, m);
+    let q = flow::quote(Order::of(rows), m, demand, flow);
     let shown = q.set;
-    *set = shown.word;
+    let word = shown.first_word();
+    *set = word;
     q.need
+}
+
+// The ranking of an order, which is closed: for all kinds of a plan the same.
+#[no_mangle]
+pub extern "C" fn yaffledesk_bench_ranks(rows: &Rows, m: usize, ranks: &mut Rows)
+    requires { ⌜ m ≤ elements ⌝ }
+    ensures { λ _. ⌜ now (ranks .exit) ≡ ranked m (now (rows .entry)) ⌝ }
+{
+    let r = flow::ranks(rows, m);
+    *ranks = r;
+}
+
+// The need of one kind, by the closed order and its ranking, and the set that has it. `flow` comes in at 0 and goes out so.
+#[no_mangle]
+pub extern "C" fn yaffledesk_bench_weigh(
+    rows: &Rows,
+    ranks: &Rows,
+    m: usize,
+    demand: &[u32; ELEMENTS],
+    flow: &mut [u32; ELEMENTS * ELEMENTS],
+    set: &mut u64,
+) -> u32
+    requires { ⌜ (m ≤ elements) × (now ranks ≡ ranked m (now rows)) × (now flow ≡ unused) ⌝ }
+    ensures { λ r. ⌜ (r ≡ quoteIn m (now (rows .entry)) (now (demand .entry)) .need) × (now (set .exit) ≡ setNumber (quoteIn m (now (rows .entry)) (now (demand .entry)) .set) % 2 ^ 64) × (now (flow .exit) ≡ unused) ⌝ }
+{
+    let w = flow::weigh_ranked(rows, ranks, m, demand, flow);
+    let heaviest = w.set;
+    let bits = heaviest.first_word();
+    *set = bits;
+    w.need
 }
 
 // Reads a plan file: how many activities it has, with their durations, demands and arcs.
 #[no_mangle]
 pub extern "C" fn yaffledesk_bench_read(
     s: &[u8],
-    duration: &mut [u32; 64],
-    demand: &mut [u32; 512],
-    job: &mut [u64; 64],
-    extra: &mut [u64; 64],
+    duration: &mut [u32; ELEMENTS],
+    demand: &mut [u32; 8 * ELEMENTS],
+    job: &mut Rows,
+    extra: &mut Rows,
 ) -> usize
     ensures { λ r. ⌜ (r ≡ readOf (now (s .entry)) .plan .count) × (now (duration .exit) ≡ readOf (now (s .entry)) .plan .duration) × (now (demand .exit) ≡ readOf (now (s .entry)) .plan .demand) × (now (job .exit) ≡ readOf (now (s .entry)) .plan .job) × (now (extra .exit) ≡ readOf (now (s .entry)) .plan .extra) ⌝ }
 {
@@ -53,28 +94,23 @@ pub extern "C" fn yaffledesk_bench_read(
 
 // The job order and the plan order of two tables of arcs.
 #[no_mangle]
-pub extern "C" fn yaffledesk_bench_orders(
-    job: &[u64; 64],
-    extra: &[u64; 64],
-    jobs: &mut [u64; 64],
-    all: &mut [u64; 64],
-)
-    ensures { λ _. ⌜ (now (jobs .exit) ≡ afterWords (orderIn (now (job .entry)))) × (now (all .exit) ≡ afterWords (orderIn (joinedRows (now (job .entry)) (now (extra .entry))))) ⌝ }
+pub extern "C" fn yaffledesk_bench_orders(job: &Rows, extra: &Rows, jobs: &mut Rows, all: &mut Rows)
+    ensures { λ _. ⌜ (now (jobs .exit) ≡ afterRows (orderIn (now (job .entry)))) × (now (all .exit) ≡ afterRows (orderIn (joinedRows (now (job .entry)) (now (extra .entry))))) ⌝ }
 {
     let a = *job;
     let b = *extra;
-    let j = Order::of(a).after_words();
+    let j = Order::of(a).after_rows();
     *jobs = j;
-    let p = Order::of(order::joined(a, b)).after_words();
+    let p = Order::of(order::joined(a, b)).after_rows();
     *all = p;
 }
 
 // The earliest starts over arcs without a circle, with durations of at most 65,535.
 #[no_mangle]
 pub extern "C" fn yaffledesk_bench_earliest(
-    arcs: &[u64; 64],
-    duration: &[u32; 64],
-    starts: &mut [u32; 64],
+    arcs: &Rows,
+    duration: &[u32; ELEMENTS],
+    starts: &mut [u32; ELEMENTS],
 )
     requires { ⌜ Acyclic (Direct (now arcs)) × AllAtMost 65535 (now duration) ⌝ }
     ensures { λ _. ⌜ now (starts .exit) ≡ startsOf (now (arcs .entry)) (byDuration (now (duration .entry))) ⌝ }
@@ -83,11 +119,11 @@ pub extern "C" fn yaffledesk_bench_earliest(
     *starts = s;
 }
 
-// The crew check of at most 64 starts and as many durations: 0 fits, 1 a broken arc, 2 an overload.
+// The crew check of at most ELEMENTS starts and as many durations: 0 fits, 1 a broken arc, 2 an overload.
 #[no_mangle]
 pub extern "C" fn yaffledesk_bench_crew_check(
-    arcs: &[u64; 64],
-    demand: &[u32; 512],
+    arcs: &Rows,
+    demand: &[u32; 8 * ELEMENTS],
     available: &[u32; 8],
     starts: &[u32],
     worked: &[u32],

@@ -10,13 +10,14 @@ use native.Mathlib.Omega.{arith}
 use lib.Dec.{ltb}
 use lib.ListN.{length, getD}
 use borrow.Author.Tests.{ltb-true}
-use Rattle.words.specs.Bits.{bit}
-use Rattle.words.specs.Members.{count}
 use Rattle.words.proofs.Counts.{count-le}
 use Rattle.words.proofs.Tests.{by-test, cond-has, cond-least}
 use Rattle.records.specs.Bytes.{AreBytes}
+use Rattle.order.specs.Stored.{elements}
+use Rattle.order.specs.Sets.{member, sizeOf}
 use Rattle.order.specs.Orders.{circleOf}
 use Rattle.order.specs.declared.Order.{Order}
+use Rattle.order.specs.declared.Set.{Set}
 use Rattle.plan.specs.Reads.{isLength, answerOf}
 use Rattle.plan.specs.Records.{recordCount}
 use Rattle.plan.specs.declared.Answer.{Answer}
@@ -48,7 +49,7 @@ use Rattle.desk.specs.declared.Fault.{Fault}
 use Rattle.desk.specs.declared.Output.{Output}
 use Rattle.desk.specs.declared.Fault.the-variants.{Fine, Refused}
 use Rattle.desk.proofs.Turns.{cause-fine}
-use Rattle.desk.proofs.Opening.{count-few}
+use Rattle.desk.proofs.Opening.{count-few, count-within}
 use Rattle.desk.proofs.Weighing.{kinds-few, need-quoted, quotable, over-below}
 use Rattle.desk.proofs.Passing.{count-room, length-few}
 use Rattle.desk.proofs.Handing.{kind-within, flow-fine, not-over}
@@ -73,14 +74,14 @@ small-turn (Refused d) t c small next = small
 
 -- the answers, by the fault
 
-output-small : (f : Fault) (n : ℕ) → SmallFault f → (isFine f ≡ true → n ≤ 65536) → outputCode (outputOf f n) < 2 ^ 64
+output-small : (f : Fault) (n : ℕ) → SmallFault f → (isFine f ≡ true → n ≤ 1048576) → outputCode (outputOf f n) < 2 ^ 64
 unfolding outputCode
 output-small Fine n small few = let h = few refl in omega arith
 output-small (Refused c) n small few = small c refl
 
--- a word has at most 64 members
-pub size-few : (w : ℕ) {n : ℕ} → n ≡ count 64 (bit w) → n ≤ 64
-size-few w e = omega (arith, e, count-le 64 (bit w))
+-- a set has at most all members
+pub size-few : (S : Set) {n : ℕ} → n ≡ sizeOf S → n ≤ elements
+size-few S e = omega (arith, e, count-le elements (member S))
 
 -- ---- the causes 1 to 6
 
@@ -110,11 +111,11 @@ unread-small s c e =
 circles-small : (job whole : Order) → SmallFault (circlesOf job whole)
 unfolding circlesOf
 circles-small job whole =
-    cond-has SmallFault (ltb (circleOf job) 64) (Refused (JobCircle (circleOf job + 1)))
-    (cond (ltb (circleOf whole) 64) (Refused (PlanCircle (circleOf whole + 1))) Fine)
-    (λ e. small-cause (JobCircle (circleOf job + 1)) (let h = ltb-true (circleOf job) 64 e in omega arith))
-    (λ _. cond-has SmallFault (ltb (circleOf whole) 64) (Refused (PlanCircle (circleOf whole + 1))) Fine
-    (λ e. small-cause (PlanCircle (circleOf whole + 1)) (let h = ltb-true (circleOf whole) 64 e in omega arith))
+    cond-has SmallFault (ltb (circleOf job) elements) (Refused (JobCircle (circleOf job + 1)))
+    (cond (ltb (circleOf whole) elements) (Refused (PlanCircle (circleOf whole + 1))) Fine)
+    (λ e. small-cause (JobCircle (circleOf job + 1)) (let h = ltb-true (circleOf job) elements e in omega arith))
+    (λ _. cond-has SmallFault (ltb (circleOf whole) elements) (Refused (PlanCircle (circleOf whole + 1))) Fine
+    (λ e. small-cause (PlanCircle (circleOf whole + 1)) (let h = ltb-true (circleOf whole) elements e in omega arith))
     (λ _. small-fine))
 
 pub open-small : (s : List ℕ) → SmallFault (faultOf s)
@@ -125,19 +126,19 @@ open-small s = go (answerOf s) refl
     go answer.Readable e = circles-small (jobOrder s) (planOrder s)
     go (answer.Refused c) e = small-cause (Unreadable c) (unread-small s c e)
 
--- ---- 7, where the plan opens: the kind is at most 8, the need at most 4,194,240, the size at most 64
+-- ---- 7, where the plan opens: the kind is at most 8, and no element demands more than 65,535
 
 over-small : (s : List ℕ) → AreBytes s → Opens s → isOverloaded (planIn s) ≡ true → causeCode (overCause (planIn s)) < 2 ^ 64
 unfolding overCause
 over-small s small o e =
     let k = overKind (planIn s) in
     let l : k < 8 = omega (arith, over-below s small o e, kinds-few s) in
-    let n = need-small (planOrder s) (demandsFor (planIn s .demand) k) (quotable s small o k) in
-    omega (arith, n, need-quoted s small o k l, count-le 64 (bit (shownSet (planIn s) k .word)))
+    let n = need-small (planIn s .count) (planOrder s) (demandsFor (planIn s .demand) k) (quotable s small o k l) in
+    omega (arith, n, need-quoted s small o k l, size-few (shownSet (planIn s) k) refl)
 
 -- ---- Verdict
 
-verdict-by : (f : Fault) (m n : ℕ) → SmallFault f → m ≤ 64 → n ≤ 8 → verdictCode (verdictOf f m n) < 2 ^ 64
+verdict-by : (f : Fault) (m n : ℕ) → SmallFault f → m ≤ elements → n ≤ 8 → verdictCode (verdictOf f m n) < 2 ^ 64
 verdict-by Fine m n small a b = omega arith
 verdict-by (Refused c) m n small a b = small c refl
 
@@ -149,26 +150,26 @@ verdict-small s small =
 
 -- ---- Needs, Starts, Overload
 
-short-small : (f : Fault) (t : Bool) (n : ℕ) → n ≤ 65536 → SmallFault f → SmallFault (orCause f t (Short n))
+short-small : (f : Fault) (t : Bool) (n : ℕ) → n ≤ 1048576 → SmallFault f → SmallFault (orCause f t (Short n))
 short-small f t n l small = small-turn f t (Short n) small (λ o e. omega arith)
 
 pub needs-small : (s : List ℕ) (n : ℕ) → outputCode (needsAnswer s n) < 2 ^ 64
 unfolding needsFault
 needs-small s n =
-    let l : planIn s .kinds ≤ 65536 = omega (arith, kinds-few s) in
+    let l : planIn s .kinds ≤ 1048576 = omega (arith, kinds-few s) in
     output-small (needsFault s n) (planIn s .kinds) (short-small (faultOf s) (ltb n (planIn s .kinds)) (planIn s .kinds) l (open-small s)) (λ o. l)
 
 pub starts-small : (s : List ℕ) (n : ℕ) → outputCode (startsAnswer s n) < 2 ^ 64
 unfolding startsFault
 starts-small s n =
-    let l : needed s ≤ 65536 = omega (arith, count-few s) in
+    let l : needed s ≤ 1048576 = omega (arith, count-few s) in
     output-small (startsFault s n) (needed s) (short-small (faultOf s) (ltb n (needed s)) (needed s) l (open-small s)) (λ o. l)
 
 pub overload-small : (s : List ℕ) (n : ℕ) → outputCode (overloadAnswer s n) < 2 ^ 64
 unfolding overloadFault overCount
 overload-small s n =
     output-small (overloadFault s n) (overCount (planIn s)) (short-small (faultOf s) (ltb n 24) 24 (omega arith) (open-small s))
-    (λ o. cond-least (isOverloaded (planIn s)) 1 65536 (λ e. omega arith))
+    (λ o. cond-least (isOverloaded (planIn s)) 1 1048576 (λ e. omega arith))
 
 -- ---- Flow
 
@@ -182,8 +183,8 @@ flow-small s small kind n = output-small (flowFault s kind n) (flowCount (planIn
     short : Bool
     short = ltb n (flowLength (planIn s .count))
 
-    l : flowLength (planIn s .count) ≤ 65536
-    l = omega (arith, length-few (planIn s .count) (count-few s))
+    l : flowLength (planIn s .count) ≤ 1048576
+    l = omega (arith, length-few (planIn s .count) (count-within s))
 
     opens : isFine (orCause known short (Short (flowLength (planIn s .count)))) ≡ true → Opens s
     opens e =
@@ -197,7 +198,7 @@ flow-small s small kind n = output-small (flowFault s kind n) (flowCount (planIn
         (small-turn (faultOf s) (not (isKind kind (planIn s .kinds))) (NoKind (planIn s .kinds)) (open-small s) (λ o e. omega (arith, kinds-few s))))
         (λ e. over-small s small (opens e))
 
-    written : isFine (flowFault s kind n) ≡ true → flowCount (planIn s) (kind - 1) ≤ 65536
+    written : isFine (flowFault s kind n) ≡ true → flowCount (planIn s) (kind - 1) ≤ 1048576
     written e =
         let w = flow-fine s kind n e in
         let k = kind-within kind (planIn s .kinds) (w .1) in
@@ -206,7 +207,7 @@ flow-small s small kind n = output-small (flowFault s kind n) (flowCount (planIn
 
 -- ---- Crew check
 
-check-small : (g : Network) (c : Work) → g .elements ≤ 64 → c .kinds ≤ 8 → ((i : ℕ) → i < c .count → c .start i < 2 ^ 32) → foundCode (checkOf g c) < 2 ^ 64
+check-small : (g : Network) (c : Work) → g .elements ≤ elements → c .kinds ≤ 8 → ((i : ℕ) → i < c .count → c .start i < 2 ^ 32) → foundCode (checkOf g c) < 2 ^ 64
 unfolding checkOf
 check-small g c few kinds starts =
     let from = brokenFrom g (c .start) in

@@ -1,7 +1,7 @@
 -- The answers as numbers of 64 bits: the low 8 bits are the number of document 01 (0: done), and the bits above are its values. Assumes nothing.
 use Prim.Native.Nat.{ℕ, _+_, _*_}
-use Rattle.words.specs.Bits.{bit}
-use Rattle.words.specs.Members.{count}
+use Rattle.order.specs.Stored.{numberOf}
+use Rattle.order.specs.Sets.{sizeOf}
 use Rattle.plan.specs.declared.Cause.{Cause as Unread}
 use Rattle.plan.specs.declared.Cause.the-variants.{Length, RecordType, Field, Spare}
 use Rattle.schedule.specs.declared.Checked.{Checked}
@@ -30,7 +30,7 @@ abbrev pub causeCode : Cause → ℕ
 causeCode (Unreadable c) = unreadCode c
 causeCode (JobCircle i) = packed 5 i
 causeCode (PlanCircle i) = packed 6 i
-causeCode (Overloaded k need set) = packed 7 (k + 256 * need + 1099511627776 * count 64 (bit set))
+causeCode (Overloaded k need set) = packed 7 (k + 256 * need + 1099511627776 * sizeOf set)
 causeCode (NoKind n) = packed 8 n
 causeCode (Short n) = packed 9 n
 causeCode (Lists m) = packed 10 m
@@ -55,12 +55,12 @@ abbrev pub crewCode : CrewChecked → ℕ
 crewCode (crew.Found c) = foundCode c
 crewCode (crew.Refused c) = causeCode c
 
--- the set that 7 shows, else 0
+-- the number of the set that 7 shows, else 0
 abbrev pub causeWord : Cause → ℕ
 causeWord (Unreadable c) = 0
 causeWord (JobCircle i) = 0
 causeWord (PlanCircle i) = 0
-causeWord (Overloaded k need set) = set
+causeWord (Overloaded k need set) = numberOf set
 causeWord (NoKind n) = 0
 causeWord (Short n) = 0
 causeWord (Lists m) = 0

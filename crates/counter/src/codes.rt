@@ -1,6 +1,6 @@
 // Answers as numbers.
 ghost use mathlib.Core.Path.{_≡_};
-ghost use Prim.Native.Nat.{_<_, _^_};
+ghost use Prim.Native.Nat.{_<_, _%_, _^_};
 ghost use Rattle.counter.specs.Codes.{packed, unreadCode, causeCode, verdictCode, outputCode, foundCode, crewCode, causeWord, shownWord};
 use desk::Cause;
 use desk::CrewChecked;
@@ -38,7 +38,7 @@ fn cause_code(c: Cause) -> u64
         Cause::PlanCircle(i) => pack(6, i as u64),
         Cause::Overloaded { kind, need, set } => pack(
             7,
-            kind as u64 + 256 * (need as u64) + 1099511627776 * (words::size(set) as u64),
+            kind as u64 + 256 * (need as u64) + 1099511627776 * (set.size() as u64),
         ),
         Cause::NoKind(n) => pack(8, n as u64),
         Cause::Short(n) => pack(9, n as u64),
@@ -90,14 +90,15 @@ pub fn crew_code(c: CrewChecked) -> u64
     }
 }
 
+// The first word of the set that 7 shows. (It is all of it: `word-small` of proofs/SetWord.antt.)
 fn cause_word(c: Cause) -> u64
-    ensures { λ r. ⌜ r ≡ causeWord c ⌝ }
+    ensures { λ r. ⌜ r ≡ causeWord c % 2 ^ 64 ⌝ }
 {
     match c {
         Cause::Unreadable(_) => 0,
         Cause::JobCircle(_) => 0,
         Cause::PlanCircle(_) => 0,
-        Cause::Overloaded { kind, need, set } => set,
+        Cause::Overloaded { kind, need, set } => set.first_word(),
         Cause::NoKind(_) => 0,
         Cause::Short(_) => 0,
         Cause::Lists(_) => 0,
@@ -105,7 +106,7 @@ fn cause_word(c: Cause) -> u64
 }
 
 pub fn shown_word(v: Decision) -> u64
-    ensures { λ r. ⌜ r ≡ shownWord v ⌝ }
+    ensures { λ r. ⌜ r ≡ shownWord v % 2 ^ 64 ⌝ }
 {
     match v {
         Decision::Accepted { activities, kinds } => 0,

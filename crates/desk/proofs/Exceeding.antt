@@ -29,7 +29,7 @@ use Rattle.desk.proofs.Weighing.{lowest-found, lowest-none}
 
 -- the overload that the search finds
 abbrev pub overloadIn : List ℕ → Overload
-overloadIn s = lowestOverload (planOrder s) (planIn s .demand) (planIn s .available) (planIn s .kinds)
+overloadIn s = lowestOverload (planIn s .count) (planOrder s) (planIn s .demand) (planIn s .available) (planIn s .kinds)
 
 module _ (s : List ℕ) (bytes : AreBytes s) (o : Opens s) where
   pub count-shown : shownCount (overloadIn s) (planIn s .kinds) ≡ overCount (planIn s)
@@ -93,14 +93,14 @@ module _ (s out : List ℕ) {o : Opened} {f : Fault} {b : Bool}
     room = goes-on .1
 
     pub written : AreBytes s → {v : Overload} {r : ℕ} {out′ : List ℕ}
-        → v ≡ lowestOverload (o .order) (o .plan .demand) (o .plan .available) (o .plan .kinds)
+        → v ≡ lowestOverload (o .plan .count) (o .order) (o .plan .demand) (o .plan .available) (o .plan .kinds)
         → r ≡ shownCount v (o .plan .kinds) → out′ ≡ startingWith (shownBytes v (o .plan .kinds)) out
         → (record { fault = f; value = r } ≡ overloadCounted s (length out)) × (out′ ≡ overloadOut s out)
     written bytes {v} {r} a d w =
         (rw (count, fault-is, said-is (not-false b h)), w ∙ ap (λ (x : List ℕ). startingWith x out) shown ∙ out-written s out (said-is (not-false b h)))
       where
         over-is : v ≡ overloadIn s
-        over-is = a ∙ ap (λ (x : Opened). lowestOverload (x .order) (x .plan .demand) (x .plan .available) (x .plan .kinds)) held
+        over-is = a ∙ ap (λ (x : Opened). lowestOverload (x .plan .count) (x .order) (x .plan .demand) (x .plan .available) (x .plan .kinds)) held
 
         kinds-is : o .plan .kinds ≡ planIn s .kinds
         kinds-is = ap (λ (x : Opened). x .plan .kinds) held

@@ -17,6 +17,7 @@ use Rattle.flow.specs.Sound.{asked}
 use Rattle.kinds.specs.Needs.{demandsFor, lowestOverload}
 use Rattle.kinds.specs.Flows.{Bounded, markOf, kindUnits, pairsOf}
 use Rattle.kinds.specs.Writing.{Room, Lent, lent, putFlow}
+use Rattle.order.specs.Stored.{elements}
 use Rattle.desk.specs.Open.{planIn, isFine, faultOf, orCause, openedOf, Opens}
 use Rattle.desk.specs.Output.{outputOf}
 use Rattle.desk.specs.Need.{availableFor, needFor, overKind, isOverloaded, overCause}
@@ -114,7 +115,7 @@ answered s kind n e q = q ∙ ap (λ (x : Counted). outputOf (x .fault) (x .valu
 module _ (s : List ℕ) (kind : ℕ) (out : List ℕ) (bytes : AreBytes s) {o : Opened} {long : ℕ} {t b : Bool} {first second f : Fault}
     (held : o ≡ openedOf s) (length-is : long ≡ flowLength (o .plan .count)) (one : t ≡ isKind kind (o .plan .kinds))
     (eight : first ≡ orCause (o .fault) (not t) (NoKind (o .plan .kinds))) (nine : second ≡ orCause first (ltb (length out) long) (Short long))
-    (seven : f ≡ orOverload second (lowestOverload (o .order) (o .plan .demand) (o .plan .available) (o .plan .kinds)) (o .plan .kinds))
+    (seven : f ≡ orOverload second (lowestOverload (o .plan .count) (o .order) (o .plan .demand) (o .plan .available) (o .plan .kinds)) (o .plan .kinds))
     (test : b ≡ isFine f) where
   second-is : second ≡ roomy s kind (length out)
   second-is = rw (nine, eight, one, length-is, held)
@@ -150,9 +151,9 @@ module _ (s : List ℕ) (kind : ℕ) (out : List ℕ) (bytes : AreBytes s) {o : 
     enough = not-over s (goes-on .3) (kind - 1) (omega (arith, within .0, within .1))
 
     -- what the writing of the flow asks
-    pub flow-asked : (kind - 1 < 8) × (o .plan .count ≤ 64)
-        × Bounded (o .plan .count) (asked (demandsFor (o .plan .demand) (kind - 1))) (handed (flowOf (o .order) (demandsFor (o .plan .demand) (kind - 1))))
-        × (quoteOf (o .order) (demandsFor (o .plan .demand) (kind - 1)) .need ≤ getD (o .plan .available) (kind - 1) 0)
+    pub flow-asked : (kind - 1 < 8) × (o .plan .count ≤ elements)
+        × Bounded (o .plan .count) (asked (demandsFor (o .plan .demand) (kind - 1))) (handed (flowOf (o .plan .count) (o .order) (demandsFor (o .plan .demand) (kind - 1))))
+        × (quoteOf (o .plan .count) (o .order) (demandsFor (o .plan .demand) (kind - 1)) .need ≤ getD (o .plan .available) (kind - 1) 0)
         × Room (pairsOf (kindUnits (o .order) (o .plan .demand) (kind - 1) (getD (o .plan .available) (kind - 1) 0) (o .plan .count)) (o .plan .count + 2)) out
     flow-asked =
         rw held (

@@ -27,15 +27,15 @@ module _ (s : List ℕ) {o : Opened} (held : o ≡ openedOf s) where
 
   -- 7 in its turn, after a fault `before`
   pub weighed-held : AreBytes s → (before : Fault) {f : Fault} → (isFine before ≡ true → Opens s)
-      → f ≡ orOverload before (lowestOverload (o .order) (o .plan .demand) (o .plan .available) (o .plan .kinds)) (o .plan .kinds)
+      → f ≡ orOverload before (lowestOverload (o .plan .count) (o .order) (o .plan .demand) (o .plan .available) (o .plan .kinds)) (o .plan .kinds)
       → f ≡ orCause before (isOverloaded (planIn s)) (overCause (planIn s))
   weighed-held bytes before opens found =
       found
-      ∙ ap (λ (x : Opened). orOverload before (lowestOverload (x .order) (x .plan .demand) (x .plan .available) (x .plan .kinds)) (x .plan .kinds)) held
+      ∙ ap (λ (x : Opened). orOverload before (lowestOverload (x .plan .count) (x .order) (x .plan .demand) (x .plan .available) (x .plan .kinds)) (x .plan .kinds)) held
       ∙ weighed s bytes before opens
 
   pub judged : AreBytes s → {f : Fault}
-      → f ≡ orOverload (o .fault) (lowestOverload (o .order) (o .plan .demand) (o .plan .available) (o .plan .kinds)) (o .plan .kinds)
+      → f ≡ orOverload (o .fault) (lowestOverload (o .plan .count) (o .order) (o .plan .demand) (o .plan .available) (o .plan .kinds)) (o .plan .kinds)
       → record { fault = f; activities = o .plan .count; kinds = o .plan .kinds } ≡ judgedOf s
   unfolding verdictFault
   judged bytes {f} found =

@@ -6,6 +6,7 @@ use Prim.Native.Nat.{ℕ, _≤_, _<_, _+_}
 use native.Mathlib.Omega.{arith}
 use lib.ListN.{getD}
 use Rattle.words.proofs.Tests.{⊎-iff}
+use Rattle.order.specs.Stored.{elements}
 use Rattle.order.specs.Before.{Before, Acyclic, StrictOrder, Within}
 use Rattle.order.specs.Orders.{Direct, OrderOf, isBefore}
 use Rattle.order.proofs.Before.{before-same, before-within}
@@ -54,7 +55,7 @@ module _ (s : List ℕ) (e : Readable s) where
 pub opens-acyclic : (s : List ℕ) → Opens s → Acyclic (FileArc s)
 opens-acyclic s o i b = opens-plan s o i (before-same (plan-arcs s (opens-readable s o)) i i .1 b)
 
-pub opens-strict : (s : List ℕ) → Opens s → StrictOrder 64 (isBefore (planOrder s))
+pub opens-strict : (s : List ℕ) → Opens s → StrictOrder elements (isBefore (planOrder s))
 opens-strict s o = order-strict (plan-order s (opens-readable s o)) (opens-acyclic s o)
 
 -- ---- THE STARTS: the least that keep every arc of the file with the file's durations

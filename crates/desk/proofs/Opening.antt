@@ -9,10 +9,12 @@ use lib.ListN.{getD}
 use borrow.Author.Tests.{lt-ltb, le-ltb, ltb-false}
 use Rattle.words.proofs.Tests.{by-test, cond-true, cond-false}
 use Rattle.records.specs.Bytes.{AreBytes}
+use Rattle.order.specs.Stored.{elements}
 use Rattle.order.specs.Before.{Acyclic}
 use Rattle.order.specs.Orders.{Direct, orderIn, joinedRows, circleOf}
 use Rattle.order.specs.declared.Order.{Order}
 use Rattle.order.proofs.Orders.{direct-order, circle-none, circle-le}
+use Rattle.plan.specs.Records.{activities}
 use Rattle.plan.specs.Causes.{isReadable}
 use Rattle.plan.specs.Reads.{answerOf, readOf}
 use Rattle.plan.specs.Plans.{planOf, emptyPlan}
@@ -43,46 +45,49 @@ plan-not s e = cond-false (planOf s) emptyPlan e
 pub said-in : (s : List ℕ) → Readable s → Said s (planIn s)
 said-in s e = rw (plan-in s e) (said s e)
 
--- it has no more than 64 activities, readable or not
-pub count-few : (s : List ℕ) → planIn s .count ≤ 64
+-- it has no more activities than a file may have, and no more than there are elements, readable or not
+pub count-within : (s : List ℕ) → planIn s .count ≤ activities
 unfolding emptyPlan
-count-few s =
+count-within s =
     by-test (isReadable (answerOf s))
     (λ t. said-in s t .few)
     (λ t. let e : planIn s .count ≡ 0 = ap (λ (q : Plan). q .count) (plan-not s t) in omega arith)
 
+pub count-few : (s : List ℕ) → planIn s .count ≤ elements
+count-few s = omega (arith, count-within s)
+
 -- ---- the circles, as the code finds them
 
 module _ (job whole : Order) where
-  pub circles-job : (i : ℕ) → i ≡ circleOf job → i < 64 → Refused (JobCircle (i + 1)) ≡ circlesOf job whole
+  pub circles-job : (i : ℕ) → i ≡ circleOf job → i < elements → Refused (JobCircle (i + 1)) ≡ circlesOf job whole
   unfolding circlesOf
   circles-job i e l =
-      let h : circleOf job < 64 = omega arith in
-      rw (lt-ltb (circleOf job) 64 h, e)
+      let h : circleOf job < elements = omega arith in
+      rw (lt-ltb (circleOf job) elements h, e)
 
-  pub circles-plan : (i j : ℕ) → i ≡ circleOf job → 64 ≤ i → j ≡ circleOf whole → j < 64 → Refused (PlanCircle (j + 1)) ≡ circlesOf job whole
+  pub circles-plan : (i j : ℕ) → i ≡ circleOf job → elements ≤ i → j ≡ circleOf whole → j < elements → Refused (PlanCircle (j + 1)) ≡ circlesOf job whole
   unfolding circlesOf
   circles-plan i j e l f m =
-      let h : 64 ≤ circleOf job = omega arith in
-      let k : circleOf whole < 64 = omega arith in
-      rw (le-ltb (circleOf job) 64 h, lt-ltb (circleOf whole) 64 k, f)
+      let h : elements ≤ circleOf job = omega arith in
+      let k : circleOf whole < elements = omega arith in
+      rw (le-ltb (circleOf job) elements h, lt-ltb (circleOf whole) elements k, f)
 
-  pub circles-none : (i j : ℕ) → i ≡ circleOf job → 64 ≤ i → j ≡ circleOf whole → 64 ≤ j → Fine ≡ circlesOf job whole
+  pub circles-none : (i j : ℕ) → i ≡ circleOf job → elements ≤ i → j ≡ circleOf whole → elements ≤ j → Fine ≡ circlesOf job whole
   unfolding circlesOf
   circles-none i j e l f m =
-      let h : 64 ≤ circleOf job = omega arith in
-      let k : 64 ≤ circleOf whole = omega arith in
-      rw (le-ltb (circleOf job) 64 h, le-ltb (circleOf whole) 64 k)
+      let h : elements ≤ circleOf job = omega arith in
+      let k : elements ≤ circleOf whole = omega arith in
+      rw (le-ltb (circleOf job) elements h, le-ltb (circleOf whole) elements k)
 
 -- no circle is found: there is none
 circles-fine : (job rows : List ℕ) → isFine (circlesOf (orderIn job) (orderIn rows)) ≡ true → Acyclic (Direct job) × Acyclic (Direct rows)
 unfolding circlesOf
-circles-fine job rows e = go (ltb (circleOf (orderIn job)) 64) (ltb (circleOf (orderIn rows)) 64) refl refl e
+circles-fine job rows e = go (ltb (circleOf (orderIn job)) elements) (ltb (circleOf (orderIn rows)) elements) refl refl e
   where
-    none : (xs : List ℕ) → ltb (circleOf (orderIn xs)) 64 ≡ false → Acyclic (Direct xs)
-    none xs f = circle-none (direct-order xs) .0 (omega (arith, circle-le (direct-order xs), ltb-false (circleOf (orderIn xs)) 64 f))
+    none : (xs : List ℕ) → ltb (circleOf (orderIn xs)) elements ≡ false → Acyclic (Direct xs)
+    none xs f = circle-none (direct-order xs) .0 (omega (arith, circle-le (direct-order xs), ltb-false (circleOf (orderIn xs)) elements f))
 
-    go : (a b : Bool) → ltb (circleOf (orderIn job)) 64 ≡ a → ltb (circleOf (orderIn rows)) 64 ≡ b
+    go : (a b : Bool) → ltb (circleOf (orderIn job)) elements ≡ a → ltb (circleOf (orderIn rows)) elements ≡ b
         → isFine (cond a (Refused (JobCircle (circleOf (orderIn job) + 1))) (cond b (Refused (PlanCircle (circleOf (orderIn rows) + 1))) Fine)) ≡ true
         → Acyclic (Direct job) × Acyclic (Direct rows)
     go true b p q e = absurd (false≢true e)
@@ -129,6 +134,6 @@ pub opened-as :
 unfolding faultOf
 opened-as s read joined j w c f = rw (f, c, w, j, joined, read, answered s)
 
--- the plan that the code holds has no more than 64 activities
-pub opened-few : (s : List ℕ) {o : Opened} → o ≡ openedOf s → o .plan .count ≤ 64
+-- the plan that the code holds has no more activities than there are elements
+pub opened-few : (s : List ℕ) {o : Opened} → o ≡ openedOf s → o .plan .count ≤ elements
 opened-few s held = rw held (count-few s)

@@ -10,9 +10,11 @@ use native.Mathlib.Omega.{arith}
 use lib.ListN.{length, getD}
 use Rattle.records.specs.Bytes.{AreBytes}
 use Rattle.records.specs.Records.{startingWith}
+use Rattle.order.specs.Stored.{elements}
 use Rattle.order.specs.Before.{StrictOrder}
 use Rattle.order.proofs.Before.{strict-first}
 use Rattle.order.specs.Orders.{isBefore}
+use Rattle.plan.specs.Records.{activities}
 use Rattle.plan.specs.Plans.{planOf}
 use Rattle.plan.specs.declared.Plan.{Plan}
 use Rattle.plan.proofs.Said.{available-small}
@@ -30,21 +32,21 @@ use Rattle.kinds.proofs.Written.{length-flow, flow-written, flow-same, pairs-sa
 use Rattle.kinds.proofs.Read.{flow-read, flow-read-none}
 use Rattle.desk.specs.Open.{planIn, planOrder, Opens}
 use Rattle.desk.specs.Need.{demandFor, availableFor, needFor}
-use Rattle.desk.specs.Flow.{flowLength, flowUnits, flowCount, recordBytes}
-use Rattle.desk.proofs.Opening.{plan-in, opens-readable, count-few}
+use Rattle.desk.specs.Flow.{flowLength, mostRecords, flowUnits, flowCount, recordBytes}
+use Rattle.desk.proofs.Opening.{plan-in, opens-readable, count-few, count-within}
 use Rattle.desk.proofs.Meaning.{opens-strict}
 use Rattle.desk.proofs.Weighing.{sound-in, need-quoted, demand-small}
 
--- of at most 64 elements the pairs are few, and those of nodes are at most 2145
-pub pairs-few : (m : ℕ) → m ≤ 64 → m * (m - 1) ≤ 64 * 63
-pairs-few m h =
-    let l : m - 1 ≤ 63 = omega arith in
+-- the pairs of at most n elements are few, and so are those of the nodes of a file's activities
+pub pairs-few : (n m : ℕ) → m ≤ n → m * (m - 1) ≤ n * (n - 1)
+pairs-few n m h =
+    let l : m - 1 ≤ n - 1 = omega arith in
     mul-le-mul h l
 
-pairs-room : (m : ℕ) → m ≤ 64 → m * (m - 1) / 2 + 2 * m + 1 ≤ 2145
-pairs-room m h = omega (arith, pairs-few m h)
+pairs-room : (m : ℕ) → m ≤ activities → m * (m - 1) / 2 + 2 * m + 1 ≤ mostRecords
+pairs-room m h = omega (arith, pairs-few activities m h)
 
-pub length-few : (m : ℕ) → m ≤ 64 → flowLength m ≤ 24 * 2145
+pub length-few : (m : ℕ) → m ≤ activities → flowLength m ≤ 24 * mostRecords
 unfolding flowLength
 length-few m h = omega (arith, pairs-room m h)
 
@@ -79,7 +81,7 @@ module _ (s : List ℕ) (small : AreBytes s) (o : Opens s) (k : ℕ) (hk : k < 8
   pub units-below : (u v : ℕ) → flowUnits (planIn s) k u v < 256 ^ 4
   unfolding flowUnits
   units-below u v =
-      let l = units-small (planIn s .count) (isBefore (planOrder s)) (demandFor (planIn s) k) (handed (flowOf (planOrder s) (demandsFor (planIn s .demand) k)))
+      let l = units-small (planIn s .count) (isBefore (planOrder s)) (demandFor (planIn s) k) (handed (flowOf (planIn s .count) (planOrder s) (demandsFor (planIn s .demand) k)))
       (needFor (planIn s) k) (availableFor (planIn s) k) 65535 (sound-in s small o k hk .handover)
       (λ i h. demand-small s small o k i (omega (arith, count-few s))) available-below u v in
       omega arith
@@ -87,13 +89,13 @@ module _ (s : List ℕ) (small : AreBytes s) (o : Opens s) (k : ℕ) (hk : k < 8
   pub units-past : (u v : ℕ) → (planIn s .count + 2 ≤ u) ⊎ (planIn s .count + 2 ≤ v) → flowUnits (planIn s) k u v ≡ 0
   unfolding flowUnits
   units-past u v h =
-      nodes-none (planIn s .count) (demandFor (planIn s) k) (handed (flowOf (planOrder s) (demandsFor (planIn s .demand) k)))
+      nodes-none (planIn s .count) (demandFor (planIn s) k) (handed (flowOf (planIn s .count) (planOrder s) (demandsFor (planIn s .demand) k)))
       (needFor (planIn s) k) (availableFor (planIn s) k) u v h
 
   -- ---- ITS RECORDS HAVE ROOM
 
   strict : StrictOrder (planIn s .count) (isBefore (planOrder s))
-  strict = strict-first (planIn s .count) 64 (isBefore (planOrder s)) (count-few s) (opens-strict s o)
+  strict = strict-first (planIn s .count) elements (isBefore (planOrder s)) (count-few s) (opens-strict s o)
 
   count-least : needFor (planIn s) k ≤ availableFor (planIn s) k
       → flowCount (planIn s) k ≤ planIn s .count * (planIn s .count - 1) / 2 + 2 * planIn s .count + 1
@@ -109,12 +111,12 @@ module _ (s : List ℕ) (small : AreBytes s) (o : Opens s) (k : ℕ) (hk : k < 8
   pub units-coded : (u v : ℕ) → codedUnits s k u v ≡ flowUnits (planIn s) k u v
   unfolding units flowUnits
   units-coded u v =
-      let f : ℕ → ℕ → ℕ = handed (flowOf (planOrder s) (demandsFor (planIn s .demand) k)) in
+      let f : ℕ → ℕ → ℕ = handed (flowOf (planIn s .count) (planOrder s) (demandsFor (planIn s .demand) k)) in
       let a = availableFor (planIn s) k in
       ap (λ (x : ℕ). nodeFlow (planIn s .count) (demandFor (planIn s) k) f 0 (a - x) u v) (need-quoted s small o k hk)
       ∙ units-spare (planIn s .count) (demandFor (planIn s) k) f (needFor (planIn s) k) a u v
 
-  pub bounded-in : Bounded (planIn s .count) (asked (demandsFor (planIn s .demand) k)) (handed (flowOf (planOrder s) (demandsFor (planIn s .demand) k)))
+  pub bounded-in : Bounded (planIn s .count) (asked (demandsFor (planIn s .demand) k)) (handed (flowOf (planIn s .count) (planOrder s) (demandsFor (planIn s .demand) k)))
   bounded-in =
       let H = sound-in s small o k hk .handover in
       record {
@@ -137,7 +139,7 @@ module _ (s : List ℕ) (small : AreBytes s) (o : Opens s) (k : ℕ) (hk : k < 8
       → Room (pairsOf (codedUnits s k) (planIn s .count + 2)) out
   room-in out h l =
       record {
-        few = omega (arith, count-coded, count-least h, pairs-room (planIn s .count) (count-few s));
+        few = omega (arith, count-coded, count-least h, pairs-room (planIn s .count) (count-within s));
         fits = omega (arith, count-coded, count-room h);
       }
 

@@ -29,12 +29,12 @@ unfolding needNumbers
 length-numbers s = length-table (planIn s .kinds) (needFor (planIn s))
 
 -- what the solver quotes for the kinds are their needs
-pub numbers-quoted : (s : List ℕ) → AreBytes s → Opens s → needsFor (planOrder s) (planIn s .demand) (planIn s .kinds) ≡ needNumbers s
+pub numbers-quoted : (s : List ℕ) → AreBytes s → Opens s → needsFor (planIn s .count) (planOrder s) (planIn s .demand) (planIn s .kinds) ≡ needNumbers s
 unfolding needNumbers
 numbers-quoted s bytes o =
     let n = planIn s .kinds in
-    is-table n (needFor (planIn s)) (needsFor (planOrder s) (planIn s .demand) n) 0 (length-needs (planOrder s) (planIn s .demand) n)
-    (λ k h. need-at (planOrder s) (planIn s .demand) n k h ∙ need-quoted s bytes o k (omega (arith, kinds-few s)))
+    is-table n (needFor (planIn s)) (needsFor (planIn s .count) (planOrder s) (planIn s .demand) n) 0 (length-needs (planIn s .count) (planOrder s) (planIn s .demand) n)
+    (λ k h. need-at (planIn s .count) (planOrder s) (planIn s .demand) n k h ∙ need-quoted s bytes o k (omega (arith, kinds-few s)))
 
 module _ (s out : List ℕ) where
   out-kept : isFine (needsFault s (length out)) ≡ false → out ≡ needsOut s out
@@ -76,11 +76,11 @@ module _ (s out : List ℕ) {o : Opened} {f : Fault} {b : Bool}
     pub room : o .plan .kinds ≤ length out
     room = rw held (goes-on .1)
 
-    pub written : AreBytes s → {out′ : List ℕ} → out′ ≡ over (o .plan .kinds) (needsFor (o .order) (o .plan .demand) (o .plan .kinds)) out
+    pub written : AreBytes s → {out′ : List ℕ} → out′ ≡ over (o .plan .kinds) (needsFor (o .plan .count) (o .order) (o .plan .demand) (o .plan .kinds)) out
         → (record { fault = f; value = o .plan .kinds } ≡ needsCounted s (length out)) × (out′ ≡ needsOut s out)
     written bytes w = (counted-is, w ∙ numbers ∙ out-written s out (said-is (not-false b h)))
       where
-        numbers : over (o .plan .kinds) (needsFor (o .order) (o .plan .demand) (o .plan .kinds)) out ≡ over (planIn s .kinds) (needNumbers s) out
+        numbers : over (o .plan .kinds) (needsFor (o .plan .count) (o .order) (o .plan .demand) (o .plan .kinds)) out ≡ over (planIn s .kinds) (needNumbers s) out
         numbers =
-            ap (λ (x : Opened). over (x .plan .kinds) (needsFor (x .order) (x .plan .demand) (x .plan .kinds)) out) held
+            ap (λ (x : Opened). over (x .plan .kinds) (needsFor (x .plan .count) (x .order) (x .plan .demand) (x .plan .kinds)) out) held
             ∙ ap (λ (r : List ℕ). over (planIn s .kinds) r out) (numbers-quoted s bytes (goes-on .0))

@@ -4,6 +4,7 @@ use mathlib.Core.List.{List}
 use Prim.Native.Nat.{ℕ, _+_, _-_, _*_, _/_}
 use lib.Dec.{ltb, leb}
 use lib.ListN.{length}
+use Rattle.plan.specs.Records.{activities}
 use Rattle.plan.specs.declared.Plan.{Plan}
 use Rattle.flow_math.specs.Flow.{nodeFlow}
 use Rattle.flow.specs.Network.{handed}
@@ -26,6 +27,10 @@ isKind kind n = ltb 0 kind && leb kind n
 unfoldable pub flowLength : ℕ → ℕ
 flowLength m = 24 * (m * (m - 1) / 2 + 2 * m + 1)
 
+-- no file's flow has more records
+abbrev pub mostRecords : ℕ
+mostRecords = activities * (activities - 1) / 2 + 2 * activities + 1
+
 -- "Flow: 8, 9, 7 (any kind's overload)."; n bytes are lent
 unfoldable pub flowFault : List ℕ → ℕ → ℕ → Fault
 flowFault s kind n =
@@ -38,7 +43,7 @@ flowFault s kind n =
 -- a flow of the paper's is `file-flow` of promises/proofs/Flowing.antt. From node u to node v, where node 0 is the start and m + 1 the end, pass
 unfoldable pub flowUnits : Plan → ℕ → ℕ → ℕ → ℕ
 flowUnits q k u v =
-    nodeFlow (q .count) (demandFor q k) (handed (flowOf (orderFor q) (demandsFor (q .demand) k))) (needFor q k) (availableFor q k) u v
+    nodeFlow (q .count) (demandFor q k) (handed (flowOf (q .count) (orderFor q) (demandsFor (q .demand) k))) (needFor q k) (availableFor q k) u v
 
 -- "One record for each pair with positive units": how many, and their bytes
 unfoldable pub flowCount : Plan → ℕ → ℕ

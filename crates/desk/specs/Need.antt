@@ -34,8 +34,8 @@ isOverloaded q = ltb (overKind q) (q .kinds)
 -- THE SET SHOWN, BY WHICHEVER OPERATION, is free: "unrelated, belongs to the lowest such kind, has that need as its sum, and holds only activities that
 -- demand the kind". It is the solver's; that it is such a set is `shown` of promises/proofs/Showing.antt.
 abbrev pub shownSet : Plan → ℕ → Set
-shownSet q k = quoteFor (orderFor q) (q .demand) k .set
+shownSet q k = quoteFor (q .count) (orderFor q) (q .demand) k .set
 
 -- "overloaded | 7 | kind, need, set, size"
 unfoldable pub overCause : Plan → Cause
-overCause q = Overloaded (overKind q + 1) (needFor q (overKind q)) (shownSet q (overKind q) .word)
+overCause q = Overloaded (overKind q + 1) (needFor q (overKind q)) (shownSet q (overKind q))

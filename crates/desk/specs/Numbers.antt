@@ -2,8 +2,8 @@
 -- cause and what is returned with it, by the table of causes. Assumes nothing.
 use mathlib.Core.List.{List, [], _∷_}
 use Prim.Native.Nat.{ℕ}
-use Rattle.words.specs.Bits.{bit}
-use Rattle.words.specs.Members.{count}
+use Rattle.order.specs.Stored.{numberOf}
+use Rattle.order.specs.Sets.{sizeOf}
 use Rattle.plan.specs.declared.Cause.{Cause as Unread}
 use Rattle.plan.specs.declared.Cause.the-variants.{Length, RecordType, Field, Spare}
 use Rattle.desk.specs.declared.Cause.{Cause}
@@ -15,12 +15,12 @@ unreadNumbers (RecordType p) = 2 ∷ p ∷ []
 unreadNumbers (Field p) = 3 ∷ p ∷ []
 unreadNumbers (Spare p) = 4 ∷ p ∷ []
 
--- (7 returns "kind, need, set, size", and the set's "size is the count of ones")
+-- (7 returns "kind, need, set, size": the set is the number that it means, and its "size is the count of ones")
 abbrev pub numbersOf : Cause → List ℕ
 numbersOf (Unreadable c) = unreadNumbers c
 numbersOf (JobCircle i) = 5 ∷ i ∷ []
 numbersOf (PlanCircle i) = 6 ∷ i ∷ []
-numbersOf (Overloaded k need set) = 7 ∷ k ∷ need ∷ set ∷ count 64 (bit set) ∷ []
+numbersOf (Overloaded k need set) = 7 ∷ k ∷ need ∷ numberOf set ∷ sizeOf set ∷ []
 numbersOf (NoKind n) = 8 ∷ n ∷ []
 numbersOf (Short n) = 9 ∷ n ∷ []
 numbersOf (Lists m) = 10 ∷ m ∷ []

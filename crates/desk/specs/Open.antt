@@ -4,6 +4,7 @@ use mathlib.Core.Bool.{Bool, true, false, cond}
 use mathlib.Core.List.{List}
 use Prim.Native.Nat.{ℕ, _+_}
 use lib.Dec.{ltb}
+use Rattle.order.specs.Stored.{elements}
 use Rattle.order.specs.Orders.{orderIn, joinedRows, circleOf}
 use Rattle.order.specs.declared.Order.{Order}
 use Rattle.plan.specs.Reads.{answerOf, readOf}
@@ -44,8 +45,8 @@ isFine (Refused c) = false
 -- "circle in the job order", "circle in the plan order only": "lowest activity before itself there"
 unfoldable pub circlesOf : Order → Order → Fault
 circlesOf job whole =
-    cond (ltb (circleOf job) 64) (Refused (JobCircle (circleOf job + 1)))
-    (cond (ltb (circleOf whole) 64) (Refused (PlanCircle (circleOf whole + 1))) Fine)
+    cond (ltb (circleOf job) elements) (Refused (JobCircle (circleOf job + 1)))
+    (cond (ltb (circleOf whole) elements) (Refused (PlanCircle (circleOf whole + 1))) Fine)
 
 -- the reader's cause, or else the next fault
 abbrev pub orUnreadable : Answer → Fault → Fault

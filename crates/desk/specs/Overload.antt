@@ -4,6 +4,7 @@ use mathlib.Core.List.{List, []}
 use Prim.Native.Nat.{ℕ, _+_}
 use lib.Dec.{ltb}
 use lib.ListN.{length}
+use Rattle.order.specs.Stored.{numberOf}
 use Rattle.order.specs.Sets.{sizeOf}
 use Rattle.records.specs.Records.{overloadRecord}
 use Rattle.plan.specs.declared.Plan.{Plan}
@@ -25,7 +26,7 @@ overCount q = cond (isOverloaded q) 1 0
 
 unfoldable pub overBytes : Plan → List ℕ
 overBytes q =
-    let bytes = overloadRecord (overKind q + 1) (sizeOf (shownSet q (overKind q))) (needFor q (overKind q)) (shownSet q (overKind q) .word) in
+    let bytes = overloadRecord (overKind q + 1) (sizeOf (shownSet q (overKind q))) (needFor q (overKind q)) (numberOf (shownSet q (overKind q))) in
     cond (isOverloaded q) bytes []
 
 -- beside a fault stands 0

@@ -29,7 +29,7 @@ startsCounted s n = record { fault = startsFault s n; value = needed s }
 abbrev pub startsAnswer : List ℕ → ℕ → Output
 startsAnswer s n = outputOf (startsFault s n) (needed s)
 
--- the earliest starts of all 64 elements, by the plan's arcs and the file's durations
+-- the earliest starts of all elements, by the plan's arcs and the file's durations
 abbrev pub firstStarts : List ℕ → List ℕ
 firstStarts s = startsOf (rowsOf s) (byDuration (planIn s .duration))
 

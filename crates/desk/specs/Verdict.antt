@@ -30,4 +30,4 @@ verdictAnswer s = verdictOf (verdictFault s) (planIn s .count) (planIn s .kinds)
 
 -- for the code: 7 in its turn, from what was found of the first n kinds (that it is the cause above is `weighed` of proofs/Weighing.antt)
 abbrev pub orOverload : Fault → Overload → ℕ → Fault
-orOverload f v n = orCause f (ltb (v .kind) n) (Overloaded (v .kind + 1) (v .need) (v .set .word))
+orOverload f v n = orCause f (ltb (v .kind) n) (Overloaded (v .kind + 1) (v .need) (v .set))

@@ -25,7 +25,7 @@ fn write_excess(s: &[u8], out: &mut [u8]) -> Counted
     let order = opened.order;
     let demand = q.demand;
     let available = q.available;
-    let over = kinds::lowest_overload(order, &demand, &available, n);
+    let over = kinds::lowest_overload(order, q.count, &demand, &available, n);
     let value = kinds::put_overload(out, over, n);
     Counted { fault, value }
 }

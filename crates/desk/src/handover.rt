@@ -2,6 +2,7 @@
 ghost use mathlib.Core.Path.{_≡_};
 ghost use Prim.Native.Nat.{_≤_};
 ghost use lib.ListN.{length};
+ghost use Rattle.order.specs.Stored.{elements};
 ghost use Rattle.desk.specs.Flow.{isKind, flowLength, flowCounted, flowAnswer, flowOut};
 use crate::Cause;
 use crate::Output;
@@ -24,7 +25,7 @@ fn is_kind(kind: usize, n: usize) -> bool
 
 // How many bytes are to be lent for a flow of m activities.
 fn flow_length(m: usize) -> usize
-    requires { ⌜ m ≤ 64 ⌝ }
+    requires { ⌜ m ≤ elements ⌝ }
     ensures { λ r. ⌜ r ≡ flowLength m ⌝ }
 {
     if m == 0 {
@@ -48,7 +49,7 @@ fn write_units(s: &[u8], kind: usize, out: &mut [u8]) -> Counted
     let read = opened.fault;
     let known = or_cause(read, !is_kind(kind, n), Cause::NoKind(n));
     let roomy = or_cause(known, out.len() < needed, Cause::Short(needed));
-    let fault = or_overloaded(roomy, order, &demand, &available, n);
+    let fault = or_overloaded(roomy, order, m, &demand, &available, n);
     if !is_fine(fault) {
         return Counted { fault, value: 0 };
     }

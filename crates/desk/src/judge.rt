@@ -1,6 +1,7 @@
 // Verdict: whether a plan is accepted. And the cause that it shares with Flow: the plan is overloaded.
 ghost use mathlib.Core.Path.{_≡_};
 ghost use Prim.Native.Nat.{_≤_};
+ghost use Rattle.order.specs.Stored.{elements};
 ghost use Rattle.kinds.specs.Needs.{lowestOverload};
 ghost use Rattle.desk.specs.Verdict.{orOverload, judgedOf, verdictOf, verdictAnswer};
 use crate::Cause;
@@ -9,6 +10,7 @@ use crate::Fault;
 use crate::open::is_fine;
 use crate::open::open_plan;
 use crate::open::or_cause;
+use order::ELEMENTS;
 use order::Order;
 
 // How a verdict ends: with a fault, or with m and K.
@@ -22,22 +24,24 @@ pub struct Judged {
 pub fn or_overloaded(
     fault: Fault,
     order: Order,
-    demand: &[u32; 512],
+    m: usize,
+    demand: &[u32; 8 * ELEMENTS],
     available: &[u32; 8],
     n: usize,
 ) -> Fault
-    requires { ⌜ n ≤ 8 ⌝ }
-    ensures { λ r. ⌜ r ≡ orOverload fault (lowestOverload order (now (demand .entry)) (now (available .entry)) n) n ⌝ }
+    requires { ⌜ (m ≤ elements) × (n ≤ 8) ⌝ }
+    ensures { λ r. ⌜ r ≡ orOverload fault (lowestOverload m order (now (demand .entry)) (now (available .entry)) n) n ⌝ }
 {
     if !is_fine(fault) {
         return fault;
     }
-    let over = kinds::lowest_overload(order, demand, available, n);
+    let over = kinds::lowest_overload(order, m, demand, available, n);
+    let kind = over.kind + 1;
     let set = over.set;
     let cause = Cause::Overloaded {
-        kind: over.kind + 1,
+        kind,
         need: over.need,
-        set: set.word,
+        set,
     };
     or_cause(fault, over.kind < n, cause)
 }
@@ -52,7 +56,7 @@ fn judge(s: &[u8]) -> Judged
     let demand = q.demand;
     let available = q.available;
     let before = opened.fault;
-    let fault = or_overloaded(before, order, &demand, &available, n);
+    let fault = or_overloaded(before, order, q.count, &demand, &available, n);
     Judged {
         fault,
         activities: q.count,

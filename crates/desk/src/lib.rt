@@ -28,8 +28,12 @@ pub enum Cause {
     JobCircle(usize),
     // A circle in the plan order only, 6: the lowest activity before itself there.
     PlanCircle(usize),
-    // The plan is overloaded, 7: the lowest such kind, its need, and the word of an unrelated set that has it.
-    Overloaded { kind: usize, need: u32, set: u64 },
+    // The plan is overloaded, 7: the lowest such kind, its need, and an unrelated set that has it.
+    Overloaded {
+        kind: usize,
+        need: u32,
+        set: order::Set,
+    },
     // The kind is not 1 to K, 8: K.
     NoKind(usize),
     // The lent slice is too short, 9: the length needed.

@@ -7,7 +7,7 @@ use crate::Fault;
 // A plan that was read, its direct arcs (job and extra together, as rows), its plan order, and the first of the causes 1 to 6.
 pub struct Opened {
     pub plan: plan::Plan,
-    pub rows: [u64; 64],
+    pub rows: order::Rows,
     pub order: order::Order,
     pub fault: Fault,
 }
@@ -50,11 +50,11 @@ fn circles(job: order::Order, whole: order::Order) -> Fault
     ensures { λ r. ⌜ r ≡ circlesOf job whole ⌝ }
 {
     let i = job.circle();
-    if i < 64 {
+    if i < order::ELEMENTS {
         return Fault::Refused(Cause::JobCircle(i + 1));
     }
     let j = whole.circle();
-    if j < 64 {
+    if j < order::ELEMENTS {
         return Fault::Refused(Cause::PlanCircle(j + 1));
     }
     Fault::Fine

@@ -24,7 +24,7 @@ fn write_needs(s: &[u8], out: &mut [u32]) -> Counted
     }
     let order = opened.order;
     let demand = q.demand;
-    kinds::put_needs(out, order, &demand, n);
+    kinds::put_needs(out, order, q.count, &demand, n);
     Counted { fault, value: n }
 }
 

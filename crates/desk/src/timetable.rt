@@ -3,6 +3,7 @@ ghost use mathlib.Core.Path.{_≡_};
 ghost use Prim.Native.Nat.{_+_, _≤_};
 ghost use lib.ListN.{length};
 ghost use Rattle.words.specs.Tables.{over};
+ghost use Rattle.order.specs.Stored.{elements};
 ghost use Rattle.desk.specs.Starts.{startsCounted, startsAnswer, startsOut, withEnd};
 use crate::Cause;
 use crate::Output;
@@ -11,10 +12,11 @@ use crate::answer::output_of;
 use crate::open::is_fine;
 use crate::open::open_plan;
 use crate::open::or_cause;
+use order::ELEMENTS;
 
 // Writes m starts and the start of the end to the front of the lent numbers.
-fn put_starts(out: &mut [u32], starts: &[u32; 64], m: usize, end: u32)
-    requires { ⌜ (m ≤ 64) × (m + 1 ≤ length (now out)) ⌝ }
+fn put_starts(out: &mut [u32], starts: &[u32; ELEMENTS], m: usize, end: u32)
+    requires { ⌜ (m ≤ elements) × (m + 1 ≤ length (now out)) ⌝ }
     ensures { λ _. ⌜ now (out .exit) ≡ over (m + 1) (withEnd m (now (starts .entry)) end) (now (out .entry)) ⌝ }
 {
     for i in 0..m {

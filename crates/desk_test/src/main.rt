@@ -38,7 +38,7 @@ fn print_cause(c: Cause) {
         Cause::Overloaded { kind, need, set } => {
             print_values(7, kind);
             print_number(need as u64);
-            print_number(set);
+            print_number(set.first_word());
         }
         Cause::NoKind(n) => print_values(8, n),
         Cause::Short(n) => print_values(9, n),

@@ -2,59 +2,60 @@
 use mathlib.Core.Path.{_≡_, sym, ap, _∙_}
 use mathlib.Core.List.{List}
 use mathlib.Core.Logic.{⊎-elim}
-use Prim.Native.Nat.{ℕ, _+_, _-_, _≤_, _<_, min}
+use Prim.Native.Nat.{ℕ, _*_, _+_, _-_, _≤_, _<_, min}
 use native.Mathlib.Nat.{mod-eq-of-lt}
 use native.Mathlib.Omega.{arith}
 use lib.ListN.{getD, length, length-set, set}
 use Rattle.words.proofs.Sums.{sum-term}
 use Rattle.words.proofs.Tests.{same-or-not}
+use Rattle.order.specs.Stored.{elements}
 use Rattle.flow_math.specs.Handover.{col, row}
 use Rattle.flow.specs.Network.{Network, cell, handed, joined, shifted, wrap}
 use Rattle.flow.proofs.Stores.{set-share, share, share-add, share-other, share-same, share-sub, sum-in, sum-out}
 
 -- what a store to the flow does to a row and to a column
-module _ (f : List ℕ) (i j v : ℕ) (hi : i < 64) (hj : j < 64) (len : length f ≡ 4096) where
-  pub row-set : (p : ℕ) → p < 64 → row 64 (handed (set f (cell i j) v)) p + share i p (getD f (cell i j) 0) ≡ row 64 (handed f) p + share i p v
+module _ (f : List ℕ) (i j v : ℕ) (hi : i < elements) (hj : j < elements) (len : length f ≡ (elements * elements)) where
+  pub row-set : (p : ℕ) → p < elements → row elements (handed (set f (cell i j) v)) p + share i p (getD f (cell i j) 0) ≡ row elements (handed f) p + share i p v
   unfolding row
   row-set p hp =
       ⊎-elim
       (λ e.
-      let s = sum-in f (cell i j) v (λ y. cell p y) 64 j hj (ap (λ (x : ℕ). cell x j) (sym e)) (omega arith) (λ y b q. omega arith) in
+      let s = sum-in f (cell i j) v (λ y. cell p y) elements j hj (ap (λ (x : ℕ). cell x j) (sym e)) (omega arith) (λ y b q. omega arith) in
       omega (arith, s, share-same i p (getD f (cell i j) 0) e, share-same i p v e))
       (λ n.
-      let s = sum-out f (cell i j) v (λ y. cell p y) 64 (λ y b q. n (omega arith)) in
+      let s = sum-out f (cell i j) v (λ y. cell p y) elements (λ y b q. n (omega arith)) in
       omega (arith, s, share-other i p (getD f (cell i j) 0) n, share-other i p v n))
       (same-or-not i p)
 
-  pub col-set : (q : ℕ) → q < 64 → col 64 (handed (set f (cell i j) v)) q + share j q (getD f (cell i j) 0) ≡ col 64 (handed f) q + share j q v
+  pub col-set : (q : ℕ) → q < elements → col elements (handed (set f (cell i j) v)) q + share j q (getD f (cell i j) 0) ≡ col elements (handed f) q + share j q v
   unfolding col
   col-set q hq =
       ⊎-elim
       (λ e.
-      let s = sum-in f (cell i j) v (λ x. cell x q) 64 i hi (ap (cell i) (sym e)) (omega arith) (λ x b r. omega arith) in
+      let s = sum-in f (cell i j) v (λ x. cell x q) elements i hi (ap (cell i) (sym e)) (omega arith) (λ x b r. omega arith) in
       omega (arith, s, share-same j q (getD f (cell i j) 0) e, share-same j q v e))
       (λ n.
-      let s = sum-out f (cell i j) v (λ x. cell x q) 64 (λ x b r. n (omega arith)) in
+      let s = sum-out f (cell i j) v (λ x. cell x q) elements (λ x b r. n (omega arith)) in
       omega (arith, s, share-other j q (getD f (cell i j) 0) n, share-other j q v n))
       (same-or-not j q)
 
 -- in balance with the demands d
 pub record Balanced (d : ℕ → ℕ) (s : Network) : Type 0 where
-  pub wide : length (s .flow) ≡ 4096
-  pub lefts : length (s .left) ≡ 64
-  pub rights : length (s .right) ≡ 64
-  pub rows : (p : ℕ) → p < 64 → row 64 (handed (s .flow)) p + getD (s .left) p 0 ≡ d p
-  pub cols : (q : ℕ) → q < 64 → col 64 (handed (s .flow)) q + getD (s .right) q 0 ≡ d q
+  pub wide : length (s .flow) ≡ (elements * elements)
+  pub lefts : length (s .left) ≡ elements
+  pub rights : length (s .right) ≡ elements
+  pub rows : (p : ℕ) → p < elements → row elements (handed (s .flow)) p + getD (s .left) p 0 ≡ d p
+  pub cols : (q : ℕ) → q < elements → col elements (handed (s .flow)) q + getD (s .right) q 0 ≡ d q
 
 no-wrap : (x : ℕ) → x ≤ 65535 → wrap x ≡ x
 no-wrap x h = mod-eq-of-lt (omega arith)
 
-module _ (d : ℕ → ℕ) (small : (p : ℕ) → p < 64 → d p ≤ 65535) (s : Network) (b : Balanced d s) where
-  flow-le : (i j : ℕ) → i < 64 → j < 64 → getD (s .flow) (cell i j) 0 ≤ col 64 (handed (s .flow)) j
+module _ (d : ℕ → ℕ) (small : (p : ℕ) → p < elements → d p ≤ 65535) (s : Network) (b : Balanced d s) where
+  flow-le : (i j : ℕ) → i < elements → j < elements → getD (s .flow) (cell i j) 0 ≤ col elements (handed (s .flow)) j
   unfolding col
-  flow-le i j hi hj = sum-term 64 (λ x. getD (s .flow) (cell x j) 0) i hi
+  flow-le i j hi hj = sum-term elements (λ x. getD (s .flow) (cell x j) 0) i hi
 
-  module _ (i j : ℕ) (hi : i < 64) (hj : j < 64) where
+  module _ (i j : ℕ) (hi : i < elements) (hj : j < elements) where
     abbrev joining : ℕ
     joining = min (getD (s .left) i 0) (getD (s .right) j 0)
 
@@ -92,7 +93,7 @@ module _ (d : ℕ → ℕ) (small : (p : ℕ) → p < 64 → d p ≤ 65535) (s :
               );
         }
 
-  module _ (i k j : ℕ) (hi : i < 64) (hk : k < 64) (hj : j < 64) where
+  module _ (i k j : ℕ) (hi : i < elements) (hk : k < elements) (hj : j < elements) where
     abbrev pub moving : ℕ
     moving = min (getD (s .right) j 0) (getD (s .flow) (cell i k) 0)
 
@@ -102,13 +103,13 @@ module _ (d : ℕ → ℕ) (small : (p : ℕ) → p < 64 → d p ≤ 65535) (s :
     abbrev pub spent : List ℕ
     spent = set (s .right) j (getD (s .right) j 0 - moving)
 
-    lowered-wide : length lowered ≡ 4096
+    lowered-wide : length lowered ≡ (elements * elements)
     lowered-wide = length-set (s .flow) (cell i k) (getD (s .flow) (cell i k) 0 - moving) ∙ b .wide
 
-    pub spent-wide : length spent ≡ 64
+    pub spent-wide : length spent ≡ elements
     spent-wide = length-set (s .right) j (getD (s .right) j 0 - moving) ∙ b .rights
 
-    lowered-col : (q : ℕ) → q < 64 → col 64 (handed lowered) q + share k q moving ≡ col 64 (handed (s .flow)) q
+    lowered-col : (q : ℕ) → q < elements → col elements (handed lowered) q + share k q moving ≡ col elements (handed (s .flow)) q
     lowered-col q hq =
         omega (
           arith,
@@ -116,7 +117,7 @@ module _ (d : ℕ → ℕ) (small : (p : ℕ) → p < 64 → d p ≤ 65535) (s :
           share-sub k q (getD (s .flow) (cell i k) 0) moving (omega arith),
         )
 
-    lowered-row : (p : ℕ) → p < 64 → row 64 (handed lowered) p + share i p moving ≡ row 64 (handed (s .flow)) p
+    lowered-row : (p : ℕ) → p < elements → row elements (handed lowered) p + share i p moving ≡ row elements (handed (s .flow)) p
     lowered-row p hp =
         omega (
           arith,
@@ -136,7 +137,7 @@ module _ (d : ℕ → ℕ) (small : (p : ℕ) → p < 64 → d p ≤ 65535) (s :
     unfolding col
     flow-plain =
         no-wrap (getD lowered (cell i j) 0 + moving)
-        (omega (arith, sum-term 64 (λ x. getD lowered (cell x j) 0) i hi, lowered-col j hj, b .cols j hj, small j hj))
+        (omega (arith, sum-term elements (λ x. getD lowered (cell x j) 0) i hi, lowered-col j hj, b .cols j hj, small j hj))
 
     pub slack-plain : wrap (getD spent k 0 + moving) ≡ getD spent k 0 + moving
     slack-plain = no-wrap (getD spent k 0 + moving) (omega (arith, spent-at k, flow-le i k hi hk, b .cols k hk, small k hk))

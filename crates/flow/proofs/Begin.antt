@@ -1,81 +1,99 @@
 -- Where the solver starts: nothing is handed over, and all demands are left. Assumes nothing.
-use mathlib.Core.Path.{_≡_, ap, _∙_}
+use mathlib.Core.Path.{_≡_, sym, ap, _∙_}
 use mathlib.Core.Bool.{cond}
 use mathlib.Core.List.{List}
-use Prim.Native.Nat.{ℕ, _<_}
+use mathlib.Core.Logic.{by-cases}
+use Prim.Native.Nat.{ℕ, _*_, _≤_, _<_}
+use native.Mathlib.Decide.{decLt}
 use native.Mathlib.Omega.{arith}
 use lib.Dec.{ltb}
 use lib.ListN.{getD, getD-replicate, length, length-replicate}
-use borrow.Author.Tests.{lt-ltb}
+use borrow.Author.Tests.{lt-ltb, le-ltb}
 use Rattle.words.specs.Bits.{digit}
 use Rattle.words.specs.Tables.{table}
 use Rattle.words.proofs.Bits.{digit-none}
 use Rattle.words.proofs.Sums.{sum-zero}
-use Rattle.words.proofs.Tables.{getD-table, getD-zeros, length-table, stored}
-use Rattle.words.proofs.Tests.{cond-true}
+use Rattle.words.proofs.Tables.{getD-table, length-table, stored}
+use Rattle.words.proofs.Tests.{cond-true, cond-false}
+use Rattle.order.specs.Stored.{elements, cells, row as setAt}
+use Rattle.order.proofs.Stored.{bound-pos, length-blank, row-blank}
 use Rattle.flow_math.specs.Handover.{col, row}
 use Rattle.flow.specs.Network.{cell, handed}
-use Rattle.flow.specs.Solve.{blanks}
+use Rattle.flow.specs.Solve.{blanks, blankRows}
 use Rattle.flow.specs.Quote.{copied, untouched, unused}
+use Rattle.flow.proofs.Linked.{Linked}
 use Rattle.flow.proofs.Consistent.{Consistent}
 
-unused-long : length unused ≡ 4096
+pub unused-long : length unused ≡ (elements * elements)
 unfolding unused
-unused-long = length-replicate {A = ℕ} 4096 0
+unused-long = length-replicate {A = ℕ} (elements * elements) 0
 
-blank-long : length (blanks 0) ≡ 64
-unfolding blanks
-blank-long = length-replicate {A = ℕ} 64 0
+blank-rows-long : length blankRows ≡ cells elements
+unfolding blankRows
+blank-rows-long = length-blank elements
 
-unused-at : (i j : ℕ) → i < 64 → j < 64 → handed unused i j ≡ 0
+pub unused-at : (i j : ℕ) → i < elements → j < elements → handed unused i j ≡ 0
 unfolding unused
-unused-at i j hi hj = getD-replicate 4096 (cell i j) 0 0 (omega arith)
+unused-at i j hi hj = getD-replicate (elements * elements) (cell i j) 0 0 (omega arith)
 
-blank-word : (j : ℕ) → getD (blanks 0) j 0 ≡ 0
-unfolding blanks
-blank-word j = getD-zeros 64 j
+blank-word : (j : ℕ) → setAt blankRows j ≡ 0
+unfolding blankRows
+blank-word j = row-blank elements j
 
-blank-at : (j i : ℕ) → digit (getD (blanks 0) j 0) i ≡ 0
+blank-at : (j i : ℕ) → digit (setAt blankRows j) i ≡ 0
 blank-at j i = ap (λ (x : ℕ). digit x i) (blank-word j) ∙ digit-none i
 
-unused-row : (i : ℕ) → i < 64 → row 64 (handed unused) i ≡ 0
+unused-row : (i : ℕ) → i < elements → row elements (handed unused) i ≡ 0
 unfolding row
-unused-row i hi = sum-zero 64 (λ j. handed unused i j) (λ j hj. unused-at i j hi hj)
+unused-row i hi = sum-zero elements (λ j. handed unused i j) (λ j hj. unused-at i j hi hj)
 
-unused-col : (j : ℕ) → j < 64 → col 64 (handed unused) j ≡ 0
+unused-col : (j : ℕ) → j < elements → col elements (handed unused) j ≡ 0
 unfolding col
-unused-col j hj = sum-zero 64 (λ i. handed unused i j) (λ i hi. unused-at i j hi hj)
+unused-col j hj = sum-zero elements (λ i. handed unused i j) (λ i hi. unused-at i j hi hj)
 
--- a copy of 64 entries
-copied-table : (a : List ℕ) → copied a ≡ table 64 (λ i. cond (ltb i 64) (getD a i 0) 0)
-unfolding copied blanks
-copied-table a = stored (λ i. getD a i 0) 64 64 (omega arith)
+-- a copy of the m first entries
+module _ (m : ℕ) (hm : m ≤ elements) (a : List ℕ) where
+  copied-table : copied m a ≡ table elements (λ i. cond (ltb i m) (getD a i 0) 0)
+  unfolding copied blanks
+  copied-table = stored (λ i. getD a i 0) elements m hm
 
-copied-long : (a : List ℕ) → length (copied a) ≡ 64
-copied-long a = ap length (copied-table a) ∙ length-table 64 (λ i. cond (ltb i 64) (getD a i 0) 0)
+  pub copied-long : length (copied m a) ≡ elements
+  copied-long = ap length copied-table ∙ length-table elements (λ i. cond (ltb i m) (getD a i 0) 0)
 
-copied-at : (a : List ℕ) (i : ℕ) → i < 64 → getD (copied a) i 0 ≡ getD a i 0
-copied-at a i h =
-    ap (λ (l : List ℕ). getD l i 0) (copied-table a)
-    ∙ getD-table 64 (λ i. cond (ltb i 64) (getD a i 0) 0) i 0 h
-    ∙ cond-true (getD a i 0) 0 (lt-ltb i 64 h)
+  pub copied-is : (i : ℕ) → i < elements → getD (copied m a) i 0 ≡ cond (ltb i m) (getD a i 0) 0
+  copied-is i h = ap (λ (l : List ℕ). getD l i 0) copied-table ∙ getD-table elements (λ i. cond (ltb i m) (getD a i 0) 0) i 0 h
 
-pub untouched-consistent : (rows demand : List ℕ) → Consistent (λ i. getD demand i 0) rows (untouched demand)
-untouched-consistent rows demand =
+  pub copied-past : (i : ℕ) → m ≤ i → i < elements → getD (copied m a) i 0 ≡ 0
+  copied-past i l h = copied-is i h ∙ cond-false (getD a i 0) 0 (le-ltb i m l)
+
+  copied-at : ((i : ℕ) → m ≤ i → i < elements → getD a i 0 ≡ 0) → (i : ℕ) → i < elements → getD (copied m a) i 0 ≡ getD a i 0
+  copied-at idle i h =
+      by-cases (decLt i m)
+      (λ l. copied-is i h ∙ cond-true (getD a i 0) 0 (lt-ltb i m l))
+      (λ g. copied-past i (omega arith) h ∙ sym (idle i (omega arith) h))
+
+pub untouched-linked : (m : ℕ) (demand : List ℕ) → Linked (untouched m demand)
+untouched-linked m demand =
+    record {
+      wide = unused-long;
+      long = blank-rows-long;
+      fit = λ j. omega (arith, blank-word j, bound-pos);
+      says = λ i j hi hj. (λ e. absurd (omega (arith, blank-at j i)), λ e. absurd (omega (arith, unused-at i j hi hj)));
+    }
+
+-- where the elements from m on have no demand
+pub untouched-consistent : (m : ℕ) → m ≤ elements → (rows demand : List ℕ) → ((i : ℕ) → m ≤ i → i < elements → getD demand i 0 ≡ 0)
+    → Consistent (λ i. getD demand i 0) rows (untouched m demand)
+untouched-consistent m hm rows demand idle =
     record {
       balanced = record {
         wide = unused-long;
-        lefts = copied-long demand;
-        rights = copied-long demand;
-        rows = λ i h. omega (arith, unused-row i h, copied-at demand i h);
-        cols = λ j h. omega (arith, unused-col j h, copied-at demand j h);
+        lefts = copied-long m hm demand;
+        rights = copied-long m hm demand;
+        rows = λ i h. omega (arith, unused-row i h, copied-at m hm demand idle i h);
+        cols = λ j h. omega (arith, unused-col j h, copied-at m hm demand idle j h);
       };
-      linked = record {
-        wide = unused-long;
-        long = blank-long;
-        fit = λ j. omega (arith, blank-word j);
-        says = λ i j hi hj. (λ e. absurd (omega (arith, blank-at j i)), λ e. absurd (omega (arith, unused-at i j hi hj)));
-      };
+      linked = untouched-linked m demand;
       ordered = record {
         wide = unused-long;
         along = λ i j hi hj e. absurd (omega (arith, unused-at i j hi hj));

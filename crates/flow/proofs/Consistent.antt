@@ -1,6 +1,7 @@
 -- What holds of a handover before and after each round, and at the start. Assumes nothing.
 use mathlib.Core.List.{List}
 use Prim.Native.Nat.{ℕ, _≤_, _<_}
+use Rattle.order.specs.Stored.{elements}
 use Rattle.flow.specs.Network.{Network, joined, shifted}
 use Rattle.flow.specs.Solve.{rounded, started}
 use Rattle.flow.proofs.Balance.{Balanced, joined-balanced, shifted-balanced}
@@ -14,25 +15,25 @@ pub record Consistent (d : ℕ → ℕ) (rows : List ℕ) (s : Network) : Type 0
   pub linked : Linked s
   pub ordered : Ordered rows s
 
-module _ (d : ℕ → ℕ) (small : (p : ℕ) → p < 64 → d p ≤ 65535) (rows : List ℕ) where
-  joins : (t : Network) (i j : ℕ) → i < 64 → j < 64 → Balanced d t → Balanced d (joined t i j)
+module _ (m : ℕ) (hm : m ≤ elements) (d : ℕ → ℕ) (small : (p : ℕ) → p < elements → d p ≤ 65535) (rows : List ℕ) where
+  joins : (t : Network) (i j : ℕ) → i < elements → j < elements → Balanced d t → Balanced d (joined t i j)
   joins t i j hi hj b = joined-balanced d small t b i j hi hj
 
-  shifts : (t : Network) (i k j : ℕ) → i < 64 → k < 64 → j < 64 → Balanced d t → Balanced d (shifted t i k j)
+  shifts : (t : Network) (i k j : ℕ) → i < elements → k < elements → j < elements → Balanced d t → Balanced d (shifted t i k j)
   shifts t i k j hi hk hj b = shifted-balanced d small t b i k j hi hk hj
 
-  pub round-consistent : (s : Network) → Consistent d rows s → Consistent d rows (rounded rows s .now)
+  pub round-consistent : (s : Network) → Consistent d rows s → Consistent d rows (rounded m rows s .now)
   round-consistent s f =
       record {
-        balanced = rounded-keeps (Balanced d) joins shifts rows s (f .balanced);
-        linked = rounded-keeps Linked joined-linked shifted-linked rows s (f .linked);
-        ordered = rounded-ordered rows s (f .linked .fit) (f .ordered);
+        balanced = rounded-keeps (Balanced d) joins shifts m rows s (f .balanced);
+        linked = rounded-keeps Linked joined-linked shifted-linked m rows s (f .linked);
+        ordered = rounded-ordered rows m hm s (f .linked .fit) (f .ordered);
       }
 
-  pub start-consistent : (s : Network) → Consistent d rows s → Consistent d rows (started rows s)
-  start-consistent s f =
+  pub start-consistent : (b : List ℕ) (s : Network) → Consistent d rows s → Consistent d rows (started m rows b s)
+  start-consistent b s f =
       record {
-        balanced = started-keeps (Balanced d) joins shifts rows s (f .balanced);
-        linked = started-keeps Linked joined-linked shifted-linked rows s (f .linked);
-        ordered = started-ordered rows s (f .ordered);
+        balanced = started-keeps (Balanced d) joins shifts m rows b s (f .balanced);
+        linked = started-keeps Linked joined-linked shifted-linked m rows b s (f .linked);
+        ordered = started-ordered rows m b s (f .ordered);
       }

@@ -3,7 +3,7 @@ use mathlib.Core.Path.{_≡_, refl, _∙_}
 use mathlib.Core.Bool.{Bool, true, false, cond}
 use mathlib.Core.List.{List}
 use mathlib.Core.Logic.{_⊎_, inl, inr, ⊎-elim}
-use Prim.Native.Nat.{ℕ, suc, _+_, _^_, _≤_, _<_}
+use Prim.Native.Nat.{ℕ, suc, _+_, _≤_, _<_}
 use native.Mathlib.Omega.{arith}
 use lib.Bits.{bitAnd, bitOr}
 use lib.Count.{ones-le}
@@ -17,6 +17,8 @@ use Rattle.words.proofs.Kept.{each-keeps, run-keeps}
 use Rattle.words.proofs.Members.{low-lt}
 use Rattle.words.proofs.Sizes.{ones-zero}
 use Rattle.words.proofs.Tests.{cond-false, cond-true}
+use Rattle.order.proofs.Stored.{in-bound}
+use Rattle.order.specs.Stored.{bound, elements, row as setAt}
 use Rattle.flow.specs.Search.{Reached, Seen, advance, begun, ended, found, fresh, low, marks, onward, reach, reached, seen, visit}
 use Rattle.flow.specs.Network.{Network, positive}
 use Rattle.flow.specs.Solve.{blanks, sought}
@@ -26,26 +28,26 @@ use Rattle.flow.proofs.Certificate.{Closing, Fit, Going, advanceBy, beg
 use Rattle.flow.proofs.Tree.{Tree, begun-tree, marks-in, marks-length, marks-out, tree-turn}
 
 -- what a turn does to the parent of the giver i: it keeps it where i was seen, and else it is a taker
-module _ (givers : List ℕ) (i : ℕ) (hi : i < 64) where
+module _ (givers : List ℕ) (i : ℕ) (hi : i < elements) where
   abbrev Stays : ℕ → Seen → Type 0
   Stays v s = (digit (s .word) i ≡ 1) × (getD (s .parents) i 0 ≡ v)
 
   stays : (v : ℕ) (s : Seen) (j : ℕ) → Stays v s → Stays v (visit givers s j)
   stays v s j p =
-      let back = minus (getD givers j 0) (s .word) in
-      let z : digit back i ≡ 0 = omega (arith, digit-minus (getD givers j 0) (s .word) i, digit-lt (getD givers j 0) i, p .0) in
+      let back = minus (setAt givers j) (s .word) in
+      let z : digit back i ≡ 0 = omega (arith, digit-minus (setAt givers j) (s .word) i, digit-lt (setAt givers j) i, p .0) in
       (or-sub (s .word) back i hi (p .0), marks-out (s .parents) back j i z ∙ p .1)
 
-  kept-parent : (s : Seen) (w : ℕ) → digit (s .word) i ≡ 1 → getD (each 64 (visit givers) s w .parents) i 0 ≡ getD (s .parents) i 0
+  kept-parent : (s : Seen) (w : ℕ) → digit (s .word) i ≡ 1 → getD (each elements (visit givers) s w .parents) i 0 ≡ getD (s .parents) i 0
   kept-parent s w e =
-      each-keeps (Stays (getD (s .parents) i 0)) 64 (visit givers) w (λ t j h m p. stays (getD (s .parents) i 0) t j p) s (e, refl) .1
+      each-keeps (Stays (getD (s .parents) i 0)) elements (visit givers) w (λ t j h m p. stays (getD (s .parents) i 0) t j p) s (e, refl) .1
 
   abbrev Comes : Seen → Type 0
-  Comes s = (length (s .parents) ≡ 64) × ((digit (s .word) i ≡ 0) ⊎ (getD (s .parents) i 0 < 64))
+  Comes s = (length (s .parents) ≡ elements) × ((digit (s .word) i ≡ 0) ⊎ (getD (s .parents) i 0 < elements))
 
-  comes : (s : Seen) (j : ℕ) → j < 64 → Comes s → Comes (visit givers s j)
+  comes : (s : Seen) (j : ℕ) → j < elements → Comes s → Comes (visit givers s j)
   comes s j h p =
-      let back = minus (getD givers j 0) (s .word) in (
+      let back = minus (setAt givers j) (s .word) in (
         marks-length (s .parents) back j ∙ p .0,
         ⊎-elim
             (λ o. ⊎-elim (λ z. inl (omega (arith, digit-or (s .word) back i))) (λ k. inr (rw (marks-out (s .parents) back j i o) k)) (p .1))
@@ -53,23 +55,23 @@ module _ (givers : List ℕ) (i : ℕ) (hi : i < 64) where
             (zero-or-one back i),
       )
 
-  new-parent : (s : Seen) (w : ℕ) → length (s .parents) ≡ 64 → digit (s .word) i ≡ 0
-      → digit (each 64 (visit givers) s w .word) i ≡ 1 → getD (each 64 (visit givers) s w .parents) i 0 < 64
+  new-parent : (s : Seen) (w : ℕ) → length (s .parents) ≡ elements → digit (s .word) i ≡ 0
+      → digit (each elements (visit givers) s w .word) i ≡ 1 → getD (each elements (visit givers) s w .parents) i 0 < elements
   new-parent s w l z e =
-      ⊎-elim (λ o. absurd (omega arith)) (λ k. k) (each-keeps Comes 64 (visit givers) w (λ t j h m p. comes t j h p) s (l, inl z) .1)
+      ⊎-elim (λ o. absurd (omega arith)) (λ k. k) (each-keeps Comes elements (visit givers) w (λ t j h m p. comes t j h p) s (l, inl z) .1)
 
 -- a taker is discovered after the giver that led to it, and a giver not before the taker that led to it, unless it is a root
 pub record Depth (roots slack : ℕ) (q : Reached) : Type 0 where
   pub turns : ℕ
-  pub fits : turns + spare (q .search) ≤ 64
+  pub fits : turns + spare (q .search) ≤ elements
   pub of-left : ℕ → ℕ
   pub of-right : ℕ → ℕ
-  pub left-le : (i : ℕ) → i < 64 → digit (q .search .left) i ≡ 1 → of-left i ≤ turns
-  pub right-le : (j : ℕ) → j < 64 → digit (q .search .right) j ≡ 1 → of-right j ≤ turns
-  pub came : (j : ℕ) → j < 64 → digit (q .search .right) j ≡ 1 → of-left (getD (q .rights) j 0) < of-right j
-  pub led : (i : ℕ) → i < 64 → digit (q .search .left) i ≡ 1 → getD (q .lefts) i 0 < 64 → of-right (getD (q .lefts) i 0) ≤ of-left i
-  pub root : (i : ℕ) → i < 64 → digit (q .search .left) i ≡ 1 → 64 ≤ getD (q .lefts) i 0 → digit roots i ≡ 1
-  pub goal : q .search .at < 64 → digit slack (q .search .at) ≡ 1
+  pub left-le : (i : ℕ) → i < elements → digit (q .search .left) i ≡ 1 → of-left i ≤ turns
+  pub right-le : (j : ℕ) → j < elements → digit (q .search .right) j ≡ 1 → of-right j ≤ turns
+  pub came : (j : ℕ) → j < elements → digit (q .search .right) j ≡ 1 → of-left (getD (q .rights) j 0) < of-right j
+  pub led : (i : ℕ) → i < elements → digit (q .search .left) i ≡ 1 → getD (q .lefts) i 0 < elements → of-right (getD (q .lefts) i 0) ≤ of-left i
+  pub root : (i : ℕ) → i < elements → digit (q .search .left) i ≡ 1 → elements ≤ getD (q .lefts) i 0 → digit roots i ≡ 1
+  pub goal : q .search .at < elements → digit slack (q .search .at) ≡ 1
 
 -- the turn of the element i: the one that it has where it is a member of w, and else this one
 unfoldable dated : ℕ → (ℕ → ℕ) → ℕ → ℕ → ℕ
@@ -113,25 +115,25 @@ module _ (rows givers : List ℕ) (roots slack : ℕ) (fit : Fit givers) (q : Re
   abbrev of-right′ : ℕ → ℕ
   of-right′ = dated (q .search .right) (D .of-right) now
 
-  left-le′ : (i : ℕ) → i < 64 → of-left′ i ≤ now
+  left-le′ : (i : ℕ) → i < elements → of-left′ i ≤ now
   left-le′ i h = dated-le (q .search .left) (D .of-left) (D .turns) i (D .left-le i h)
 
-  right-le′ : (j : ℕ) → j < 64 → of-right′ j ≤ now
+  right-le′ : (j : ℕ) → j < elements → of-right′ j ≤ now
   right-le′ j h = dated-le (q .search .right) (D .of-right) (D .turns) j (D .right-le j h)
 
   old-right : (j : ℕ) → digit right′ j ≡ 1 → digit new j ≡ 0 → digit (q .search .right) j ≡ 1
   old-right j e o = omega (arith, digit-or (q .search .right) new j)
 
   new-right : (j : ℕ) → digit new j ≡ 1 → digit (q .search .right) j ≡ 0
-  new-right j o = omega (arith, digit-minus (getD rows i₀ 0) (q .search .right) j, digit-lt (getD rows i₀ 0) j)
+  new-right j o = omega (arith, digit-minus (setAt rows i₀) (q .search .right) j, digit-lt (setAt rows i₀) j)
 
-  first-lt : i₀ < 64
-  first-lt = low-lt 64 (q .search .frontier) p (c .small-frontier)
+  first-lt : i₀ < elements
+  first-lt = low-lt elements (q .search .frontier) p (in-bound (c .small-frontier))
 
   first-left : digit (q .search .left) i₀ ≡ 1
   first-left = t .pending i₀ first-lt (low-digit (q .search .frontier) first-lt)
 
-  came-old : (j k : ℕ) → j < 64 → digit (q .search .right) j ≡ 1 → k ≡ getD (q .rights) j 0 → of-left′ k < of-right′ j
+  came-old : (j k : ℕ) → j < elements → digit (q .search .right) j ≡ 1 → k ≡ getD (q .rights) j 0 → of-left′ k < of-right′ j
   came-old j k h r v =
       rw v
       (omega (
@@ -151,7 +153,7 @@ module _ (rows givers : List ℕ) (roots slack : ℕ) (fit : Fit givers) (q : Re
         D .left-le i₀ first-lt first-left,
       ))
 
-  came′ : (j : ℕ) → j < 64 → digit right′ j ≡ 1 → of-left′ (getD rights′ j 0) < of-right′ j
+  came′ : (j : ℕ) → j < elements → digit right′ j ≡ 1 → of-left′ (getD rights′ j 0) < of-right′ j
   came′ j h e =
       ⊎-elim
       (λ o. came-old j (getD rights′ j 0) h (old-right j e o) (marks-out (q .rights) new i₀ j o))
@@ -159,7 +161,7 @@ module _ (rows givers : List ℕ) (roots slack : ℕ) (fit : Fit givers) (q : Re
       (zero-or-one new j)
 
   -- a giver that was seen before this turn
-  led-old : (i k : ℕ) → i < 64 → digit (q .search .left) i ≡ 1 → k ≡ getD (q .lefts) i 0 → k < 64 → of-right′ k ≤ of-left′ i
+  led-old : (i k : ℕ) → i < elements → digit (q .search .left) i ≡ 1 → k ≡ getD (q .lefts) i 0 → k < elements → of-right′ k ≤ of-left′ i
   led-old i k h e v l =
       ⊎-elim
       (λ x. absurd (omega arith))
@@ -173,24 +175,24 @@ module _ (rows givers : List ℕ) (roots slack : ℕ) (fit : Fit givers) (q : Re
       )))
       (t .led i h e)
 
-  kept : (i : ℕ) → i < 64 → digit (q .search .left) i ≡ 1 → getD (w .parents) i 0 ≡ getD (q .lefts) i 0
+  kept : (i : ℕ) → i < elements → digit (q .search .left) i ≡ 1 → getD (w .parents) i 0 ≡ getD (q .lefts) i 0
   kept i h e = kept-parent givers i h (seen (q .search .left) (q .lefts)) new e
 
-  led′ : (i : ℕ) → i < 64 → digit (w .word) i ≡ 1 → getD (w .parents) i 0 < 64 → of-right′ (getD (w .parents) i 0) ≤ of-left′ i
+  led′ : (i : ℕ) → i < elements → digit (w .word) i ≡ 1 → getD (w .parents) i 0 < elements → of-right′ (getD (w .parents) i 0) ≤ of-left′ i
   led′ i h e l =
       ⊎-elim
       (λ z. omega (arith, dated-new (q .search .left) (D .of-left) now i z, right-le′ (getD (w .parents) i 0) l))
       (λ o. led-old i (getD (w .parents) i 0) h o (kept i h o) l)
       (zero-or-one (q .search .left) i)
 
-  root′ : (i : ℕ) → i < 64 → digit (w .word) i ≡ 1 → 64 ≤ getD (w .parents) i 0 → digit roots i ≡ 1
+  root′ : (i : ℕ) → i < elements → digit (w .word) i ≡ 1 → elements ≤ getD (w .parents) i 0 → digit roots i ≡ 1
   root′ i h e l =
       ⊎-elim
       (λ z. absurd (omega (arith, new-parent givers i h (seen (q .search .left) (q .lefts)) new (t .lefts-long) z e)))
       (λ o. D .root i h o (omega (arith, kept i h o)))
       (zero-or-one (q .search .left) i)
 
-  goal′ : low (bitAnd new slack) < 64 → digit slack (low (bitAnd new slack)) ≡ 1
+  goal′ : low (bitAnd new slack) < elements → digit slack (low (bitAnd new slack)) ≡ 1
   goal′ h =
       let k = low (bitAnd new slack) in
       omega (arith, low-digit (bitAnd new slack) h, digit-and new slack k, digit-lt slack k)
@@ -249,7 +251,7 @@ module _ (rows givers : List ℕ) (roots slack : ℕ) (fit : Fit givers) (q : Re
   unfolding advance
   depth-turn f = depth-either (eqb (bitAnd new slack) 0) f
 
-module _ (rows givers : List ℕ) (roots slack : ℕ) (fit : Fit givers) (few : slack < 2 ^ 64) where
+module _ (rows givers : List ℕ) (roots slack : ℕ) (fit : Fit givers) (few : slack < bound) where
   abbrev All : Reached → Type 0
   All q = Going rows givers roots slack q × Tree rows givers q × Depth roots slack q
 
@@ -262,12 +264,12 @@ module _ (rows givers : List ℕ) (roots slack : ℕ) (fit : Fit givers) (few : 
         ⊎-elim (λ h. absurd (n (h .0))) (λ c. depth-turn rows givers roots slack fit q c (b .1) (omega arith) (b .2) (g .1)) (b .0),
       )
 
-  begun-depth : roots < 2 ^ 64 → Depth roots slack (reached (begun roots) (blanks 64) (blanks 0))
+  begun-depth : roots < bound → Depth roots slack (reached (begun roots) (blanks elements) (blanks 0))
   unfolding blanks
   begun-depth l =
       record {
         turns = 0;
-        fits = omega (arith, ones-zero, ones-le 64 roots l);
+        fits = omega (arith, ones-zero, ones-le elements roots (in-bound l));
         of-left = λ i. 0;
         of-right = λ j. 0;
         left-le = λ i h e. omega arith;
@@ -279,16 +281,16 @@ module _ (rows givers : List ℕ) (roots slack : ℕ) (fit : Fit givers) (few : 
       }
 
   -- the parents that a search leaves, and when it discovered them
-  reach-depth : (n : ℕ) → roots < 2 ^ 64
-      → Tree rows givers (reach n rows givers slack (reached (begun roots) (blanks 64) (blanks 0)))
-      × Depth roots slack (reach n rows givers slack (reached (begun roots) (blanks 64) (blanks 0)))
+  reach-depth : (n : ℕ) → roots < bound
+      → Tree rows givers (reach n rows givers slack (reached (begun roots) (blanks elements) (blanks 0)))
+      × Depth roots slack (reach n rows givers slack (reached (begun roots) (blanks elements) (blanks 0)))
   reach-depth n l =
       run-keeps All (λ q. Tree rows givers q × Depth roots slack q) ended (λ x. x) (λ x. x) (advance rows givers slack) all-on (λ q e b. (b .1, b .2)) (λ q b. (b .1, b .2)) n
-      (reached (begun roots) (blanks 64) (blanks 0)) (inr (begins rows givers roots slack fit few l), begun-tree rows givers roots, begun-depth l)
+      (reached (begun roots) (blanks elements) (blanks 0)) (inr (begins rows givers roots slack fit few l), begun-tree rows givers roots, begun-depth l)
 
 -- so for the search of a round
-pub sought-depth : (rows : List ℕ) (s : Network) → Fit (s .givers)
-    → Tree rows (s .givers) (sought rows s) × Depth (positive 64 (s .left)) (positive 64 (s .right)) (sought rows s)
-sought-depth rows s fit =
-    reach-depth rows (s .givers) (positive 64 (s .left)) (positive 64 (s .right)) fit (positive-lt 64 (omega arith) (s .right)) 64
-    (positive-lt 64 (omega arith) (s .left))
+pub sought-depth : (m : ℕ) → m ≤ elements → (rows : List ℕ) (s : Network) → Fit (s .givers)
+    → Tree rows (s .givers) (sought m rows s) × Depth (positive m (s .left)) (positive m (s .right)) (sought m rows s)
+sought-depth m hm rows s fit =
+    reach-depth rows (s .givers) (positive m (s .left)) (positive m (s .right)) fit (positive-lt m hm (s .right)) elements
+    (positive-lt m hm (s .left))

@@ -3,7 +3,7 @@ use mathlib.Core.Path.{_≡_, sym, _∙_}
 use mathlib.Core.Bool.{Bool, true}
 use mathlib.Core.List.{List}
 use mathlib.Core.Logic.{by-cases}
-use Prim.Native.Nat.{ℕ, _+_, _^_, _≤_, _<_}
+use Prim.Native.Nat.{ℕ, _+_, _≤_, _<_}
 use native.Mathlib.Decide.{decLt}
 use native.Mathlib.Nat.{lt-of-le-of-lt}
 use native.Mathlib.Omega.{arith}
@@ -13,8 +13,10 @@ use Rattle.words.specs.Sums.{sum}
 use Rattle.words.proofs.Bits.{bit-above}
 use Rattle.words.proofs.Sums.{sum-extend}
 use Rattle.words.proofs.Tests.{clash}
+use Rattle.order.specs.Stored.{bound, elements, numberOf}
+use Rattle.order.proofs.Stored.{number-set, in-bound}
 use Rattle.order.specs.Before.{StrictOrder}
-use Rattle.order.specs.Orders.{afterWords, isBefore}
+use Rattle.order.specs.Orders.{afterRows, isBefore}
 use Rattle.order.specs.Sets.{member}
 use Rattle.order.specs.declared.Order.{Order}
 use Rattle.flow_math.specs.Handover.{total, Handover}
@@ -22,7 +24,7 @@ use Rattle.flow_math.proofs.First.{handover-first, total-first}
 use Rattle.flow_math.proofs.Flow as Flows
 use Rattle.flow_math.proofs.Need.{needOf-extend, weight-extend}
 use Rattle.flow.specs.Network.{handed, positive}
-use Rattle.flow.specs.Quote.{flowOf, outcome, quoteOf}
+use Rattle.flow.specs.Quote.{chosen, flowOf, outcome, quoteIn, quoteOf}
 use Rattle.flow.specs.Sound.{Plan, Sound, asked}
 use Rattle.flow.proofs.Headline.{sound}
 use Rattle.flow.proofs.Positive.{positive-lt}
@@ -44,22 +46,24 @@ sound-first n m b d x S f l z o s =
       spare = λ a. Flows.spare n d f x a;
     }
 
--- So a quote of a plan of n activities keeps its promise of these n.
-pub quote-first : (o : Order) (demand : List ℕ) (n : ℕ) → Plan o demand → n ≤ 64 → ((i : ℕ) → n ≤ i → i < 64 → asked demand i ≡ 0)
-    → Sound n (isBefore o) (asked demand) (quoteOf o demand .need) (member (quoteOf o demand .set)) (handed (flowOf o demand))
-quote-first o demand n P l z =
-    sound-first n 64 (isBefore o) (asked demand) (quoteOf o demand .need) (member (quoteOf o demand .set)) (handed (flowOf o demand)) l z
-    (P .strict) (sound o demand P)
+-- So a quote of a plan of m activities keeps its promise of these m.
+pub quote-first : (m : ℕ) (o : Order) (demand : List ℕ) → Plan m o demand
+    → Sound m (isBefore o) (asked demand) (quoteOf m o demand .need) (member (quoteOf m o demand .set)) (handed (flowOf m o demand))
+quote-first m o demand P =
+    sound-first m elements (isBefore o) (asked demand) (quoteOf m o demand .need) (member (quoteOf m o demand .set)) (handed (flowOf m o demand)) (P .within) (P .idle)
+    (P .strict) (sound m o demand P)
 
--- The set is a word of 64 digits, and each of its members is an element below 64 with a demand.
-pub set-small : (o : Order) (demand : List ℕ) → quoteOf o demand .set .word < 2 ^ 64
-unfolding quoteOf
-set-small o demand =
-    let q = outcome (afterWords o) demand .search in
-    lt-of-le-of-lt (and-le-r (minus (q .left) (q .right)) (positive 64 demand)) (positive-lt 64 (omega arith) demand)
+-- The set has a digit for each element, and each of its members is an element with a demand.
+pub set-small : (m : ℕ) → m ≤ elements → (o : Order) (demand : List ℕ) → numberOf (quoteOf m o demand .set) < bound
+unfolding quoteIn
+set-small m hm o demand =
+    let q = outcome m (afterRows o) demand .search in
+    rw (number-set (chosen m q demand)) (lt-of-le-of-lt (and-le-r (minus (q .left) (q .right)) (positive m demand)) (positive-lt m hm demand))
 
-pub set-within : (o : Order) (demand : List ℕ) → Plan o demand → (i : ℕ) → member (quoteOf o demand .set) i ≡ true → (i < 64) × (0 < asked demand i)
-set-within o demand P i h =
-    by-cases (decLt i 64)
-    (λ l. (l, sound o demand P .wanted i l h))
-    (λ g. clash h (bit-above 64 (quoteOf o demand .set .word) i (set-small o demand) (omega arith)))
+pub set-within : (m : ℕ) (o : Order) (demand : List ℕ) → Plan m o demand → (i : ℕ) → member (quoteOf m o demand .set) i ≡ true → (i < m) × (0 < asked demand i)
+set-within m o demand P i h =
+    by-cases (decLt i elements)
+    (λ l.
+    let w = sound m o demand P .wanted i l h in
+    (by-cases (decLt i m) (λ k. k) (λ g. absurd (omega (arith, P .idle i (omega arith) l))), w))
+    (λ g. clash h (bit-above elements (numberOf (quoteOf m o demand .set)) i (in-bound (set-small m (P .within) o demand)) (omega arith)))

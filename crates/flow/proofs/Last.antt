@@ -1,7 +1,8 @@
 -- What the solver ends with: a handover, and where the last search found nothing, a closed search. Assumes nothing.
 use mathlib.Core.Path.{_≡_, refl}
 use mathlib.Core.List.{List}
-use mathlib.Core.Logic.{⊎-elim}
+use mathlib.Core.Logic.{⊎-elim, by-cases}
+use native.Mathlib.Decide.{decLt}
 use Prim.Native.Nat.{ℕ, _≤_, _<_}
 use native.Mathlib.Omega.{arith}
 use lib.ListN.{getD}
@@ -9,6 +10,7 @@ use Rattle.words.specs.Bits.{bit, digit}
 use Rattle.words.proofs.Bits.{bit-one, digit-one}
 use Rattle.words.proofs.Kept.{run-keeps}
 use Rattle.words.proofs.Tests.{same-or-not}
+use Rattle.order.specs.Stored.{elements, row as setAt}
 use Rattle.order.specs.Rows.{after}
 use Rattle.flow_math.specs.Handover.{Closed, Handover}
 use Rattle.flow.specs.Network.{Network, handed, positive}
@@ -19,56 +21,64 @@ use Rattle.flow.proofs.Consistent.{Consistent, round-consistent, start-
 use Rattle.flow.proofs.Ends.{round-stays}
 
 module _ (d : ℕ → ℕ) (rows : List ℕ) (s : Network) (f : Consistent d rows s) where
-  pub handover-kept : Handover 64 (after rows) d (handed (s .flow))
+  pub handover-kept : Handover elements (after rows) d (handed (s .flow))
   handover-kept =
       record {
-        along = λ i j hi hj e. bit-one (getD rows i 0) j (f .ordered .along i j hi hj e);
+        along = λ i j hi hj e. bit-one (setAt rows i) j (f .ordered .along i j hi hj e);
         rows = λ i h. omega (arith, f .balanced .rows i h);
         cols = λ j h. omega (arith, f .balanced .cols j h);
       }
 
-  module _ (left right : ℕ) (c : Shut rows (s .givers) (positive 64 (s .left)) (positive 64 (s .right)) left right) where
-    no-slack : (j : ℕ) → j < 64 → digit right j ≡ 1 → getD (s .right) j 0 ≡ 0
-    no-slack j h e = ⊎-elim (λ z. z) (λ n. absurd (omega (arith, c .tight j h e, positive-bit 64 (s .right) j h (omega arith)))) (same-or-not (getD (s .right) j 0) 0)
+  -- where the elements from m on have no demand
+  module _ (m : ℕ) (idle : (i : ℕ) → m ≤ i → i < elements → d i ≡ 0) (left right : ℕ)
+      (c : Shut rows (s .givers) (positive m (s .left)) (positive m (s .right)) left right) where
+    used : (i : ℕ) → i < elements → 0 < d i → i < m
+    used i h p = by-cases (decLt i m) (λ l. l) (λ g. absurd (omega (arith, idle i (omega arith) h)))
 
-    pub shut-closed : Closed 64 (after rows) d (handed (s .flow)) (bit left) (bit right)
+    no-slack : (j : ℕ) → j < elements → digit right j ≡ 1 → getD (s .right) j 0 ≡ 0
+    no-slack j h e =
+        ⊎-elim (λ z. z)
+        (λ n. absurd (omega (arith, c .tight j h e, positive-bit m (s .right) j (used j h (omega (arith, f .balanced .cols j h))) (omega arith))))
+        (same-or-not (getD (s .right) j 0) 0)
+
+    pub shut-closed : Closed elements (after rows) d (handed (s .flow)) (bit left) (bit right)
     shut-closed =
         record {
-          begins = λ i h e. bit-one left i (c .start i h (positive-bit 64 (s .left) i h (omega (arith, f .balanced .rows i h))));
-          forth = λ i j hi hj l b. bit-one right j (c .onto i hi (digit-one left i l) j hj (digit-one (getD rows i 0) j b));
+          begins = λ i h e. bit-one left i (c .start i h (positive-bit m (s .left) i (used i h (omega (arith, f .balanced .rows i h))) (omega (arith, f .balanced .rows i h))));
+          forth = λ i j hi hj l b. bit-one right j (c .onto i hi (digit-one left i l) j hj (digit-one (setAt rows i) j b));
           back = λ i j hi hj r e. bit-one left i (c .back j hj (digit-one right j r) i hi (f .linked .says i j hi hj .1 e));
           full = λ j h r. omega (arith, f .balanced .cols j h, no-slack j h (digit-one right j r));
         }
 
-same-search : (rows : List ℕ) (s : Network) → rounded rows s .search ≡ sought rows s .search
+same-search : (m : ℕ) (rows : List ℕ) (s : Network) → rounded m rows s .search ≡ sought m rows s .search
 unfolding rounded
-same-search rows s = refl
+same-search m rows s = refl
 
 -- no way leads out of what the search of a round reached
-abbrev pub ShutRound : List ℕ → Round → Type 0
-ShutRound rows x = Shut rows (x .now .givers) (positive 64 (x .now .left)) (positive 64 (x .now .right)) (x .search .left) (x .search .right)
+abbrev pub ShutRound : ℕ → List ℕ → Round → Type 0
+ShutRound m rows x = Shut rows (x .now .givers) (positive m (x .now .left)) (positive m (x .now .right)) (x .search .left) (x .search .right)
 
-pub record Last (d : ℕ → ℕ) (rows : List ℕ) (x : Round) : Type 0 where
+pub record Last (m : ℕ) (d : ℕ → ℕ) (rows : List ℕ) (x : Round) : Type 0 where
   pub consistent : Consistent d rows (x .now)
-  pub shut : 64 ≤ x .search .at → ShutRound rows x
+  pub shut : elements ≤ x .search .at → ShutRound m rows x
 
-sought-shut : (rows : List ℕ) (s : Network) → Fit (s .givers) → 64 ≤ sought rows s .search .at → ShutRound rows (round s (sought rows s .search))
-sought-shut rows s fit h =
-    certificate rows (s .givers) (positive 64 (s .left)) (positive 64 (s .right)) fit (positive-lt 64 (omega arith) (s .right)) (blanks 64) (blanks 0)
-    (sought rows s) refl (positive-lt 64 (omega arith) (s .left)) h
+sought-shut : (m : ℕ) → m ≤ elements → (rows : List ℕ) (s : Network) → Fit (s .givers) → elements ≤ sought m rows s .search .at → ShutRound m rows (round s (sought m rows s .search))
+sought-shut m hm rows s fit h =
+    certificate rows (s .givers) (positive m (s .left)) (positive m (s .right)) fit (positive-lt m hm (s .right)) (blanks elements) (blanks 0)
+    (sought m rows s) refl (positive-lt m hm (s .left)) h
 
-rounded-shut : (rows : List ℕ) (s : Network) → Fit (s .givers) → 64 ≤ rounded rows s .search .at → ShutRound rows (rounded rows s)
-rounded-shut rows s fit h =
-    let k : 64 ≤ sought rows s .search .at = rw (← same-search rows s) h in
-    rw (round-stays rows s k) (sought-shut rows s fit k)
+rounded-shut : (m : ℕ) → m ≤ elements → (rows : List ℕ) (s : Network) → Fit (s .givers) → elements ≤ rounded m rows s .search .at → ShutRound m rows (rounded m rows s)
+rounded-shut m hm rows s fit h =
+    let k : elements ≤ sought m rows s .search .at = rw (← same-search m rows s) h in
+    rw (round-stays m rows s k) (sought-shut m hm rows s fit k)
 
-module _ (d : ℕ → ℕ) (small : (p : ℕ) → p < 64 → d p ≤ 65535) (rows : List ℕ) where
-  round-last : (s : Network) → Consistent d rows s → Last d rows (rounded rows s)
-  round-last s f = record { consistent = round-consistent d small rows s f; shut = rounded-shut rows s (f .linked .fit) }
+module _ (m : ℕ) (hm : m ≤ elements) (d : ℕ → ℕ) (small : (p : ℕ) → p < elements → d p ≤ 65535) (rows : List ℕ) where
+  round-last : (s : Network) → Consistent d rows s → Last m d rows (rounded m rows s)
+  round-last s f = record { consistent = round-consistent m hm d small rows s f; shut = rounded-shut m hm rows s (f .linked .fit) }
 
-  pub solved-last : (n : ℕ) (s : Network) → Consistent d rows s → Last d rows (solved n rows s)
+  pub solved-last : (n : ℕ) (b : List ℕ) (s : Network) → Consistent d rows s → Last m d rows (solved m n rows b s)
   unfolding solved
-  solved-last n s f =
-      run-keeps (Last d rows) (Last d rows) settled (λ y. y) (λ y. y) (next rows)
+  solved-last n b s f =
+      run-keeps (Last m d rows) (Last m d rows) settled (λ y. y) (λ y. y) (next m rows)
       (λ x e p. round-last (x .now) (p .consistent)) (λ x e p. p) (λ x p. p)
-      n (rounded rows (started rows s)) (round-last (started rows s) (start-consistent d small rows s f))
+      n (rounded m rows (started m rows b s)) (round-last (started m rows b s) (start-consistent m hm d small rows b s f))

@@ -14,6 +14,8 @@ pub mod Depth
 pub mod Ordered
 pub mod Consistent
 pub mod Begin
+pub mod Cleared
+pub mod Taken
 pub mod Ends
 pub mod Last
 pub mod Outcome

@@ -2,7 +2,7 @@
 use mathlib.Core.Path.{_≡_, refl, ap, _∙_}
 use mathlib.Core.List.{List}
 use mathlib.Core.Logic.{_⊎_, inl, inr, ⊎-elim}
-use Prim.Native.Nat.{ℕ, _+_, _-_, _≤_, _<_, min}
+use Prim.Native.Nat.{ℕ, _*_, _+_, _-_, _≤_, _<_, min}
 use native.Mathlib.Omega.{arith}
 use lib.Dec.{eqb, ltb}
 use lib.ListN.{getD, length, length-set, set}
@@ -11,9 +11,10 @@ use borrow.Author.Tests.{leb-false, ltb-true}
 use Rattle.words.specs.Bits.{digit}
 use Rattle.words.proofs.Kept.{each-keeps, run-keeps, upto-keeps}
 use Rattle.words.proofs.Tests.{cond-has, same-or-not}
+use Rattle.order.specs.Stored.{elements, row as setAt}
 use Rattle.flow.specs.Search.{Reached}
 use Rattle.flow.specs.Network.{Network, Walk, atRoot, augmented, back, cell, handing, joined, move, parent, rooted, shifted, source, walk, wrap}
-use Rattle.flow.specs.Solve.{handOver, handRank, ranked, rounded, sought, started}
+use Rattle.flow.specs.Solve.{handOver, handRank, rounded, sought, started}
 use Rattle.flow.proofs.Certificate.{Fit}
 use Rattle.flow.proofs.Tree.{Tree}
 use Rattle.flow.proofs.Way.{parent-reached, source-before, source-lt}
@@ -21,11 +22,11 @@ use Rattle.flow.proofs.Depth.{sought-depth}
 
 module _ (rows : List ℕ) where
   pub record Ordered (s : Network) : Type 0 where
-    pub wide : length (s .flow) ≡ 4096
-    pub along : (p q : ℕ) → p < 64 → q < 64 → 0 < getD (s .flow) (cell p q) 0 → digit (getD rows p 0) q ≡ 1
+    pub wide : length (s .flow) ≡ (elements * elements)
+    pub along : (p q : ℕ) → p < elements → q < elements → 0 < getD (s .flow) (cell p q) 0 → digit (setAt rows p) q ≡ 1
 
   -- what i hands over to j becomes n, where i is before j, or n is no more than it was
-  moved-ordered : (s : Network) (i j n : ℕ) → i < 64 → j < 64 → (digit (getD rows i 0) j ≡ 1) ⊎ (n ≤ getD (s .flow) (cell i j) 0) → Ordered s → Ordered (move s i j n)
+  moved-ordered : (s : Network) (i j n : ℕ) → i < elements → j < elements → (digit (setAt rows i) j ≡ 1) ⊎ (n ≤ getD (s .flow) (cell i j) 0) → Ordered s → Ordered (move s i j n)
   moved-ordered s i j n hi hj b o =
       record {
         wide = simp length-set (o .wide);
@@ -43,13 +44,13 @@ module _ (rows : List ℕ) where
   same-flow : (s t : Network) → s .flow ≡ t .flow → Ordered s → Ordered t
   same-flow s t e o = record { wide = rw (← e) (o .wide); along = rw (← e) (o .along) }
 
-  pub joined-ordered : (s : Network) (i j : ℕ) → i < 64 → j < 64 → digit (getD rows i 0) j ≡ 1 → Ordered s → Ordered (joined s i j)
+  pub joined-ordered : (s : Network) (i j : ℕ) → i < elements → j < elements → digit (setAt rows i) j ≡ 1 → Ordered s → Ordered (joined s i j)
   unfolding joined
   joined-ordered s i j hi hj b o =
       let n = wrap (getD (s .flow) (cell i j) 0 + min (getD (s .left) i 0) (getD (s .right) j 0)) in
       same-flow (move s i j n) _ refl (moved-ordered s i j n hi hj (inl b) o)
 
-  pub shifted-ordered : (s : Network) (i k j : ℕ) → i < 64 → k < 64 → j < 64 → digit (getD rows i 0) j ≡ 1 → Ordered s → Ordered (shifted s i k j)
+  pub shifted-ordered : (s : Network) (i k j : ℕ) → i < elements → k < elements → j < elements → digit (setAt rows i) j ≡ 1 → Ordered s → Ordered (shifted s i k j)
   unfolding shifted
   shifted-ordered s i k j hi hk hj b o =
       let d = min (getD (s .right) j 0) (getD (s .flow) (cell i k) 0) in
@@ -58,29 +59,29 @@ module _ (rows : List ℕ) where
       let n = wrap (getD (s₁ .flow) (cell i j) 0 + d) in
       same-flow (move s₁ i j n) _ refl (moved-ordered s₁ i j n hi hj (inl b) (moved-ordered s i k m hi hk (inr (omega arith)) o))
 
-  pass-ordered : (s : Network) (i j : ℕ) → i < 64 → j < 64 → digit (getD rows i 0) j ≡ 1 → Ordered s → Ordered (handing i s j)
+  pass-ordered : (s : Network) (i j : ℕ) → i < elements → j < elements → digit (setAt rows i) j ≡ 1 → Ordered s → Ordered (handing i s j)
   unfolding handing
   pass-ordered s i j hi hj b o = cond-has Ordered (eqb (min (getD (s .left) i 0) (getD (s .right) j 0)) 0) s (joined s i j) (λ e. o) (λ e. joined-ordered s i j hi hj b o)
 
-  hand-ordered : (s : Network) (i : ℕ) → i < 64 → Ordered s → Ordered (handOver rows s i)
-  hand-ordered s i h o = each-keeps Ordered 64 (handing i) (getD rows i 0) (λ t j l b p. pass-ordered t i j h l b p) s o
+  hand-ordered : (s : Network) (i : ℕ) → i < elements → Ordered s → Ordered (handOver rows s i)
+  hand-ordered s i h o = each-keeps Ordered elements (handing i) (setAt rows i) (λ t j l b p. pass-ordered t i j h l b p) s o
 
-  pub started-ordered : (s : Network) → Ordered s → Ordered (started rows s)
+  pub started-ordered : (m : ℕ) (b : List ℕ) (s : Network) → Ordered s → Ordered (started m rows b s)
   unfolding started
-  started-ordered s o =
-      upto-keeps Ordered (handRank rows (ranked rows)) 64
-      (λ c t l p. each-keeps Ordered 64 (handOver rows) (getD (ranked rows) c 0) (λ u i m e q. hand-ordered u i m q) t p)
+  started-ordered m b s o =
+      upto-keeps Ordered (handRank rows b) m
+      (λ c t l p. each-keeps Ordered elements (handOver rows) (setAt b c) (λ u i x e q. hand-ordered u i x q) t p)
       s o
 
   module _ (givers : List ℕ) (q : Reached) (t : Tree rows givers q) where
     abbrev Walking : Walk → Type 0
-    Walking w = Ordered (w .now) × (w .at < 64) × (digit (q .search .right) (w .at) ≡ 1)
+    Walking w = Ordered (w .now) × (w .at < elements) × (digit (q .search .right) (w .at) ≡ 1)
 
-    pub augmented-ordered : (n : ℕ) (s : Network) → q .search .at < 64 → Ordered s → Ordered (augmented n (q .lefts) (q .rights) (walk s (q .search .at)))
+    pub augmented-ordered : (n : ℕ) (s : Network) → q .search .at < elements → Ordered s → Ordered (augmented n (q .lefts) (q .rights) (walk s (q .search .at)))
     augmented-ordered n s h o =
         run-keeps Walking Ordered (rooted (q .lefts) (q .rights)) (atRoot (q .rights)) (λ x. x .now) (back (q .lefts) (q .rights))
         (λ w e p.
-        let k = leb-false 64 (parent (q .lefts) (q .rights) w) e in
+        let k = leb-false elements (parent (q .lefts) (q .rights) w) e in
         let l = source-lt rows givers q t w (p .1) (p .2) in
         let b = source-before rows givers q t w (p .1) (p .2) in (
           shifted-ordered (w .now) (source (q .rights) w) (parent (q .lefts) (q .rights) w) (w .at) l k (p .1) b (p .0),
@@ -94,9 +95,9 @@ module _ (rows : List ℕ) where
         (λ w p. p .0)
         n (walk s (q .search .at)) (o, h, t .goal h)
 
-  pub rounded-ordered : (s : Network) → Fit (s .givers) → Ordered s → Ordered (rounded rows s .now)
+  pub rounded-ordered : (m : ℕ) → m ≤ elements → (s : Network) → Fit (s .givers) → Ordered s → Ordered (rounded m rows s .now)
   unfolding rounded
-  rounded-ordered s fit o =
-      let q = sought rows s in
-      cond-has Ordered (ltb (q .search .at) 64) (augmented 64 (q .lefts) (q .rights) (walk s (q .search .at))) s
-      (λ e. augmented-ordered (s .givers) q (sought-depth rows s fit .0) 64 s (ltb-true (q .search .at) 64 e) o) (λ e. o)
+  rounded-ordered m hm s fit o =
+      let q = sought m rows s in
+      cond-has Ordered (ltb (q .search .at) elements) (augmented elements (q .lefts) (q .rights) (walk s (q .search .at))) s
+      (λ e. augmented-ordered (s .givers) q (sought-depth m hm rows s fit .0) elements s (ltb-true (q .search .at) elements e) o) (λ e. o)

@@ -2,13 +2,15 @@
 use mathlib.Core.Path.{_≡_, sym, ap, _∙_}
 use mathlib.Core.List.{List}
 use mathlib.Core.Logic.{⊎-elim}
-use Prim.Native.Nat.{ℕ, zero, suc, _^_, _≤_, _<_}
+use Prim.Native.Nat.{ℕ, zero, suc, _≤_, _<_}
 use native.Mathlib.Omega.{arith}
 use lib.ListN.{getD}
 use borrow.Author.Tests.{eq-eqb, ne-eqb}
 use Rattle.words.specs.Bits.{digit, withBit}
 use Rattle.words.proofs.Bits.{digit-none, with-lt, with-there, with-other}
 use Rattle.words.proofs.Tests.{cond-false, cond-true, same-or-not}
+use Rattle.order.proofs.Stored.{in-bound, to-bound, bound-pos}
+use Rattle.order.specs.Stored.{bound, elements}
 use Rattle.flow.specs.Network.{noted, positive}
 
 module _ (w i n : ℕ) where
@@ -18,8 +20,8 @@ module _ (w i n : ℕ) where
   pub noted-some : (n ≡ 0 → ⊥) → noted w i n ≡ withBit w i
   noted-some z = cond-false w (withBit w i) (ne-eqb n 0 z)
 
-  noted-lt : i < 64 → w < 2 ^ 64 → noted w i n < 2 ^ 64
-  noted-lt h l = ⊎-elim (λ z. omega (arith, noted-none z)) (λ z. omega (arith, noted-some z, with-lt w i 64 h l)) (same-or-not n 0)
+  noted-lt : i < elements → w < bound → noted w i n < bound
+  noted-lt h l = ⊎-elim (λ z. omega (arith, noted-none z)) (λ z. omega (arith, noted-some z, to-bound (with-lt w i elements h (in-bound l)))) (same-or-not n 0)
 
   noted-there : (n ≡ 0 → ⊥) → digit (noted w i n) i ≡ 1
   noted-there z = ap (λ (x : ℕ). digit x i) (noted-some z) ∙ with-there w i
@@ -31,9 +33,9 @@ module _ (w i n : ℕ) where
       (λ z. ap (λ (y : ℕ). digit y x) (noted-some z) ∙ with-other w i x d)
       (same-or-not n 0)
 
-pub positive-lt : (k : ℕ) → k ≤ 64 → (a : List ℕ) → positive k a < 2 ^ 64
+pub positive-lt : (k : ℕ) → k ≤ elements → (a : List ℕ) → positive k a < bound
 unfolding positive
-positive-lt zero h a = omega arith
+positive-lt zero h a = bound-pos
 positive-lt (suc k) h a = noted-lt (positive k a) k (getD a k 0) (omega arith) (positive-lt k (omega arith) a)
 
 pub positive-bit : (k : ℕ) (a : List ℕ) (i : ℕ) → i < k → 0 < getD a i 0 → digit (positive k a) i ≡ 1
@@ -51,14 +53,14 @@ unfolding positive
 positive-past zero a i l = digit-none i
 positive-past (suc k) a i l = noted-other (positive k a) k (getD a k 0) i (λ e. omega arith) ∙ positive-past k a i (omega arith)
 
-pub positive-none : (k : ℕ) (a : List ℕ) (i : ℕ) → i < k → getD a i 0 ≡ 0 → digit (positive k a) i ≡ 0
+pub positive-none : (k : ℕ) (a : List ℕ) (i : ℕ) → getD a i 0 ≡ 0 → digit (positive k a) i ≡ 0
 unfolding positive
-positive-none zero a i l z = absurd (omega arith)
-positive-none (suc k) a i l z =
+positive-none zero a i z = digit-none i
+positive-none (suc k) a i z =
     ⊎-elim
     (λ e. rw e (ap (λ (x : ℕ). digit x k) (noted-none (positive k a) k (getD a k 0) (sym (ap (λ (x : ℕ). getD a x 0) e) ∙ z)) ∙ positive-past k a k (omega arith)))
-    (λ n. noted-other (positive k a) k (getD a k 0) i n ∙ positive-none k a i (omega arith) z)
+    (λ n. noted-other (positive k a) k (getD a k 0) i n ∙ positive-none k a i z)
     (same-or-not i k)
 
-pub positive-is : (k : ℕ) (a : List ℕ) (i : ℕ) → i < k → digit (positive k a) i ≡ 1 → 0 < getD a i 0
-positive-is k a i l e = ⊎-elim (λ z. absurd (omega (arith, positive-none k a i l z))) (λ n. omega arith) (same-or-not (getD a i 0) 0)
+pub positive-is : (k : ℕ) (a : List ℕ) (i : ℕ) → digit (positive k a) i ≡ 1 → 0 < getD a i 0
+positive-is k a i e = ⊎-elim (λ z. absurd (omega (arith, positive-none k a i z))) (λ n. omega arith) (same-or-not (getD a i 0) 0)

@@ -1,50 +1,57 @@
 -- What the model comes to at each step, from the values that the code has in hand. Assumes nothing.
 use mathlib.Core.Path.{_≡_, sym, ap, ap₂, _∙_, refl}
 use mathlib.Core.List.{List}
-use Prim.Native.Nat.{ℕ, _+_, _-_, _^_, _<_, min, _≤_}
+use Prim.Native.Nat.{ℕ, _*_, _+_, _-_, _^_, _<_, min, _≤_}
 use native.Mathlib.Numerals.{add-one}
 use native.Mathlib.Omega.{arith}
 use lib.ListN.{getD, set}
-use lib.Bits.{bitAnd, bitOr, bitXor}
+use lib.Bits.{bitAnd, bitOr}
 use borrow.Author.Tests.{eq-eqb, ne-eqb, lt-ltb, le-ltb}
 use Rattle.words.specs.Bits.{minus, withBit, rest}
 use Rattle.words.specs.Loops.{each, upto}
 use Rattle.words.proofs.Tests.{cond-true, cond-false}
+use Rattle.order.specs.Stored.{elements, row as setAt, putRow, setOf}
 use Rattle.order.specs.declared.Order.{Order}
-use Rattle.order.specs.Orders.{afterWords}
-use Rattle.flow.specs.declared.Search.{Search}
+use Rattle.order.specs.Orders.{afterRows}
+use Rattle.flow.specs.Search.{Look}
 use Rattle.flow.specs.declared.Quoted.{Quoted}
 use Rattle.flow.specs.Search.{low, marks, Seen, seen, visit, reached, fresh, found, onward, advance, begun, reach}
 use Rattle.flow.specs.Network.{Network, network, wrap, cell, giver, noted, positive, joined, shifted, walk, handing, augmented}
-use Rattle.flow.specs.Solve.{blanks, Round, round, solved, rankOf, rankedAt, ranked, handRank, started, sought, rounded, next, settle}
-use Rattle.flow.specs.Quote.{unused, copied, outcome, amount, quoted, quoteOf, flowOf}
+use Rattle.flow.specs.Solve.{blanks, blankRows, Round, round, solved, rankOf, rankedAt, ranked, handRank, started, sought, rounded, next, settle}
+use Rattle.flow.specs.Quote.{unused, copied, outcome, amount, told, quoted, quoteIn, flowIn}
 
 -- ---- a search
 
 -- the taker j adds those that give to it and were not seen before
-pub visits : {new : ℕ} {marked : List ℕ} (givers : List ℕ) (s : Seen) (j : ℕ)
-    → new ≡ minus (getD givers j 0) (s .word) → marked ≡ marks (s .parents) new j → seen (bitOr (s .word) new) marked ≡ visit givers s j
-visits givers s j e m = ap₂ seen (ap (bitOr (s .word)) e) (m ∙ ap (λ (x : ℕ). marks (s .parents) x j) e)
+pub visits : {row new word : ℕ} {marked : List ℕ} (givers : List ℕ) (s : Seen) (j : ℕ) → row ≡ setAt givers j → new ≡ minus row (s .word)
+    → word ≡ bitOr (s .word) new → marked ≡ marks (s .parents) new j → seen word marked ≡ visit givers s j
+visits givers s j f n u m =
+    let e = n ∙ ap (λ (x : ℕ). minus x (s .word)) f in
+    ap₂ seen (u ∙ ap (bitOr (s .word)) e) (m ∙ ap (λ (x : ℕ). marks (s .parents) x j) e)
+
+-- where a search begins
+pub begins : {none : ℕ} (roots : ℕ) → none ≡ 0 → record { frontier = roots; next = none; left = roots; right = none; at = elements } ≡ begun roots
+begins roots z = ap (λ (x : ℕ). record { frontier = roots; next = x; left = roots; right = x; at = elements }) z
 
 -- a turn at the giver i, which reaches the takers `new`
 
-module _ (rows givers : List ℕ) (slack : ℕ) (s : Search) (lefts rights : List ℕ) where
+module _ (rows givers : List ℕ) (slack : ℕ) (s : Look) (lefts rights : List ℕ) where
   hit-at : (bitAnd (fresh rows s) slack ≡ 0 → ⊥)
       → advance rows givers slack (reached s lefts rights)
       ≡ reached (found s (fresh rows s) (bitAnd (fresh rows s) slack)) lefts (marks rights (fresh rows s) (low (s .frontier)))
   unfolding advance
   hit-at n = cond-false _ _ (ne-eqb _ _ n)
 
-  miss-at : (w : Seen) → w ≡ each 64 (visit givers) (seen (s .left) lefts) (fresh rows s) → bitAnd (fresh rows s) slack ≡ 0
+  miss-at : (w : Seen) → w ≡ each elements (visit givers) (seen (s .left) lefts) (fresh rows s) → bitAnd (fresh rows s) slack ≡ 0
       → advance rows givers slack (reached s lefts rights)
       ≡ reached (onward s (fresh rows s) (w .word)) (w .parents) (marks rights (fresh rows s) (low (s .frontier)))
   unfolding advance
   miss-at w e z = rw e (cond-true _ _ (eq-eqb _ _ z))
 
-  module _ (i : ℕ) (e : i ≡ low (s .frontier)) (new : ℕ) (n : new ≡ minus (getD rows i 0) (s .right)) (marked : List ℕ)
+  module _ (i : ℕ) (e : i ≡ low (s .frontier)) (new : ℕ) (n : new ≡ minus (setAt rows i) (s .right)) (marked : List ℕ)
       (m : marked ≡ marks rights new i) where
     same : new ≡ fresh rows s
-    same = n ∙ ap (λ (x : ℕ). minus (getD rows x 0) (s .right)) e
+    same = n ∙ ap (λ (x : ℕ). minus (setAt rows x) (s .right)) e
 
     same-marks : marked ≡ marks rights (fresh rows s) (low (s .frontier))
     same-marks = m ∙ ap₂ (marks rights) same e
@@ -55,22 +62,43 @@ module _ (rows givers : List ℕ) (slack : ℕ) (s : Search) (lefts rights : Lis
     turn-hit h q = cc (same, same-marks, hit-at (λ z. h (ap (λ (x : ℕ). bitAnd x slack) same ∙ z)))
 
     module _ {left r : ℕ} {lefts′ : List ℕ} (o : r ≡ rest (s .frontier))
-        (w : seen left lefts′ ≡ each 64 (visit givers) (seen (s .left) lefts) new) (z : bitAnd new slack ≡ 0) where
+        (w : seen left lefts′ ≡ each elements (visit givers) (seen (s .left) lefts) new) (z : bitAnd new slack ≡ 0) where
       missed : advance rows givers slack (reached s lefts rights)
           ≡ reached (onward s (fresh rows s) left) lefts′ (marks rights (fresh rows s) (low (s .frontier)))
       missed =
-          miss-at (seen left lefts′) (w ∙ ap (each 64 (visit givers) (seen (s .left) lefts)) same)
+          miss-at (seen left lefts′) (w ∙ ap (each elements (visit givers) (seen (s .left) lefts)) same)
           (ap (λ (x : ℕ). bitAnd x slack) (sym same) ∙ z)
 
       pub turn-last : r ≡ 0
-          → reached (record { frontier = bitOr (s .next) (bitXor left (s .left)); next = 0; left = left; right = bitOr (s .right) new; at = 64 }) lefts′ marked
+          → reached (record { frontier = bitOr (s .next) (minus left (s .left)); next = 0; left = left; right = bitOr (s .right) new; at = elements }) lefts′ marked
           ≡ advance rows givers slack (reached s lefts rights)
       turn-last l = cc (same, same-marks, missed, eq-eqb (rest (s .frontier)) 0 (sym o ∙ l))
 
       pub turn-on : (r ≡ 0 → ⊥)
-          → reached (record { frontier = r; next = bitOr (s .next) (bitXor left (s .left)); left = left; right = bitOr (s .right) new; at = 64 }) lefts′ marked
+          → reached (record { frontier = r; next = bitOr (s .next) (minus left (s .left)); left = left; right = bitOr (s .right) new; at = elements }) lefts′ marked
           ≡ advance rows givers slack (reached s lefts rights)
       turn-on l = cc (same, same-marks, missed, ne-eqb (rest (s .frontier)) 0 (λ y. l (o ∙ y)))
+
+-- the same turns, with the numbers of the sets that code has in hand
+module _ (rows givers : List ℕ) (slack : ℕ) (s : Look) (lefts rights : List ℕ) (i : ℕ) (e : i ≡ low (s .frontier)) (row new : ℕ) (f : row ≡ setAt rows i)
+    (n : new ≡ minus row (s .right)) (marked : List ℕ) (m : marked ≡ marks rights new i) (right hit : ℕ) (u : right ≡ bitOr (s .right) new)
+    (x : hit ≡ bitAnd new slack) where
+  fetched : new ≡ minus (setAt rows i) (s .right)
+  fetched = n ∙ ap (λ (w : ℕ). minus w (s .right)) f
+
+  pub look-hit : {none at : ℕ} → none ≡ 0 → (hit ≡ 0 → ⊥) → at ≡ low hit
+      → reached (record { frontier = none; next = none; left = s .left; right = right; at = at }) lefts marked ≡ advance rows givers slack (reached s lefts rights)
+  look-hit z h q = cc (z, u) ∙ turn-hit rows givers slack s lefts rights i e new fetched marked m (λ y. h (x ∙ y)) (q ∙ ap low x)
+
+  module _ {left r added next : ℕ} {lefts′ : List ℕ} (o : r ≡ rest (s .frontier)) (w : seen left lefts′ ≡ each elements (visit givers) (seen (s .left) lefts) new)
+      (z : hit ≡ 0) (a : added ≡ minus left (s .left)) (b : next ≡ bitOr (s .next) added) where
+    pub look-last : {none : ℕ} → none ≡ 0 → r ≡ 0
+        → reached (record { frontier = next; next = none; left = left; right = right; at = elements }) lefts′ marked ≡ advance rows givers slack (reached s lefts rights)
+    look-last v l = cc (v, u, a, b) ∙ turn-last rows givers slack s lefts rights i e new fetched marked m o w (sym x ∙ z) l
+
+    pub look-on : (r ≡ 0 → ⊥)
+        → reached (record { frontier = r; next = next; left = left; right = right; at = elements }) lefts′ marked ≡ advance rows givers slack (reached s lefts rights)
+    look-on l = cc (u, a, b) ∙ turn-on rows givers slack s lefts rights i e new fetched marked m o w (sym x ∙ z) l
 
 -- ---- the moves
 
@@ -93,16 +121,16 @@ positive-more a i w v e q = q ∙ ap (λ (x : ℕ). noted x i (getD a i 0)) e �
 pub joins : (f g l r : List ℕ) (i j d n : ℕ) (f′ g′ : List ℕ)
     → d ≡ min (getD l i 0) (getD r j 0)
     → n ≡ wrap (getD f (cell i j) 0 + d)
-    → (f′ ≡ set f (cell i j) n) × (g′ ≡ set g j (giver (getD g j 0) i n))
+    → (f′ ≡ set f (cell i j) n) × (g′ ≡ putRow g j (giver (setAt g j) i n))
     → network f′ g′ (set l i (getD l i 0 - d)) (set r j (getD r j 0 - d)) ≡ joined (network f g l r) i j
 unfolding joined
 joins f g l r i j d n f′ g′ e q p = cc (e, q, p .0, p .1)
 
 pub shifts : (f g l r : List ℕ) (i k j d n v : ℕ) (f₁ g₁ f₂ g₂ : List ℕ)
     → d ≡ min (getD r j 0) (getD f (cell i k) 0)
-    → (f₁ ≡ set f (cell i k) (getD f (cell i k) 0 - d)) × (g₁ ≡ set g k (giver (getD g k 0) i (getD f (cell i k) 0 - d)))
+    → (f₁ ≡ set f (cell i k) (getD f (cell i k) 0 - d)) × (g₁ ≡ putRow g k (giver (setAt g k) i (getD f (cell i k) 0 - d)))
     → n ≡ wrap (getD f₁ (cell i j) 0 + d)
-    → (f₂ ≡ set f₁ (cell i j) n) × (g₂ ≡ set g₁ j (giver (getD g₁ j 0) i n))
+    → (f₂ ≡ set f₁ (cell i j) n) × (g₂ ≡ putRow g₁ j (giver (setAt g₁ j) i n))
     → v ≡ wrap (getD (set r j (getD r j 0 - d)) k 0 + d)
     → network f₂ g₂ l (set (set r j (getD r j 0 - d)) k v) ≡ shifted (network f g l r) i k j
 unfolding shifted
@@ -129,33 +157,33 @@ module _ (i : ℕ) (s : Network) where
 pub rank-none : (row i : ℕ) (b : List ℕ) → row ≡ 0 → b ≡ rankedAt row i b
 rank-none row i b z = sym (cond-true _ _ (eq-eqb row 0 z))
 
-pub rank-some : (row i : ℕ) (b : List ℕ) (c w : ℕ) → (row ≡ 0 → ⊥) → c ≡ rankOf row → w ≡ withBit (getD b c 0) i → set b c w ≡ rankedAt row i b
+pub rank-some : (row i : ℕ) (b : List ℕ) (c w : ℕ) → (row ≡ 0 → ⊥) → c ≡ rankOf row → w ≡ withBit (setAt b c) i → putRow b c w ≡ rankedAt row i b
 rank-some row i b c w z e q = cc (e, q) ∙ sym (cond-false _ _ (ne-eqb row 0 z))
 
-pub starts : {b : List ℕ} (rows : List ℕ) (s : Network) → b ≡ ranked rows → upto (handRank rows b) 64 s ≡ started rows s
+pub starts : {t : Network} (m : ℕ) (rows b : List ℕ) (s : Network) → t ≡ upto (handRank rows b) m s → t ≡ started m rows b s
 unfolding started
-starts rows s e = ap (λ (x : List ℕ). upto (handRank rows x) 64 s) e
+starts m rows b s e = e
 
 -- ---- rounds
 
-module _ (rows : List ℕ) (s : Network) (roots slack : ℕ) (lefts₀ rights₀ lefts rights : List ℕ) (q : Search)
-    (a : roots ≡ positive 64 (s .left)) (b : slack ≡ positive 64 (s .right)) (el : lefts₀ ≡ blanks 64) (er : rights₀ ≡ blanks 0)
-    (e : reached q lefts rights ≡ reach 64 rows (s .givers) slack (reached (begun roots) lefts₀ rights₀)) where
-  seen-as : reached q lefts rights ≡ sought rows s
+module _ (m : ℕ) (rows : List ℕ) (s : Network) (roots slack : ℕ) (lefts₀ rights₀ lefts rights : List ℕ) (q : Look)
+    (a : roots ≡ positive m (s .left)) (b : slack ≡ positive m (s .right)) (el : lefts₀ ≡ blanks elements) (er : rights₀ ≡ blanks 0)
+    (e : reached q lefts rights ≡ reach elements rows (s .givers) slack (reached (begun roots) lefts₀ rights₀)) where
+  seen-as : reached q lefts rights ≡ sought m rows s
   seen-as = cc
 
-  pub round-found : (s′ : Network) → q .at < 64 → s′ ≡ augmented 64 lefts rights (walk s (q .at)) → round s′ q ≡ rounded rows s
+  pub round-found : (s′ : Network) → q .at < elements → s′ ≡ augmented elements lefts rights (walk s (q .at)) → round s′ q ≡ rounded m rows s
   unfolding rounded
   round-found s′ h t = rw (← seen-as) (ap (λ (x : Network). round x q) (t ∙ sym (cond-true _ _ (lt-ltb _ _ h))))
 
-  pub round-none : 64 ≤ q .at → round s q ≡ rounded rows s
+  pub round-none : elements ≤ q .at → round s q ≡ rounded m rows s
   unfolding rounded
   round-none h = rw (← seen-as) (ap (λ (x : Network). round x q) (sym (cond-false _ _ (le-ltb _ _ h))))
 
-pub solves : {t : Network} {x : Round} (n : ℕ) (rows : List ℕ) (s : Network)
-    → t ≡ started rows s → x ≡ rounded rows t → settle n rows x ≡ solved n rows s
+pub solves : {t : Network} {x : Round} (m n : ℕ) (rows b : List ℕ) (s : Network)
+    → t ≡ started m rows b s → x ≡ rounded m rows t → settle m n rows x ≡ solved m n rows b s
 unfolding solved
-solves n rows s e q = ap (settle n rows) (q ∙ ap (rounded rows) e)
+solves m n rows b s e q = ap (settle m n rows) (q ∙ ap (rounded m rows) e)
 
 -- ---- the quote
 
@@ -167,18 +195,17 @@ pub amount-more : (a : List ℕ) (i t v : ℕ) → t ≡ amount i a → v ≡ wr
 unfolding amount
 amount-more a i t v e q = q ∙ ap (λ (x : ℕ). wrap (x + getD a i 0)) e ∙ ap (λ (x : ℕ). amount x a) (sym (add-one i))
 
-module _ (o : Order) (demand : List ℕ) {rows f₀ g₀ l₀ f g l r : List ℕ} {q : Search}
-    (en : rows ≡ afterWords o) (ef : f₀ ≡ unused) (eg : g₀ ≡ blanks 0) (el : l₀ ≡ copied demand)
-    (e : round (network f g l r) q ≡ solved 4194240 rows (network f₀ g₀ l₀ l₀)) where
-  ends-as : round (network f g l r) q ≡ outcome (afterWords o) demand
+pub tells : (m : ℕ) (l : List ℕ) (q : Look) (w : ℕ) {n v : ℕ} → n ≡ amount m l → v ≡ minus (q .left) (q .right)
+    → _≡_ {A = Quoted} (record { need = n; set = setOf (bitAnd v w) }) (told m l q w)
+tells m l q w a h = cc (a, h)
+
+module _ (m : ℕ) (rows demand : List ℕ) {b f₀ g₀ l₀ f g l r : List ℕ} {q : Look}
+    (eb : b ≡ ranked m rows) (ef : f₀ ≡ unused) (eg : g₀ ≡ blankRows) (el : l₀ ≡ copied m demand)
+    (e : round (network f g l r) q ≡ solved m (elements * 65535) rows b (network f₀ g₀ l₀ l₀)) where
+  pub ends-as : round (network f g l r) q ≡ outcome m rows demand
   unfolding outcome
   ends-as = cc
 
-  in-hand : {n w v : ℕ} → n ≡ amount 64 l → w ≡ positive 64 demand → v ≡ minus (q .left) (q .right)
-      → _≡_ {A = Quoted} (record { need = n; set = record { word = bitAnd v w } }) (quoted demand (round (network f g l r) q))
-  in-hand a b h = cc (a, b, h)
-
-  pub quotes : {n w v : ℕ} → n ≡ amount 64 l → w ≡ positive 64 demand → v ≡ minus (q .left) (q .right)
-      → (_≡_ {A = Quoted} (record { need = n; set = record { word = bitAnd v w } }) (quoteOf o demand)) × (f ≡ flowOf o demand)
-  unfolding quoteOf flowOf
-  quotes a b h = (in-hand a b h ∙ ap (quoted demand) ends-as, ap (λ (x : Round). x .now .flow) ends-as)
+  pub quotes : {x : Quoted} {w : ℕ} → x ≡ told m l q w → w ≡ positive m demand → (x ≡ quoteIn m rows demand) × (f ≡ flowIn m rows demand)
+  unfolding quoteIn flowIn
+  quotes a b = (a ∙ ap (told m l q) b ∙ ap (quoted m demand) ends-as, ap (λ (x : Round). x .now .flow) ends-as)

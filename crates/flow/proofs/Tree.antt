@@ -5,7 +5,7 @@ use mathlib.Core.List.{List, [], _∷_}
 use mathlib.Core.Logic.{_⊎_, inl, inr, ⊎-elim}
 use Prim.Native.Nat.{ℕ, _-_, _<_}
 use native.Mathlib.Omega.{arith}
-use lib.Bits.{bitAnd, bitOr, bitXor}
+use lib.Bits.{bitAnd, bitOr}
 use lib.Dec.{eqb}
 use lib.ListN.{getD, getD-replicate, length, length-replicate, length-set, set}
 use lib.Seq.{getD-set-other, getD-set-same}
@@ -16,6 +16,8 @@ use Rattle.words.proofs.Bits.{digit-and, digit-lt, digit-minus, digit-none, dig
 use Rattle.words.proofs.Kept.{each-keeps}
 use Rattle.words.proofs.Members.{Has, has-member, low-lt, member-has}
 use Rattle.words.proofs.Tests.{same-or-not}
+use Rattle.order.proofs.Stored.{in-bound}
+use Rattle.order.specs.Stored.{elements, row as setAt}
 use Rattle.flow.specs.Search.{Reached, Seen, advance, begun, found, fresh, low, marks, onward, put, reached, seen, visit}
 use Rattle.flow.specs.Solve.{blanks}
 use Rattle.flow.proofs.Digits.{Sub, digit-added, low-digit, none-sub, or-sub}
@@ -47,29 +49,29 @@ put-length v (x ∷ bs) ps = put-length v bs (set ps x v) ∙ length-set ps x v
 
 pub marks-length : (ps : List ℕ) (w v : ℕ) → length (marks ps w v) ≡ length ps
 unfolding each
-marks-length ps w v = put-length v (members 64 w) ps
+marks-length ps w v = put-length v (members elements w) ps
 
-pub marks-in : (ps : List ℕ) (w v b : ℕ) → b < 64 → b < length ps → digit w b ≡ 1 → getD (marks ps w v) b 0 ≡ v
+pub marks-in : (ps : List ℕ) (w v b : ℕ) → b < elements → b < length ps → digit w b ≡ 1 → getD (marks ps w v) b 0 ≡ v
 unfolding each
-marks-in ps w v b h l e = put-in v (members 64 w) ps b l (member-has 64 w b h e)
+marks-in ps w v b h l e = put-in v (members elements w) ps b l (member-has elements w b h e)
 
 pub marks-out : (ps : List ℕ) (w v b : ℕ) → digit w b ≡ 0 → getD (marks ps w v) b 0 ≡ getD ps b 0
 unfolding each
-marks-out ps w v b e = put-out v (members 64 w) ps b (λ m. absurd (omega (arith, has-member 64 w b m .0)))
+marks-out ps w v b e = put-out v (members elements w) ps b (λ m. absurd (omega (arith, has-member elements w b m .0)))
 
 -- ---- the parents of the givers
 
 -- a giver i with the parent k: a root, or it gives to k, which was reached
 abbrev pub Led : ℕ → List ℕ → ℕ → ℕ → Type 0
-Led right givers i k = (k ≡ 64) ⊎ ((k < 64) × (digit right k ≡ 1) × (digit (getD givers k 0) i ≡ 1))
+Led right givers i k = (k ≡ elements) ⊎ ((k < elements) × (digit right k ≡ 1) × (digit (setAt givers k) i ≡ 1))
 
 pub record Grown (right : ℕ) (givers : List ℕ) (s : Seen) : Type 0 where
-  pub long : length (s .parents) ≡ 64
-  pub led : (i : ℕ) → i < 64 → digit (s .word) i ≡ 1 → Led right givers i (getD (s .parents) i 0)
+  pub long : length (s .parents) ≡ elements
+  pub led : (i : ℕ) → i < elements → digit (s .word) i ≡ 1 → Led right givers i (getD (s .parents) i 0)
 
-visit-grown : (right : ℕ) (givers : List ℕ) (s : Seen) (j : ℕ) → j < 64 → digit right j ≡ 1 → Grown right givers s → Grown right givers (visit givers s j)
+visit-grown : (right : ℕ) (givers : List ℕ) (s : Seen) (j : ℕ) → j < elements → digit right j ≡ 1 → Grown right givers s → Grown right givers (visit givers s j)
 visit-grown right givers s j hj r g =
-    let back = minus (getD givers j 0) (s .word) in
+    let back = minus (setAt givers j) (s .word) in
     record {
       long = marks-length (s .parents) back j ∙ g .long;
       led = λ i h e.
@@ -77,7 +79,7 @@ visit-grown right givers s j hj r g =
           (λ o. rw (marks-out (s .parents) back j i o) (g .led i h (omega (arith, digit-or (s .word) back i))))
           (λ o.
           rw (marks-in (s .parents) back j i h (omega (arith, g .long)) o)
-          (inr (hj, r, omega (arith, digit-minus (getD givers j 0) (s .word) i, digit-lt (getD givers j 0) i))))
+          (inr (hj, r, omega (arith, digit-minus (setAt givers j) (s .word) i, digit-lt (setAt givers j) i))))
           (zero-or-one back i);
     }
 
@@ -87,14 +89,14 @@ led-more right new givers i k h = ⊎-elim (λ e. inl e) (λ t. inr (t .0, or-su
 -- ---- all parents
 
 pub record Tree (rows givers : List ℕ) (q : Reached) : Type 0 where
-  pub lefts-long : length (q .lefts) ≡ 64
-  pub rights-long : length (q .rights) ≡ 64
+  pub lefts-long : length (q .lefts) ≡ elements
+  pub rights-long : length (q .rights) ≡ elements
   pub pending : Sub (q .search .frontier) (q .search .left)
   pub waiting : Sub (q .search .next) (q .search .left)
-  pub came : (j : ℕ) → j < 64 → digit (q .search .right) j ≡ 1
-      → (getD (q .rights) j 0 < 64) × (digit (q .search .left) (getD (q .rights) j 0) ≡ 1) × (digit (getD rows (getD (q .rights) j 0) 0) j ≡ 1)
-  pub led : (i : ℕ) → i < 64 → digit (q .search .left) i ≡ 1 → Led (q .search .right) givers i (getD (q .lefts) i 0)
-  pub goal : q .search .at < 64 → digit (q .search .right) (q .search .at) ≡ 1
+  pub came : (j : ℕ) → j < elements → digit (q .search .right) j ≡ 1
+      → (getD (q .rights) j 0 < elements) × (digit (q .search .left) (getD (q .rights) j 0) ≡ 1) × (digit (setAt rows (getD (q .rights) j 0)) j ≡ 1)
+  pub led : (i : ℕ) → i < elements → digit (q .search .left) i ≡ 1 → Led (q .search .right) givers i (getD (q .lefts) i 0)
+  pub goal : q .search .at < elements → digit (q .search .right) (q .search .at) ≡ 1
 
 module _ (rows givers : List ℕ) (roots slack : ℕ) (fit : Fit givers) (q : Reached) (c : Closing rows givers roots slack (q .search)) (t : Tree rows givers q)
     (p : 0 < q .search .frontier) where
@@ -113,11 +115,11 @@ module _ (rows givers : List ℕ) (roots slack : ℕ) (fit : Fit givers) (q : Re
   abbrev w : Seen
   w = sees rows givers q
 
-  first-lt : i₀ < 64
-  first-lt = low-lt 64 (q .search .frontier) p (c .small-frontier)
+  first-lt : i₀ < elements
+  first-lt = low-lt elements (q .search .frontier) p (in-bound (c .small-frontier))
 
-  came′ : (left′ : ℕ) → Sub (q .search .left) left′ → (j : ℕ) → j < 64 → digit right′ j ≡ 1
-      → (getD rights′ j 0 < 64) × (digit left′ (getD rights′ j 0) ≡ 1) × (digit (getD rows (getD rights′ j 0) 0) j ≡ 1)
+  came′ : (left′ : ℕ) → Sub (q .search .left) left′ → (j : ℕ) → j < elements → digit right′ j ≡ 1
+      → (getD rights′ j 0 < elements) × (digit left′ (getD rights′ j 0) ≡ 1) × (digit (setAt rows (getD rights′ j 0)) j ≡ 1)
   came′ left′ m j h e =
       ⊎-elim
       (λ o.
@@ -127,14 +129,14 @@ module _ (rows givers : List ℕ) (roots slack : ℕ) (fit : Fit givers) (q : Re
       rw (marks-in (q .rights) new i₀ j h (omega (arith, t .rights-long)) o) (
         first-lt,
         m i₀ first-lt (t .pending i₀ first-lt (low-digit (q .search .frontier) first-lt)),
-        omega (arith, digit-minus (getD rows i₀ 0) (q .search .right) j, digit-lt (getD rows i₀ 0) j),
+        omega (arith, digit-minus (setAt rows i₀) (q .search .right) j, digit-lt (setAt rows i₀) j),
       ))
       (zero-or-one new j)
 
-  rights-long′ : length rights′ ≡ 64
+  rights-long′ : length rights′ ≡ elements
   rights-long′ = marks-length (q .rights) new i₀ ∙ t .rights-long
 
-  found-bit : low (bitAnd new slack) < 64 → digit right′ (low (bitAnd new slack)) ≡ 1
+  found-bit : low (bitAnd new slack) < elements → digit right′ (low (bitAnd new slack)) ≡ 1
   found-bit h =
       let k = low (bitAnd new slack) in
       omega (arith, low-digit (bitAnd new slack) h, digit-and new slack k, digit-or (q .search .right) new k, digit-lt (q .search .right) k, digit-lt new k)
@@ -153,17 +155,17 @@ module _ (rows givers : List ℕ) (roots slack : ℕ) (fit : Fit givers) (q : Re
 
   grown : Grown right′ givers w
   grown =
-      each-keeps (Grown right′ givers) 64 (visit givers) new
+      each-keeps (Grown right′ givers) elements (visit givers) new
       (λ s b h e g. visit-grown right′ givers s b h (omega (arith, digit-or (q .search .right) new b, digit-lt (q .search .right) b)) g)
       (seen (q .search .left) (q .lefts)) (record { long = t .lefts-long; led = λ i h e. led-more (q .search .right) new givers i (getD (q .lefts) i 0) (t .led i h e) })
 
   more : Sub (q .search .left) (w .word)
   more = visit-each givers fit (seen (q .search .left) (q .lefts)) new (c .small-left) .more
 
-  next-sub : Sub (bitOr (q .search .next) (bitXor (w .word) (q .search .left))) (w .word)
+  next-sub : Sub (bitOr (q .search .next) (minus (w .word) (q .search .left))) (w .word)
   next-sub i h e =
       ⊎-elim
-      (λ o. omega (arith, digit-or (q .search .next) (bitXor (w .word) (q .search .left)) i, digit-added (w .word) (q .search .left) i (more i h), digit-lt (w .word) i))
+      (λ o. omega (arith, digit-or (q .search .next) (minus (w .word) (q .search .left)) i, digit-added (w .word) (q .search .left) i (more i h), digit-lt (w .word) i))
       (λ o. more i h (t .waiting i h o))
       (zero-or-one (q .search .next) i)
 
@@ -203,15 +205,15 @@ module _ (rows givers : List ℕ) (roots slack : ℕ) (fit : Fit givers) (q : Re
   unfolding advance
   tree-turn = tree-either (eqb (bitAnd new slack) 0)
 
-pub begun-tree : (rows givers : List ℕ) (roots : ℕ) → Tree rows givers (reached (begun roots) (blanks 64) (blanks 0))
+pub begun-tree : (rows givers : List ℕ) (roots : ℕ) → Tree rows givers (reached (begun roots) (blanks elements) (blanks 0))
 unfolding blanks
 begun-tree rows givers roots =
     record {
-      lefts-long = length-replicate {A = ℕ} 64 64;
-      rights-long = length-replicate {A = ℕ} 64 0;
+      lefts-long = length-replicate {A = ℕ} elements elements;
+      rights-long = length-replicate {A = ℕ} elements 0;
       pending = λ i h e. e;
       waiting = none-sub roots;
       came = λ j h e. absurd (omega (arith, digit-none j));
-      led = λ i h e. inl (getD-replicate 64 i 64 0 h);
+      led = λ i h e. inl (getD-replicate elements i elements 0 h);
       goal = λ h. absurd (omega arith);
     }

@@ -1,13 +1,13 @@
--- The handover and its moves, as functions on lists: the units at i * 64 + j, for each taker the word of those that give to it, and what each
+-- The handover and its moves, as functions on lists: the units at i * elements + j, for each taker the word of those that give to it, and what each
 -- giver and each taker has left. Assumes nothing.
 use mathlib.Core.Bool.{Bool, cond}
 use mathlib.Core.List.{List}
 use Prim.Native.Nat.{ℕ, zero, suc, _+_, _-_, _*_, _%_, _^_, min}
-use lib.Bits.{bitAnd}
 use lib.Dec.{eqb, leb}
 use lib.ListN.{getD, set}
 use Rattle.words.specs.Bits.{withBit, minus}
-use Rattle.words.specs.Loops.{run}
+use Rattle.words.specs.Loops.{each, run}
+use Rattle.order.specs.Stored.{elements, row as setAt, putRow}
 
 pub record Network : Type 0 where
   pub flow : List ℕ
@@ -23,7 +23,7 @@ abbrev pub wrap : ℕ → ℕ
 wrap x = x % 2 ^ 32
 
 abbrev pub cell : ℕ → ℕ → ℕ
-cell i j = i * 64 + j
+cell i j = i * elements + j
 
 -- what i hands over to j
 abbrev pub handed : List ℕ → ℕ → ℕ → ℕ
@@ -44,7 +44,7 @@ positive (suc k) a = noted (positive k a) k (getD a k 0)
 
 -- what i hands over to j becomes n
 abbrev pub move : Network → ℕ → ℕ → ℕ → Network
-move s i j n = network (set (s .flow) (cell i j) n) (set (s .givers) j (giver (getD (s .givers) j 0) i n)) (s .left) (s .right)
+move s i j n = network (set (s .flow) (cell i j) n) (putRow (s .givers) j (giver (setAt (s .givers) j) i n)) (s .left) (s .right)
 
 abbrev pub toLeft : Network → ℕ → ℕ → Network
 toLeft s i n = network (s .flow) (s .givers) (set (s .left) i n) (s .right)
@@ -69,6 +69,16 @@ shifted s i k j =
     let s₃ = toRight s₂ j (getD (s₂ .right) j 0 - d) in
     toRight s₃ k (wrap (getD (s₃ .right) k 0 + d))
 
+-- the givers in the words of the takers in w take all back
+abbrev pub dropping : ℕ → List ℕ → ℕ → List ℕ
+dropping j f i = set f (cell i j) 0
+
+abbrev pub takenFrom : List ℕ → List ℕ → ℕ → List ℕ
+takenFrom givers f j = each elements (dropping j) f (setAt givers j)
+
+unfoldable pub takenBack : List ℕ → List ℕ → ℕ → List ℕ
+takenBack givers f w = each elements (takenFrom givers) f w
+
 -- ---- the walk back from a taker with slack to a root, as the parents lead
 
 pub record Walk : Type 0 where
@@ -78,15 +88,15 @@ pub record Walk : Type 0 where
 abbrev pub walk : Network → ℕ → Walk
 walk s j = record { now = s; at = j }
 
--- the giver that led to where the walk is, and the taker that led there, or 64 at a root
+-- the giver that led to where the walk is, and the taker that led there, or elements at a root
 abbrev pub source : List ℕ → Walk → ℕ
-source rights w = bitAnd (getD rights (w .at) 0) 63
+source rights w = getD rights (w .at) 0 % elements
 
 abbrev pub parent : List ℕ → List ℕ → Walk → ℕ
 parent lefts rights w = getD lefts (source rights w) 0
 
 abbrev pub rooted : List ℕ → List ℕ → Walk → Bool
-rooted lefts rights w = leb 64 (parent lefts rights w)
+rooted lefts rights w = leb elements (parent lefts rights w)
 
 abbrev pub atRoot : List ℕ → Walk → Network
 atRoot rights w = joined (w .now) (source rights w) (w .at)

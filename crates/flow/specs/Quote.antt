@@ -1,34 +1,37 @@
--- What `quote` gives, as a function of the order and the demands alone: the need, a set that has it, and the handover. Assumes nothing.
+-- What `quote` gives, as a function of the number m of elements in use, the order and the demands alone: the need, a set that has it, and the
+-- handover. The elements from m on are passed over, whatever stands for them. Assumes nothing.
+use mathlib.Core.Path.{_≡_}
 use mathlib.Core.List.{List}
-use Prim.Native.Nat.{ℕ, zero, suc, _+_}
+use Prim.Native.Nat.{ℕ, zero, suc, _+_, _*_, _≤_}
 use lib.Bits.{bitAnd}
-use lib.ListN.{getD, set, replicate}
+use lib.ListN.{getD, set, replicate, length}
 use Rattle.words.specs.Bits.{minus}
 use Rattle.words.specs.Loops.{upto}
-use Rattle.order.specs.Orders.{afterWords}
+use Rattle.order.specs.Orders.{afterRows}
 use Rattle.order.specs.declared.Order.{Order}
-use Rattle.flow.specs.declared.Search.{Search}
+use Rattle.order.specs.Stored.{elements, setOf}
+use Rattle.flow.specs.Search.{Look}
 use Rattle.flow.specs.declared.Quoted.{Quoted}
 use Rattle.flow.specs.Network.{Network, network, wrap, positive}
-use Rattle.flow.specs.Solve.{blanks, Round, solved}
+use Rattle.flow.specs.Solve.{blanks, blankRows, ranked, Round, solved}
 
 -- nothing is handed over
 unfoldable pub unused : List ℕ
-unused = replicate 4096 0
+unused = replicate (elements * elements) 0
 
--- the 64 first entries of a list
+-- the m first entries of a list, and 0 from m on
 abbrev pub copying : List ℕ → ℕ → List ℕ → List ℕ
 copying a i b = set b i (getD a i 0)
 
-unfoldable pub copied : List ℕ → List ℕ
-copied a = upto (copying a) 64 (blanks 0)
+unfoldable pub copied : ℕ → List ℕ → List ℕ
+copied m a = upto (copying a) m (blanks 0)
 
--- where the solver starts, and where it ends; 4194240 is 64 times the greatest demand
-abbrev pub untouched : List ℕ → Network
-untouched demand = network unused (blanks 0) (copied demand) (copied demand)
+-- where the solver starts, and where it ends; each element has at most the greatest demand, 65535
+abbrev pub untouched : ℕ → List ℕ → Network
+untouched m demand = network unused blankRows (copied m demand) (copied m demand)
 
-unfoldable pub outcome : List ℕ → List ℕ → Round
-outcome rows demand = solved 4194240 rows (untouched demand)
+unfoldable pub outcome : ℕ → List ℕ → List ℕ → Round
+outcome m rows demand = solved m (elements * 65535) rows (ranked m rows) (untouched m demand)
 
 -- the sum of the k first numbers, in 32 bits
 unfoldable pub amount : ℕ → List ℕ → ℕ
@@ -36,16 +39,31 @@ amount zero a = 0
 amount (suc k) a = wrap (amount k a + getD a k 0)
 
 -- the elements reached as givers and not as takers, that have a demand
-abbrev pub chosen : Search → List ℕ → ℕ
-chosen q demand = bitAnd (minus (q .left) (q .right)) (positive 64 demand)
+abbrev pub chosen : ℕ → Look → List ℕ → ℕ
+chosen m q demand = bitAnd (minus (q .left) (q .right)) (positive m demand)
 
-abbrev pub quoted : List ℕ → Round → Quoted
-quoted demand x = record { need = amount 64 (x .now .left); set = record { word = chosen (x .search) demand } }
+abbrev pub told : ℕ → List ℕ → Look → ℕ → Quoted
+told m left q wanted = record { need = amount m left; set = setOf (bitAnd (minus (q .left) (q .right)) wanted) }
 
--- the need and the set
-unfoldable pub quoteOf : Order → List ℕ → Quoted
-quoteOf o demand = quoted demand (outcome (afterWords o) demand)
+abbrev pub quoted : ℕ → List ℕ → Round → Quoted
+quoted m demand x = told m (x .now .left) (x .search) (positive m demand)
 
--- what each element hands over to each other, at i * 64 + j
-unfoldable pub flowOf : Order → List ℕ → List ℕ
-flowOf o demand = outcome (afterWords o) demand .now .flow
+-- the need and the set, of an order that is given by its rows
+unfoldable pub quoteIn : ℕ → List ℕ → List ℕ → Quoted
+quoteIn m rows demand = quoted m demand (outcome m rows demand)
+
+-- what each element hands over to each other, at i * elements + j
+unfoldable pub flowIn : ℕ → List ℕ → List ℕ → List ℕ
+flowIn m rows demand = outcome m rows demand .now .flow
+
+-- the same of an order
+abbrev pub quoteOf : ℕ → Order → List ℕ → Quoted
+quoteOf m o demand = quoteIn m (afterRows o) demand
+
+abbrev pub flowOf : ℕ → Order → List ℕ → List ℕ
+flowOf m o demand = flowIn m (afterRows o) demand
+
+-- what `clear` asks: nothing is handed over by the elements from m on
+pub record Clean (m : ℕ) (f : List ℕ) : Type 0 where
+  pub wide : length f ≡ elements * elements
+  pub rest : (p : ℕ) → m * elements ≤ p → getD f p 0 ≡ 0

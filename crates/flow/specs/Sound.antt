@@ -6,6 +6,7 @@ use Prim.Native.Nat.{ℕ, suc, _+_, _-_, _≤_, _<_}
 use lib.ListN.{getD}
 use Rattle.words.specs.Sums.{sum}
 use Rattle.order.specs.Before.{StrictOrder}
+use Rattle.order.specs.Stored.{elements}
 use Rattle.order.specs.Sets.{member}
 use Rattle.order.specs.Orders.{isBefore}
 use Rattle.order.specs.declared.Order.{Order}
@@ -19,10 +20,12 @@ use Rattle.flow.specs.Quote.{quoteOf, flowOf}
 abbrev pub asked : List ℕ → ℕ → ℕ
 asked demand i = getD demand i 0
 
--- what is asked of a plan: the order is strict, and each demand is at most 65,535
-pub record Plan (o : Order) (demand : List ℕ) : Type 0 where
-  pub strict : StrictOrder 64 (isBefore o)
-  pub small : (i : ℕ) → i < 64 → asked demand i ≤ 65535
+-- what is asked of a plan of m elements: the order is strict, each demand is at most 65,535, and the elements from m on have none
+pub record Plan (m : ℕ) (o : Order) (demand : List ℕ) : Type 0 where
+  pub within : m ≤ elements
+  pub idle : (i : ℕ) → m ≤ i → i < elements → asked demand i ≡ 0
+  pub strict : StrictOrder elements (isBefore o)
+  pub small : (i : ℕ) → i < elements → asked demand i ≤ 65535
 
 -- what a number x, a set S and units f promise of an order b and demands d, for any n
 pub record Sound (n : ℕ) (b : ℕ → ℕ → Bool) (d : ℕ → ℕ) (x : ℕ) (S : ℕ → Bool) (f : ℕ → ℕ → ℕ) : Type 0 where
@@ -39,6 +42,6 @@ pub record Sound (n : ℕ) (b : ℕ → ℕ → Bool) (d : ℕ → ℕ) (x : ℕ
   pub spare : (a : ℕ) → nodeFlow n d f x a 0 (suc n) ≡ a - x
 
 -- the promise of `quote`, for every plan
-abbrev pub SoundQuote : Order → List ℕ → Type 0
-SoundQuote o demand =
-    Sound 64 (isBefore o) (asked demand) (quoteOf o demand .need) (member (quoteOf o demand .set)) (handed (flowOf o demand))
+abbrev pub SoundQuote : ℕ → Order → List ℕ → Type 0
+SoundQuote m o demand =
+    Sound elements (isBefore o) (asked demand) (quoteOf m o demand .need) (member (quoteOf m o demand .set)) (handed (flowOf m o demand))

@@ -1,72 +1,70 @@
-// The moves of a handover: units at i * 64 + j, for each taker the word of those that give to it, and what givers and takers have left.
+// The moves of a handover: units at i * ELEMENTS + j, for each taker the set of those that give to it, and what givers and takers have left.
 ghost use mathlib.Core.Path.{_≡_};
 ghost use mathlib.Core.List.{List};
-ghost use Prim.Native.Nat.{ℕ, _<_};
-ghost use lib.ListN.{getD, set};
+ghost use Prim.Native.Nat.{ℕ, _≤_, _<_};
+ghost use lib.ListN.{set};
 ghost use Rattle.words.specs.Loops.{each};
-ghost use Rattle.flow.specs.Network.{giver, noted, positive, cell, network, joined, shifted, walk, augmented, handing};
+ghost use Rattle.order.specs.Stored.{elements, numberOf, row, putRow};
+ghost use Rattle.flow.specs.Network.{giver, noted, positive, cell, network, joined, shifted, walk, augmented, handing, dropping, takenBack};
+use order::ELEMENTS;
+use order::Rows;
+use order::Set;
 
-// The word with the place i, or without it where n is 0.
-fn given(word: u64, i: usize, n: u32) -> u64
-    requires { ⌜ i < 64 ⌝ }
-    ensures { λ r. ⌜ r ≡ giver word i n ⌝ }
+// The set with the member i, or without it where n is 0.
+fn given(set: Set, i: usize, n: u32) -> Set
+    requires { ⌜ i < elements ⌝ }
+    ensures { λ r. ⌜ numberOf r ≡ giver (numberOf set) i n ⌝ }
 {
-    if n == 0 {
-        words::without_bit(word, i)
-    } else {
-        words::with_bit(word, i)
-    }
+    if n == 0 { set.without(i) } else { set.with(i) }
 }
 
-// The word with the place i, or as it is where n is 0.
-fn note(word: u64, i: usize, n: u32) -> u64
-    requires { ⌜ i < 64 ⌝ }
-    ensures { λ r. ⌜ r ≡ noted word i n ⌝ }
+// The set with the member i, or as it is where n is 0.
+fn note(set: Set, i: usize, n: u32) -> Set
+    requires { ⌜ i < elements ⌝ }
+    ensures { λ r. ⌜ numberOf r ≡ noted (numberOf set) i n ⌝ }
 {
-    if n == 0 {
-        word
-    } else {
-        words::with_bit(word, i)
-    }
+    if n == 0 { set } else { set.with(i) }
 }
 
-// The word of the elements whose entry is not 0.
-pub fn word_of(a: &[u32; 64]) -> u64
-    ensures { λ r. ⌜ r ≡ positive 64 (now (a .entry)) ⌝ }
+// Those of the m first elements whose entry is not 0.
+pub fn members_of(a: &[u32; ELEMENTS], m: usize) -> Set
+    requires { ⌜ m ≤ elements ⌝ }
+    ensures { λ r. ⌜ numberOf r ≡ positive m (now (a .entry)) ⌝ }
 {
-    let mut word: u64 = 0;
+    let mut set = Set::EMPTY;
     let mut i: usize = 0;
-    while i < 64 {
-        word = note(word, i, a[i]);
+    while i < m {
+        set = note(set, i, a[i]);
         i += 1;
     }
-    word
+    set
 }
 
 // flow(i, j) becomes n.
-pub fn store(flow: &mut [u32; 4096], givers: &mut [u64; 64], i: usize, j: usize, n: u32)
-    requires { ⌜ (i < 64) × (j < 64) ⌝ }
-    ensures { λ _. ⌜ (now (flow .exit) ≡ set (now (flow .entry)) (cell i j) n) × (now (givers .exit) ≡ set (now (givers .entry)) j (giver (getD (now (givers .entry)) j 0) i n)) ⌝ }
+pub fn store(flow: &mut [u32; ELEMENTS * ELEMENTS], givers: &mut Rows, i: usize, j: usize, n: u32)
+    requires { ⌜ (i < elements) × (j < elements) ⌝ }
+    ensures { λ _. ⌜ (now (flow .exit) ≡ set (now (flow .entry)) (cell i j) n) × (now (givers .exit) ≡ putRow (now (givers .entry)) j (giver (row (now (givers .entry)) j) i n)) ⌝ }
 {
-    let at = i * 64 + j;
+    let at = i * ELEMENTS + j;
     flow[at] = n;
-    givers[j] = given(givers[j], i, n);
+    let g = given(order::row(givers, j), i, n);
+    order::put_row(givers, j, g);
 }
 
 // Slack of both copies becomes flow.
 pub fn join(
-    flow: &mut [u32; 4096],
-    givers: &mut [u64; 64],
-    left: &mut [u32; 64],
-    right: &mut [u32; 64],
+    flow: &mut [u32; ELEMENTS * ELEMENTS],
+    givers: &mut Rows,
+    left: &mut [u32; ELEMENTS],
+    right: &mut [u32; ELEMENTS],
     i: usize,
     j: usize,
 )
-    requires { ⌜ (i < 64) × (j < 64) ⌝ }
+    requires { ⌜ (i < elements) × (j < elements) ⌝ }
     ensures { λ _. ⌜ network (now (flow .exit)) (now (givers .exit)) (now (left .exit)) (now (right .exit)) ≡ joined (network (now (flow .entry)) (now (givers .entry)) (now (left .entry)) (now (right .entry))) i j ⌝ }
 {
     let d = words::smaller(left[i], right[j]);
-    let at = i * 64 + j;
+    let at = i * ELEMENTS + j;
     let n = std::num::wrapping_add_u32(flow[at], d);
     store(flow, givers, i, j, n);
     left[i] = left[i] - d;
@@ -75,18 +73,18 @@ pub fn join(
 
 // Slack moves from the right copy j to the right copy k, by the left copy i, which gives to k.
 pub fn shift(
-    flow: &mut [u32; 4096],
-    givers: &mut [u64; 64],
-    right: &mut [u32; 64],
+    flow: &mut [u32; ELEMENTS * ELEMENTS],
+    givers: &mut Rows,
+    right: &mut [u32; ELEMENTS],
     i: usize,
     k: usize,
     j: usize,
 )
-    requires { ⌜ ((i < 64) × (k < 64)) × (j < 64) ⌝ }
+    requires { ⌜ ((i < elements) × (k < elements)) × (j < elements) ⌝ }
     ensures { λ _. ⌜ ((l : List ℕ) → network (now (flow .exit)) (now (givers .exit)) l (now (right .exit)) ≡ shifted (network (now (flow .entry)) (now (givers .entry)) l (now (right .entry))) i k j) ⌝ }
 {
-    let from = i * 64 + k;
-    let to = i * 64 + j;
+    let from = i * ELEMENTS + k;
+    let to = i * ELEMENTS + j;
     let d = words::smaller(right[j], flow[from]);
     let m = flow[from] - d;
     store(flow, givers, i, k, m);
@@ -97,25 +95,25 @@ pub fn shift(
     right[k] = v;
 }
 
-// Slack moves from the right copy at which a search ended back to a root, whose parent is 64, and becomes flow there.
+// Slack moves from the right copy at which a search ended back to a root, whose parent is ELEMENTS, and becomes flow there.
 pub fn augment(
-    flow: &mut [u32; 4096],
-    givers: &mut [u64; 64],
-    left: &mut [u32; 64],
-    right: &mut [u32; 64],
-    lefts: &[usize; 64],
-    rights: &[usize; 64],
+    flow: &mut [u32; ELEMENTS * ELEMENTS],
+    givers: &mut Rows,
+    left: &mut [u32; ELEMENTS],
+    right: &mut [u32; ELEMENTS],
+    lefts: &[usize; ELEMENTS],
+    rights: &[usize; ELEMENTS],
     at: usize,
 )
-    requires { ⌜ at < 64 ⌝ }
-    ensures { λ _. ⌜ network (now (flow .exit)) (now (givers .exit)) (now (left .exit)) (now (right .exit)) ≡ augmented 64 (now (lefts .entry)) (now (rights .entry)) (walk (network (now (flow .entry)) (now (givers .entry)) (now (left .entry)) (now (right .entry))) at) ⌝ }
+    requires { ⌜ at < elements ⌝ }
+    ensures { λ _. ⌜ network (now (flow .exit)) (now (givers .exit)) (now (left .exit)) (now (right .exit)) ≡ augmented elements (now (lefts .entry)) (now (rights .entry)) (walk (network (now (flow .entry)) (now (givers .entry)) (now (left .entry)) (now (right .entry))) at) ⌝ }
 {
     let mut j = at;
     let mut k: usize = 0;
-    while k < 64 {
-        let i = rights[j] & 63;
+    while k < ELEMENTS {
+        let i = rights[j] % ELEMENTS;
         let p = lefts[i];
-        if p >= 64 {
+        if p >= ELEMENTS {
             join(flow, givers, left, right, i, j);
             return;
         }
@@ -127,14 +125,14 @@ pub fn augment(
 
 // Slack of the element i becomes flow to the element j, where both have some.
 pub fn pass(
-    flow: &mut [u32; 4096],
-    givers: &mut [u64; 64],
-    left: &mut [u32; 64],
-    right: &mut [u32; 64],
+    flow: &mut [u32; ELEMENTS * ELEMENTS],
+    givers: &mut Rows,
+    left: &mut [u32; ELEMENTS],
+    right: &mut [u32; ELEMENTS],
     i: usize,
     j: usize,
 )
-    requires { ⌜ (i < 64) × (j < 64) ⌝ }
+    requires { ⌜ (i < elements) × (j < elements) ⌝ }
     ensures { λ _. ⌜ network (now (flow .exit)) (now (givers .exit)) (now (left .exit)) (now (right .exit)) ≡ handing i (network (now (flow .entry)) (now (givers .entry)) (now (left .entry)) (now (right .entry))) j ⌝ }
 {
     let d = words::smaller(left[i], right[j]);
@@ -146,23 +144,49 @@ pub fn pass(
 
 // Slack of the element i becomes flow to each element of its row, lowest first, as long as it has some.
 pub fn hand(
-    flow: &mut [u32; 4096],
-    givers: &mut [u64; 64],
-    left: &mut [u32; 64],
-    right: &mut [u32; 64],
-    row: u64,
+    flow: &mut [u32; ELEMENTS * ELEMENTS],
+    givers: &mut Rows,
+    left: &mut [u32; ELEMENTS],
+    right: &mut [u32; ELEMENTS],
+    row: Set,
     i: usize,
 )
-    requires { ⌜ i < 64 ⌝ }
-    ensures { λ _. ⌜ network (now (flow .exit)) (now (givers .exit)) (now (left .exit)) (now (right .exit)) ≡ each 64 (handing i) (network (now (flow .entry)) (now (givers .entry)) (now (left .entry)) (now (right .entry))) row ⌝ }
+    requires { ⌜ i < elements ⌝ }
+    ensures { λ _. ⌜ network (now (flow .exit)) (now (givers .exit)) (now (left .exit)) (now (right .exit)) ≡ each elements (handing i) (network (now (flow .entry)) (now (givers .entry)) (now (left .entry)) (now (right .entry))) (numberOf row) ⌝ }
 {
     let mut w = row;
-    while w != 0 {
+    while !w.is_empty() {
         if left[i] == 0 {
             return;
         }
-        let j = words::lowest(w);
+        let j = w.lowest();
         pass(flow, givers, left, right, i, j);
-        w = words::without_lowest(w);
+        w = w.without_lowest();
+    }
+}
+
+// What the elements of `set` hand over to j is taken back.
+fn take_from(flow: &mut [u32; ELEMENTS * ELEMENTS], set: Set, j: usize)
+    requires { ⌜ j < elements ⌝ }
+    ensures { λ _. ⌜ now (flow .exit) ≡ each elements (dropping j) (now (flow .entry)) (numberOf set) ⌝ }
+{
+    let mut w = set;
+    while !w.is_empty() {
+        let i = w.lowest();
+        let at = i * ELEMENTS + j;
+        flow[at] = 0;
+        w = w.without_lowest();
+    }
+}
+
+// What the takers of `set` were handed over is taken back.
+pub fn take_back(flow: &mut [u32; ELEMENTS * ELEMENTS], givers: &Rows, set: Set)
+    ensures { λ _. ⌜ now (flow .exit) ≡ takenBack (now (givers .entry)) (now (flow .entry)) (numberOf set) ⌝ }
+{
+    let mut w = set;
+    while !w.is_empty() {
+        let j = w.lowest();
+        take_from(flow, order::row(givers, j), j);
+        w = w.without_lowest();
     }
 }

@@ -1,74 +1,82 @@
-// The search for a way to hand over more, level by level, by words.
+// The search for a way to hand over more, level by level, by sets.
 ghost use mathlib.Core.Path.{_≡_};
 ghost use Prim.Native.Nat.{_<_};
 ghost use Rattle.words.specs.Loops.{each};
-ghost use Rattle.flow.specs.Search.{marks, seen, visit, reached, advance, begun, reach};
+ghost use Rattle.order.specs.Stored.{elements, bound, numberOf};
+ghost use Rattle.flow.specs.Search.{looked, marks, seen, visit, reached, advance, begun, reach};
 use crate::Search;
+use order::ELEMENTS;
+use order::Rows;
+use order::Set;
 
-// Each element of `word` gets the parent `from`.
-pub fn mark(parents: &mut [usize; 64], word: u64, from: usize)
-    ensures { λ _. ⌜ now (parents .exit) ≡ marks (now (parents .entry)) word from ⌝ }
+// Each element of `set` gets the parent `from`.
+pub fn mark(parents: &mut [usize; ELEMENTS], set: Set, from: usize)
+    ensures { λ _. ⌜ now (parents .exit) ≡ marks (now (parents .entry)) (numberOf set) from ⌝ }
 {
-    let mut w = word;
-    while w != 0 {
-        let b = words::lowest(w);
+    let mut w = set;
+    while !w.is_empty() {
+        let b = w.lowest();
         parents[b] = from;
-        w = words::without_lowest(w);
+        w = w.without_lowest();
     }
 }
 
-// The givers of the elements of `word` join those `known`: each new one gets the element as its parent.
-pub fn spread(givers: &[u64; 64], parents: &mut [usize; 64], word: u64, known: u64) -> u64
-    ensures { λ r. ⌜ seen r (now (parents .exit)) ≡ each 64 (visit (now (givers .entry))) (seen known (now (parents .entry))) word ⌝ }
+// The givers of the elements of `set` join those `known`: each new one gets the element as its parent.
+pub fn spread(givers: &Rows, parents: &mut [usize; ELEMENTS], set: Set, known: Set) -> Set
+    ensures { λ r. ⌜ seen (numberOf r) (now (parents .exit)) ≡ each elements (visit (now (givers .entry))) (seen (numberOf known) (now (parents .entry))) (numberOf set) ⌝ }
 {
-    let mut w = word;
+    let mut w = set;
     let mut s = known;
-    while w != 0 {
-        let j = words::lowest(w);
-        let back = words::without(givers[j], s);
+    while !w.is_empty() {
+        let j = w.lowest();
+        let back = order::row(givers, j).minus(s);
         mark(parents, back, j);
-        s |= back;
-        w = words::without_lowest(w);
+        s = s.union(back);
+        w = w.without_lowest();
     }
     s
 }
 
 // One turn of a search, at the lowest element of its frontier.
 pub fn turn(
-    rows: &[u64; 64],
-    givers: &[u64; 64],
-    slack: u64,
-    lefts: &mut [usize; 64],
-    rights: &mut [usize; 64],
+    rows: &Rows,
+    givers: &Rows,
+    slack: Set,
+    lefts: &mut [usize; ELEMENTS],
+    rights: &mut [usize; ELEMENTS],
     s: Search,
 ) -> Search
-    requires { ⌜ 0 < s .frontier ⌝ }
-    ensures { λ r. ⌜ reached r (now (lefts .exit)) (now (rights .exit)) ≡ advance (now (rows .entry)) (now (givers .entry)) slack (reached s (now (lefts .entry)) (now (rights .entry))) ⌝ }
+    requires { ⌜ (0 < numberOf (s .frontier)) × (numberOf (s .frontier) < bound) ⌝ }
+    ensures { λ r. ⌜ reached (looked r) (now (lefts .exit)) (now (rights .exit)) ≡ advance (now (rows .entry)) (now (givers .entry)) (numberOf slack) (reached (looked s) (now (lefts .entry)) (now (rights .entry))) ⌝ }
 {
-    let i = words::lowest(s.frontier);
-    let rest = words::without_lowest(s.frontier);
-    let new = words::without(rows[i], s.right);
+    let frontier = s.frontier;
+    let known = s.left;
+    let taken = s.right;
+    let later = s.next;
+    let i = frontier.lowest();
+    let rest = frontier.without_lowest();
+    let new = order::row(rows, i).minus(taken);
     mark(rights, new, i);
-    let right = s.right | new;
-    let hit = new & slack;
-    if hit != 0 {
+    let right = taken.union(new);
+    let hit = new.meet(slack);
+    if !hit.is_empty() {
         return Search {
-            frontier: 0,
-            next: 0,
-            left: s.left,
+            frontier: Set::EMPTY,
+            next: Set::EMPTY,
+            left: known,
             right,
-            at: words::lowest(hit),
+            at: hit.lowest(),
         };
     }
-    let left = spread(givers, lefts, new, s.left);
-    let next = s.next | (left ^ s.left);
-    if rest == 0 {
+    let left = spread(givers, lefts, new, known);
+    let next = later.union(left.minus(known));
+    if rest.is_empty() {
         Search {
             frontier: next,
-            next: 0,
+            next: Set::EMPTY,
             left,
             right,
-            at: 64,
+            at: ELEMENTS,
         }
     } else {
         Search {
@@ -76,32 +84,33 @@ pub fn turn(
             next,
             left,
             right,
-            at: 64,
+            at: ELEMENTS,
         }
     }
 }
 
 // A search from the roots, level by level: it ends at a right copy with slack, or where nothing new is reached.
 pub fn seek(
-    rows: &[u64; 64],
-    givers: &[u64; 64],
-    roots: u64,
-    slack: u64,
-    lefts: &mut [usize; 64],
-    rights: &mut [usize; 64],
+    rows: &Rows,
+    givers: &Rows,
+    roots: Set,
+    slack: Set,
+    lefts: &mut [usize; ELEMENTS],
+    rights: &mut [usize; ELEMENTS],
 ) -> Search
-    ensures { λ r. ⌜ reached r (now (lefts .exit)) (now (rights .exit)) ≡ reach 64 (now (rows .entry)) (now (givers .entry)) slack (reached (begun roots) (now (lefts .entry)) (now (rights .entry))) ⌝ }
+    ensures { λ r. ⌜ reached (looked r) (now (lefts .exit)) (now (rights .exit)) ≡ reach elements (now (rows .entry)) (now (givers .entry)) (numberOf slack) (reached (begun (numberOf roots)) (now (lefts .entry)) (now (rights .entry))) ⌝ }
 {
     let mut s = Search {
         frontier: roots,
-        next: 0,
+        next: Set::EMPTY,
         left: roots,
-        right: 0,
-        at: 64,
+        right: Set::EMPTY,
+        at: ELEMENTS,
     };
     let mut k: usize = 0;
-    while k < 64 {
-        if s.frontier == 0 {
+    while k < ELEMENTS {
+        let frontier = s.frontier;
+        if frontier.is_empty() {
             return s;
         }
         s = turn(rows, givers, slack, lefts, rights, s);

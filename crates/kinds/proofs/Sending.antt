@@ -54,21 +54,21 @@ module _ (job : List ℕ) (m : ℕ) where
 
 -- ---- what the solver says of kind k: the demands, the quote and the flow as code has them are those of the definitions
 
-module _ (o : Order) (demand : List ℕ) (k : ℕ) (own flow : List ℕ) (q : Quoted)
-    (e : own ≡ demandsFor demand k) (p : q ≡ quoteOf o own) (w : flow ≡ flowOf o own) where
-  pub solved-need : q .need ≡ quoteOf o (demandsFor demand k) .need
-  solved-need = ap (λ (x : Quoted). x .need) p ∙ ap (λ (x : List ℕ). quoteOf o x .need) e
+module _ (m : ℕ) (o : Order) (demand : List ℕ) (k : ℕ) (own flow : List ℕ) (q : Quoted)
+    (e : own ≡ demandsFor demand k) (p : q ≡ quoteOf m o own) (w : flow ≡ flowOf m o own) where
+  pub solved-need : q .need ≡ quoteOf m o (demandsFor demand k) .need
+  solved-need = ap (λ (x : Quoted). x .need) p ∙ ap (λ (x : List ℕ). quoteOf m o x .need) e
 
-  solved-flow : flow ≡ flowOf o (demandsFor demand k)
-  solved-flow = w ∙ ap (flowOf o) e
+  solved-flow : flow ≡ flowOf m o (demandsFor demand k)
+  solved-flow = w ∙ ap (flowOf m o) e
 
-  pub solved-bounded : (m : ℕ) → Bounded m (asked (demandsFor demand k)) (handed (flowOf o (demandsFor demand k))) → Bounded m (asked own) (handed flow)
-  solved-bounded m h =
+  pub solved-bounded : Bounded m (asked (demandsFor demand k)) (handed (flowOf m o (demandsFor demand k))) → Bounded m (asked own) (handed flow)
+  solved-bounded h =
       subst (λ (x : List ℕ). Bounded m (asked own) (handed x)) (sym solved-flow)
-      (subst (λ (x : List ℕ). Bounded m (asked x) (handed (flowOf o (demandsFor demand k)))) (sym e) h)
+      (subst (λ (x : List ℕ). Bounded m (asked x) (handed (flowOf m o (demandsFor demand k)))) (sym e) h)
 
-  pub solved-units : (m available : ℕ) → units m own flow (available - q .need) ≡ kindUnits o demand k available m
-  solved-units m available =
+  pub solved-units : (available : ℕ) → units m own flow (available - q .need) ≡ kindUnits o demand k available m
+  solved-units available =
       ap (λ (x : List ℕ). units m x flow (available - q .need)) e
       ∙ ap (λ (x : List ℕ). units m (demandsFor demand k) x (available - q .need)) solved-flow
-      ∙ ap (λ (x : ℕ). units m (demandsFor demand k) (flowOf o (demandsFor demand k)) (available - x)) solved-need
+      ∙ ap (λ (x : ℕ). units m (demandsFor demand k) (flowOf m o (demandsFor demand k)) (available - x)) solved-need

@@ -23,7 +23,7 @@ units m demand flow spare = nodeFlow m (asked demand) (handed flow) 0 spare
 -- those of kind k, as the solver hands over, where so many are available
 abbrev pub kindUnits : Order → List ℕ → ℕ → ℕ → ℕ → ℕ → ℕ → ℕ
 kindUnits o demand k available m =
-    units m (demandsFor demand k) (flowOf o (demandsFor demand k)) (available - quoteOf o (demandsFor demand k) .need)
+    units m (demandsFor demand k) (flowOf m o (demandsFor demand k)) (available - quoteOf m o (demandsFor demand k) .need)
 
 -- no element hands over or takes over more than its demand, and demands are of 32 bits
 pub record Bounded (m : ℕ) (d : ℕ → ℕ) (f : ℕ → ℕ → ℕ) : Type 0 where

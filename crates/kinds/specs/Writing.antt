@@ -8,9 +8,9 @@ use lib.ListN.{length, take, drop}
 use Rattle.words.specs.Loops.{upto}
 use Rattle.records.specs.Records.{flowRecord}
 
--- there is room for n records
+-- there is room for n records (a pair of nodes is two bytes)
 pub record Room (n : ℕ) (out : List ℕ) : Type 0 where
-  pub few : n ≤ 4096
+  pub few : n ≤ 65536
   pub fits : 24 * n ≤ length out
 
 -- the lent bytes, with the number of records that are written to them

@@ -1,6 +1,7 @@
 // The flow of one kind, as records: one for each pair of nodes with positive units, ascending by from, then to.
 ghost use mathlib.Core.Path.{_≡_};
 ghost use Prim.Native.Nat.{suc, _+_, _≤_, _<_};
+ghost use Rattle.order.specs.Stored.{elements};
 ghost use Rattle.flow.specs.Network.{handed};
 ghost use Rattle.flow.specs.Quote.{quoteOf, flowOf};
 ghost use Rattle.flow.specs.Sound.{asked};
@@ -9,7 +10,10 @@ ghost use Rattle.kinds.specs.Flows.{Bounded, units, markOf, pairsFrom, p
 ghost use Rattle.kinds.specs.Writing.{Room, lent, putPair, putRow, putFlow};
 use crate::needs::demands_for;
 use crate::units::units;
+use order::ELEMENTS;
 use order::Order;
+use order::Rows;
+use order::row;
 
 // A number, as a byte.
 pub fn byte(x: usize) -> u8
@@ -20,8 +24,8 @@ pub fn byte(x: usize) -> u8
 }
 
 // The added mark of the pair from a node to node j + 1.
-fn mark(job: &[u64; 64], m: usize, from: usize, j: usize) -> u8
-    requires { ⌜ (m ≤ 64) × (from ≤ m) × (j ≤ m) ⌝ }
+fn mark(job: &Rows, m: usize, from: usize, j: usize) -> u8
+    requires { ⌜ (m ≤ elements) × (from ≤ m) × (j ≤ m) ⌝ }
     ensures { λ r. ⌜ r ≡ markOf (now (job .entry)) m from (suc j) ⌝ }
 {
     if from == 0 {
@@ -30,7 +34,7 @@ fn mark(job: &[u64; 64], m: usize, from: usize, j: usize) -> u8
     if j == m {
         return 0;
     }
-    if words::has(job[from - 1], j) {
+    if row(job, from - 1).has(j) {
         return 0;
     }
     1
@@ -63,12 +67,12 @@ fn put_row(
     kind: u8,
     from: usize,
     m: usize,
-    demand: &[u32; 64],
-    flow: &[u32; 4096],
+    demand: &[u32; ELEMENTS],
+    flow: &[u32; ELEMENTS * ELEMENTS],
     spare: u32,
-    job: &[u64; 64],
+    job: &Rows,
 ) -> usize
-    requires { ⌜ (m ≤ 64) × (from ≤ m) × Bounded m (asked (now demand)) (handed (now flow))
+    requires { ⌜ (m ≤ elements) × (from ≤ m) × Bounded m (asked (now demand)) (handed (now flow))
         × Room (n + pairsFrom (units m (now demand) (now flow) spare) (m + 2) from) (now out) ⌝ }
     ensures { λ r. ⌜ lent r (now (out .exit))
         ≡ putRow kind (units m (now (demand .entry)) (now (flow .entry)) spare) (markOf (now (job .entry)) m) m from (lent n (now (out .entry))) ⌝ }
@@ -86,12 +90,12 @@ fn put_flow(
     out: &mut [u8],
     kind: u8,
     m: usize,
-    demand: &[u32; 64],
-    flow: &[u32; 4096],
+    demand: &[u32; ELEMENTS],
+    flow: &[u32; ELEMENTS * ELEMENTS],
     spare: u32,
-    job: &[u64; 64],
+    job: &Rows,
 ) -> usize
-    requires { ⌜ (m ≤ 64) × Bounded m (asked (now demand)) (handed (now flow))
+    requires { ⌜ (m ≤ elements) × Bounded m (asked (now demand)) (handed (now flow))
         × Room (pairsOf (units m (now demand) (now flow) spare) (m + 2)) (now out) ⌝ }
     ensures { λ r. ⌜ lent r (now (out .exit))
         ≡ putFlow kind (units m (now (demand .entry)) (now (flow .entry)) spare) (markOf (now (job .entry)) m) m (lent 0 (now (out .entry))) ⌝ }
@@ -107,22 +111,22 @@ fn put_flow(
 pub fn write_flow(
     out: &mut [u8],
     order: Order,
-    job: &[u64; 64],
-    demand: &[u32; 512],
+    job: &Rows,
+    demand: &[u32; 8 * ELEMENTS],
     k: usize,
     available: u32,
     m: usize,
 ) -> usize
-    requires { ⌜ (k < 8) × (m ≤ 64)
-        × Bounded m (asked (demandsFor (now demand) k)) (handed (flowOf order (demandsFor (now demand) k)))
-        × (quoteOf order (demandsFor (now demand) k) .need ≤ available)
+    requires { ⌜ (k < 8) × (m ≤ elements)
+        × Bounded m (asked (demandsFor (now demand) k)) (handed (flowOf m order (demandsFor (now demand) k)))
+        × (quoteOf m order (demandsFor (now demand) k) .need ≤ available)
         × Room (pairsOf (kindUnits order (now demand) k available m) (m + 2)) (now out) ⌝ }
     ensures { λ r. ⌜ lent r (now (out .exit))
         ≡ putFlow (k + 1) (kindUnits order (now (demand .entry)) k available m) (markOf (now (job .entry)) m) m (lent 0 (now (out .entry))) ⌝ }
 {
     let own = demands_for(demand, k);
-    let mut flow: [u32; 4096] = [0; 4096];
-    let quoted = flow::quote(order, &own, &mut flow);
+    let mut flow: [u32; ELEMENTS * ELEMENTS] = [0; ELEMENTS * ELEMENTS];
+    let quoted = flow::quote(order, m, &own, &mut flow);
     let need = quoted.need;
     let spare = available - need;
     put_flow(out, byte(k + 1), m, &own, &flow, spare, job)

@@ -18,6 +18,12 @@ pub fn put_overload(out: &mut [u8], over: Overload, n: usize) -> usize
         return 0;
     }
     let set = over.set;
-    records::write_overload(out, byte(kind + 1), byte(set.size()), over.need, set.word);
+    records::write_overload(
+        out,
+        byte(kind + 1),
+        byte(set.size()),
+        over.need,
+        set.first_word(),
+    );
     1
 }

@@ -9,7 +9,8 @@ use native.Mathlib.Omega.{arith}
 use Rattle.words.specs.Bits.{bit}
 use Rattle.words.proofs.Tests.{clash}
 use Rattle.order.specs.Before.{Within, Drawn, Arc, arc, In}
-use Rattle.order.specs.Rows.{row, after, Represents, rowsOf, arcsFrom, arcsIn}
+use Rattle.order.specs.Stored.{row}
+use Rattle.order.specs.Rows.{after, Represents, rowsOf, arcsFrom, arcsIn}
 use Rattle.order.proofs.Before.{before-same, in-none, in-cons}
 use Rattle.order.proofs.Represents.{represents-same, empty-represents, grow-represents}
 

@@ -1,6 +1,6 @@
 -- Warshall's closure: n rows of arcs, with one element after the other as a way through, represent the order of the arcs. For any n.
 -- Assumes nothing.
-use mathlib.Core.Path.{_≡_, sym, ap, _∙_}
+use mathlib.Core.Path.{_≡_, sym, ap, _∙_, subst}
 use mathlib.Core.Bool.{true, _&&_, _||_, cond}
 use mathlib.Core.List.{List}
 use mathlib.Core.Logic.{_⊎_, inl, inr, ⊎-elim, _↔_}
@@ -10,40 +10,39 @@ use native.Mathlib.Omega.{arith}
 use lib.Dec.{eqb}
 use borrow.Author.Tests.{eqb-true}
 use lib.Bits.{bitOr, or-lt}
-use lib.Pow.{pow-pos}
 use lib.ListN.{length}
 use Rattle.words.specs.Bits.{bit}
 use Rattle.words.specs.Loops.{upto}
-use Rattle.words.specs.Tables.{table}
 use Rattle.words.proofs.Tests.{clash, or-says, and-says, or-left, or-right, cond-has, below-suc, same-or-not}
 use Rattle.words.proofs.Bits.{bit-above, bit-or, bit-zero}
-use Rattle.words.proofs.Tables.{updated, length-table, getD-table}
 use Rattle.order.specs.Before.{Before, last, Drawn}
-use Rattle.order.specs.Rows.{row, after, Represents, passed, passing, endsIn, passingOver}
+use Rattle.order.specs.Stored.{cells, row, rowTable, RowsFit}
+use Rattle.order.specs.Rows.{after, Represents, passed, passing, endsIn, passingOver}
 use Rattle.order.proofs.Before.{before-trans, before-least}
-use Rattle.order.proofs.Represents.{row-past, after-past, bit-cond}
+use Rattle.order.proofs.Represents.{after-past, bit-cond}
+use Rattle.order.proofs.Stored.{row-table, length-rows, rows-updated, row-fit, fit-table}
 
 -- what holds of the rows when the elements below k have been ways through: arcs are there, what is there is a way, and ways through an
 -- element below k are there
 pub record Closing (n : ℕ) (A : ℕ → ℕ → Type 0) (k : ℕ) (rows : List ℕ) : Type 0 where
-  pub long : length rows ≡ n
-  pub fit : (i : ℕ) → row rows i < 2 ^ n
+  pub long : length rows ≡ cells n
+  pub fit : RowsFit n rows
   pub holds : (i j : ℕ) → A i j → after rows i j ≡ true
   pub sound : (i j : ℕ) → after rows i j ≡ true → Before A i j
   pub through : (p : ℕ) → p < k → (i j : ℕ) → after rows i p ≡ true → after rows p j ≡ true → after rows i j ≡ true
 
-module _ (n : ℕ) (rows : List ℕ) (long : length rows ≡ n) (k : ℕ) where
+module _ (n : ℕ) (rows : List ℕ) (long : length rows ≡ cells n) (k : ℕ) where
   pass-row : ℕ → ℕ
   pass-row i = passed k (row rows k) (row rows i)
 
-  pass-table : passing n k rows ≡ table n (λ i. passed k (row rows k) (row rows i))
-  pass-table = updated (λ i w. passed k (row rows k) w) n rows long
+  pass-table : passing n k rows ≡ rowTable n (λ i. passed k (row rows k) (row rows i))
+  pass-table = rows-updated (λ i w. passed k (row rows k) w) n rows long
 
-  pass-long : length (passing n k rows) ≡ n
-  pass-long = ap length pass-table ∙ length-table n (λ i. passed k (row rows k) (row rows i))
+  pass-long : length (passing n k rows) ≡ cells n
+  pass-long = ap length pass-table ∙ length-rows n (λ i. passed k (row rows k) (row rows i))
 
   row-pass : (i : ℕ) → i < n → row (passing n k rows) i ≡ passed k (row rows k) (row rows i)
-  row-pass i h = ap (λ (l : List ℕ). row l i) pass-table ∙ getD-table n (λ i. passed k (row rows k) (row rows i)) i 0 h
+  row-pass i h = ap (λ (l : List ℕ). row l i) pass-table ∙ row-table n (λ i. passed k (row rows k) (row rows i)) i h
 
   -- after the pass i is before j where it was, or was before k and k before j
   abbrev Passed : ℕ → ℕ → Type 0
@@ -76,14 +75,14 @@ module _ (n : ℕ) (rows : List ℕ) (long : length rows ≡ n) (k : ℕ) where
       )
 
 module _ (n : ℕ) (A : ℕ → ℕ → Type 0) (k : ℕ) (rows : List ℕ) (c : Closing n A k rows) where
-  pass-fit : (i : ℕ) → row (passing n k rows) i < 2 ^ n
-  pass-fit i = at (decLt i n)
+  pass-fit : RowsFit n (passing n k rows)
+  pass-fit =
+      subst (RowsFit n) (sym (pass-table n rows (c .long) k))
+      (fit-table n (λ i. passed k (row rows k) (row rows i))
+      (λ i h. cond-has (λ w. w < 2 ^ n) (after rows i k) (bitOr (row rows i) (row rows k)) (row rows i) (λ e. or-lt n (row rows i) (row rows k) (fit i) (fit k)) (λ e. fit i)))
     where
-      at : Dec (i < n) → row (passing n k rows) i < 2 ^ n
-      at (yes h) =
-          rw (row-pass n rows (c .long) k i h)
-          (cond-has (λ w. w < 2 ^ n) (after rows i k) (bitOr (row rows i) (row rows k)) (row rows i) (λ e. or-lt n (row rows i) (row rows k) (c .fit i) (c .fit k)) (λ e. c .fit i))
-      at (no h) = rw (row-past n (passing n k rows) i (pass-long n rows (c .long) k) (omega arith)) (pow-pos n)
+      fit : (i : ℕ) → row rows i < 2 ^ n
+      fit = row-fit n rows (c .fit)
 
   -- the pass changes neither who is before k, nor what k is before
   to-k : (i : ℕ) → Passed n rows (c .long) k i k → after rows i k ≡ true
@@ -122,7 +121,7 @@ module _ (n : ℕ) (A : ℕ → ℕ → Type 0) (k : ℕ) (rows : List ℕ) (c :
       says i j = after-pass n rows (c .long) k i j .1
 
 -- n rows of n digits are where it starts
-pub closing-start : (n : ℕ) (rows : List ℕ) → length rows ≡ n → ((i : ℕ) → row rows i < 2 ^ n) → Closing n (Drawn n (after rows)) 0 rows
+pub closing-start : (n : ℕ) (rows : List ℕ) → length rows ≡ cells n → RowsFit n rows → Closing n (Drawn n (after rows)) 0 rows
 closing-start n rows long fit =
     record {
       long = long;
@@ -137,7 +136,7 @@ closing-start n rows long fit =
       where
         go : Dec (j < n) → j < n
         go (yes h) = h
-        go (no h) = clash e (bit-above n (row rows i) j (fit i) (omega arith))
+        go (no h) = clash e (bit-above n (row rows i) j (row-fit n rows fit i) (omega arith))
 
 -- and at the end every way is there
 pub closing-end : (n : ℕ) (arcs rows : List ℕ) → Closing n (Drawn n (after arcs)) n rows → Represents n rows (Drawn n (after arcs))
@@ -196,7 +195,7 @@ module _ (n : ℕ) (arcs : List ℕ) where
       (λ f. skip-closing n (Drawn n (after arcs)) k rows c
       (λ i j a b. let l = last-arc (c .sound i k a) in clash (ends-in n arcs (l .0) k (l .1 .from) (l .1 .drawn)) f)))
 
-  pub closed : length arcs ≡ n → ((i : ℕ) → row arcs i < 2 ^ n) → Represents n (upto (passingOver n (endsIn n arcs)) n arcs) (Drawn n (after arcs))
+  pub closed : length arcs ≡ cells n → RowsFit n arcs → Represents n (upto (passingOver n (endsIn n arcs)) n arcs) (Drawn n (after arcs))
   unfolding upto
   closed long fit = closing-end n arcs (upto (passingOver n (endsIn n arcs)) n arcs) (run n)
     where

@@ -1,21 +1,23 @@
--- Laws of orders of 64 elements: each says what arcs an order is the order of. Whoever builds on an order cites these. Assumes nothing.
+-- Laws of orders of all elements: each says what arcs an order is the order of. Whoever builds on an order cites these. Assumes nothing.
 use mathlib.Core.Path.{_≡_, refl, sym, ap, _∙_}
 use mathlib.Core.Bool.{Bool, true, false, _||_}
 use mathlib.Core.List.{List, [], _∷_, _++_, List·Memᴰ·head, List·Memᴰ·tail, List·Memᴰ·cases-cons, List·Memᴰ·append-cases, List·Memᴰ·eq-of-singleton, Memᴰ·append-left, Memᴰ·append-right}
 use mathlib.Core.Logic.{_⊎_, inl, inr, ⊎-elim, _↔_, Iff·symm}
-use Prim.Native.Nat.{ℕ, _^_, _≤_, _<_}
+use Prim.Native.Nat.{ℕ, _≤_, _<_}
 use lib.Bits.{bitOr}
-use lib.ListN.{length, getD}
+use lib.ListN.{length}
 use Rattle.words.specs.Bits.{bit}
 use Rattle.words.specs.Loops.{upto}
 use Rattle.words.proofs.Bits.{bit-or}
 use Rattle.words.proofs.Tests.{clash, or-says}
-use Rattle.words.proofs.Tables.{getD-table}
 use Rattle.order.specs.Before.{Before, Joined, Acyclic, With, NoArc, StrictOrder, Within, Drawn, Arc, arc, _∈_, In}
-use Rattle.order.specs.Rows.{row, after, Represents, grow, rowsOf, arcsIn, endsIn, passingOver}
+use Rattle.order.specs.Stored.{elements, bound, numberOf, cells, row, RowsFit}
+use Rattle.order.specs.Rows.{after, Represents, grow, rowsOf, arcsIn, endsIn, passingOver}
 use Rattle.order.specs.Sets.{member}
-use Rattle.order.specs.Orders.{OrderOf, isBefore, afterOf, afterWords, emptyOrder, extended, circleOf, orderOf, Direct, orderIn, joinedRows}
+use Rattle.order.specs.Orders.{OrderOf, isBefore, afterOf, afterRows, emptyOrder, extended, circleOf, orderOf, Direct, orderIn, joinedRows}
 use Rattle.order.specs.declared.Order.{Order}
+use Rattle.order.proofs.Stored.{number-set, to-bound, row-table, row-fit}
+use Rattle.order.proofs.Sets.{member-set}
 use Rattle.order.proofs.Before.{before-same, before-implied, drawn-within}
 use Rattle.order.proofs.Represents
 use Rattle.order.proofs.Closure.{closed}
@@ -27,20 +29,20 @@ ofRows rs = record { rows = rs }
 -- ---- the order without arcs, and one arc more
 
 pub empty-order : OrderOf emptyOrder NoArc
-empty-order = Represents.empty-represents 64
+empty-order = Represents.empty-represents elements
 
-pub extended-order : (o : Order) {A : ℕ → ℕ → Type 0} (x y : ℕ) → OrderOf o A → x < 64 → y < 64 → OrderOf (extended o x y) (With A x y)
+pub extended-order : (o : Order) {A : ℕ → ℕ → Type 0} (x y : ℕ) → OrderOf o A → x < elements → y < elements → OrderOf (extended o x y) (With A x y)
 unfolding extended
-extended-order o x y r hx hy = Represents.grow-represents 64 (o .rows) x y r hx hy
+extended-order o x y r hx hy = Represents.grow-represents elements (o .rows) x y r hx hy
 
 -- ---- what an order says, whatever arcs it is of
 
 pub after-member : (o : Order) (i j : ℕ) → member (afterOf o i) j ≡ isBefore o i j
-after-member o i j = refl
+after-member o i j = member-set (row (o .rows) i) j
 
-pub after-word : (o : Order) (i : ℕ) → i < 64 → getD (afterWords o) i 0 ≡ afterOf o i .word
-unfolding afterWords
-after-word o i h = getD-table 64 (λ k. afterOf o k .word) i 0 h
+pub after-row : (o : Order) (i : ℕ) → row (afterRows o) i ≡ numberOf (afterOf o i)
+unfolding afterRows
+after-row o i = sym (number-set (row (o .rows) i))
 
 -- ---- what an order of arcs says
 
@@ -58,25 +60,25 @@ module _ {o : Order} {A : ℕ → ℕ → Type 0} (r : OrderOf o A) where
   order-free = Represents.after-free r
 
   -- without a circle it is a strict order
-  pub order-strict : Acyclic A → StrictOrder 64 (isBefore o)
+  pub order-strict : Acyclic A → StrictOrder elements (isBefore o)
   order-strict free =
       record { irreflexive = λ i h e. clash e (order-free free i); transitive = λ i j k hi hj hk. order-trans i j k }
 
-  -- the set of all that i is before, by its members; it is a word of 64 digits
-  pub after-fit : (i : ℕ) → afterOf o i .word < 2 ^ 64
-  after-fit = r .fit
+  -- the set of all that i is before, by its members; it has a digit for each element
+  pub after-fit : (i : ℕ) → numberOf (afterOf o i) < bound
+  after-fit i = rw (number-set (row (o .rows) i)) (to-bound (row-fit elements (o .rows) (r .fit) i))
 
-  pub circle-le : circleOf o ≤ 64
+  pub circle-le : circleOf o ≤ elements
   unfolding circleOf
   circle-le = Represents.circle-le r
 
   -- no circle is found exactly where there is none
-  pub circle-none : (circleOf o ≡ 64) ↔ Acyclic A
+  pub circle-none : (circleOf o ≡ elements) ↔ Acyclic A
   unfolding circleOf
   circle-none = Represents.circle-none r
 
   -- the element that is found is before itself, and none below it is
-  pub circle-lowest : circleOf o < 64 → Before A (circleOf o) (circleOf o) × ((i : ℕ) → i < circleOf o → Before A i i → ⊥)
+  pub circle-lowest : circleOf o < elements → Before A (circleOf o) (circleOf o) × ((i : ℕ) → i < circleOf o → Before A i i → ⊥)
   unfolding circleOf
   circle-lowest = Represents.circle-some r
 
@@ -85,7 +87,7 @@ module _ {o : Order} {A : ℕ → ℕ → Type 0} (r : OrderOf o A) where
   order-same {p = p} s same = ap ofRows (Represents.represents-once r (p .rows) s same)
 
   -- adding an arc that is implied changes nothing
-  pub order-implied : (x y : ℕ) → x < 64 → y < 64 → Before A x y → extended o x y ≡ o
+  pub order-implied : (x y : ℕ) → x < elements → y < elements → Before A x y → extended o x y ≡ o
   order-implied x y hx hy b =
       sym (order-same (extended-order o x y r hx hy) (λ i j. Iff·symm (before-implied implied i j)))
     where
@@ -94,21 +96,21 @@ module _ {o : Order} {A : ℕ → ℕ → Type 0} (r : OrderOf o A) where
 
 -- ---- the order of a list of arcs
 
-order-rows : (arcs : List Arc) → orderOf arcs ≡ record { rows = rowsOf 64 arcs }
+order-rows : (arcs : List Arc) → orderOf arcs ≡ record { rows = rowsOf elements arcs }
 unfolding orderOf extended rowsOf
 order-rows [] = refl
-order-rows (a ∷ arcs) = ap (λ (o : Order). ofRows (grow 64 (o .rows) (a .from) (a .to))) (order-rows arcs)
+order-rows (a ∷ arcs) = ap (λ (o : Order). ofRows (grow elements (o .rows) (a .from) (a .to))) (order-rows arcs)
 
-pub list-order : (arcs : List Arc) → Within 64 (In arcs) → OrderOf (orderOf arcs) (In arcs)
-list-order arcs w = rw (order-rows arcs) (rows-represent 64 arcs w)
+pub list-order : (arcs : List Arc) → Within elements (In arcs) → OrderOf (orderOf arcs) (In arcs)
+list-order arcs w = rw (order-rows arcs) (rows-represent elements arcs w)
 
 -- the same arcs, in any order and any number of times, give the same order
-pub list-same : (xs ys : List Arc) → Within 64 (In xs) → ((a : Arc) → (a ∈ xs) ↔ (a ∈ ys)) → orderOf xs ≡ orderOf ys
+pub list-same : (xs ys : List Arc) → Within elements (In xs) → ((a : Arc) → (a ∈ xs) ↔ (a ∈ ys)) → orderOf xs ≡ orderOf ys
 list-same xs ys w same =
     order-same (list-order xs w) (list-order ys (λ i j m. w i j (same (arc i j) .1 m))) (before-same (λ i j. same (arc i j)))
 
 -- so an arc may as well be added last
-pub list-snoc : (arcs : List Arc) (a : Arc) → Within 64 (In (a ∷ arcs)) → orderOf (arcs ++ a ∷ []) ≡ extended (orderOf arcs) (a .from) (a .to)
+pub list-snoc : (arcs : List Arc) (a : Arc) → Within elements (In (a ∷ arcs)) → orderOf (arcs ++ a ∷ []) ≡ extended (orderOf arcs) (a .from) (a .to)
 unfolding orderOf
 list-snoc arcs a w = sym (list-same (a ∷ arcs) (arcs ++ a ∷ []) w (λ b. (there b, back b)))
   where
@@ -124,22 +126,22 @@ pub direct-order : (rows : List ℕ) → OrderOf (orderIn rows) (Direct rows)
 unfolding orderIn
 direct-order rows =
     Represents.represents-same
-    (list-order (arcsIn 64 rows 64) (λ i j m. drawn-within 64 (after rows) i j (arcs-drawn 64 rows i j .0 m)))
-    (before-same (arcs-drawn 64 rows))
+    (list-order (arcsIn elements rows elements) (λ i j m. drawn-within elements (after rows) i j (arcs-drawn elements rows i j .0 m)))
+    (before-same (arcs-drawn elements rows))
 
 -- the same arcs, the same order
 pub direct-same : (xs ys : List ℕ) → ((i j : ℕ) → Direct xs i j ↔ Direct ys i j) → orderIn xs ≡ orderIn ys
 direct-same xs ys same = order-same (direct-order xs) (direct-order ys) (before-same same)
 
 -- Warshall's closure finds it
-pub direct-closed : (rows : List ℕ) → length rows ≡ 64 → ((i : ℕ) → row rows i < 2 ^ 64) → record { rows = upto (passingOver 64 (endsIn 64 rows)) 64 rows } ≡ orderIn rows
-direct-closed rows long fit = order-same (closed 64 rows long fit) (direct-order rows) (λ i j. (λ b. b, λ b. b))
+pub direct-closed : (rows : List ℕ) → length rows ≡ cells elements → RowsFit elements rows → record { rows = upto (passingOver elements (endsIn elements rows)) elements rows } ≡ orderIn rows
+direct-closed rows long fit = order-same (closed elements rows long fit) (direct-order rows) (λ i j. (λ b. b, λ b. b))
 
 -- ---- two tables of arcs together
 
-after-joined : (a b : List ℕ) (i j : ℕ) → i < 64 → after (joinedRows a b) i j ≡ after a i j || after b i j
+after-joined : (a b : List ℕ) (i j : ℕ) → i < elements → after (joinedRows a b) i j ≡ after a i j || after b i j
 unfolding joinedRows
-after-joined a b i j h = ap (λ (w : ℕ). bit w j) (getD-table 64 (λ k. bitOr (row a k) (row b k)) i 0 h) ∙ bit-or (row a i) (row b i) j
+after-joined a b i j h = ap (λ (w : ℕ). bit w j) (row-table elements (λ k. bitOr (row a k) (row b k)) i h) ∙ bit-or (row a i) (row b i) j
 
 -- an arc of the two together is an arc of the one or of the other
 pub direct-joined : (a b : List ℕ) (i j : ℕ) → Direct (joinedRows a b) i j ↔ Joined (Direct a) (Direct b) i j
@@ -150,7 +152,7 @@ direct-joined a b i j = (
       (λ d. drawn (d .from) (d .to) (after-joined a b i j (d .from) ∙ or-says (after a i j) (after b i j) .1 (inr (d .drawn)))),
 )
   where
-    drawn : {test : ℕ → ℕ → Bool} → i < 64 → j < 64 → test i j ≡ true → Drawn 64 test i j
+    drawn : {test : ℕ → ℕ → Bool} → i < elements → j < elements → test i j ≡ true → Drawn elements test i j
     drawn h l e = record { from = h; to = l; drawn = e }
 
 -- the plan order: the order of all arcs

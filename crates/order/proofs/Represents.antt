@@ -3,30 +3,27 @@ use mathlib.Core.Path.{_≡_, refl, sym, ap, _∙_}
 use mathlib.Core.Bool.{Bool, true, false, cond, _&&_, _||_}
 use mathlib.Core.List.{List}
 use mathlib.Core.Logic.{_⊎_, inl, inr, ⊎-elim, _↔_, Iff·trans, Iff·symm, Iff·and}
-use Prim.Native.Nat.{ℕ, zero, suc, _^_, _≤_, _<_}
+use Prim.Native.Nat.{ℕ, _^_, _≤_, _<_}
 use native.Mathlib.Decide.{decLt}
 use native.Mathlib.Omega.{arith}
 use lib.Dec.{eqb}
 use lib.Bits.{bitOr, or-lt}
-use lib.Pow.{pow-pos, pow-lt}
-use lib.ListN.{length, replicate, length-replicate, List·getD-eq-default}
-use lib.Seq.{ext-getD}
+use lib.Pow.{pow-lt}
+use lib.ListN.{length, replicate}
 use Rattle.words.specs.Bits.{bit}
 use Rattle.words.specs.Members.{first}
 use Rattle.words.proofs.Tests.{clash, fails, decided, test-same, or-says, and-says, eqb-says, ⊎-iff, cond-has}
-use Rattle.words.proofs.Tables.{length-table, getD-table}
 use Rattle.words.proofs.Bits.{bit-zero, bit-ext, bit-or, bit-single}
 use Rattle.words.proofs.Firsts.{first-le, first-none, before-first, at-first}
 use Rattle.order.specs.Before.{Before, Acyclic, With, NoArc}
-use Rattle.order.specs.Rows.{row, after, Represents, gain, gained, grow, circleIn}
+use Rattle.order.specs.Stored.{cells, row, RowsFit}
+use Rattle.order.specs.Rows.{after, Represents, gain, gained, grow, circleIn}
+use Rattle.order.proofs.Stored.{row-past, row-table, length-rows, length-blank, row-blank, row-fit, fit-table, fit-blank, rows-same}
 use Rattle.order.proofs.Before.{Through, before-with, before-none, before-trans}
 
 -- ---- there is nothing past the last row
 
-pub row-past : (n : ℕ) (rows : List ℕ) (i : ℕ) → length rows ≡ n → n ≤ i → row rows i ≡ 0
-row-past n rows i e h = List·getD-eq-default rows 0 (omega arith)
-
-pub after-past : (n : ℕ) (rows : List ℕ) (i j : ℕ) → length rows ≡ n → n ≤ i → after rows i j ≡ false
+pub after-past : (n : ℕ) (rows : List ℕ) (i j : ℕ) → length rows ≡ cells n → n ≤ i → after rows i j ≡ false
 after-past n rows i j e h = ap (λ (w : ℕ). bit w j) (row-past n rows i e h) ∙ bit-zero j
 
 -- ---- what rows that represent an order say
@@ -57,8 +54,8 @@ module _ {n : ℕ} {rows : List ℕ} {A : ℕ → ℕ → Type 0} (r : Represent
   -- and no other rows represent them
   pub represents-once : {B : ℕ → ℕ → Type 0} (others : List ℕ) → Represents n others B → ((i j : ℕ) → Before A i j ↔ Before B i j) → rows ≡ others
   represents-once others s same =
-      ext-getD 0 rows others (r .long ∙ sym (s .long))
-      (λ i h. bit-ext n (row rows i) (row others i) (r .fit i) (s .fit i)
+      rows-same n rows others (r .long) (s .long) (r .fit) (s .fit)
+      (λ i h. bit-ext n (row rows i) (row others i) (row-fit n rows (r .fit) i) (row-fit n others (s .fit) i)
       (λ j l. test-same (after rows i j) (after others i j) (Iff·trans (r .means i j) (Iff·trans (same i j) (Iff·symm (s .means i j))))))
 
   -- ---- circles
@@ -86,17 +83,12 @@ module _ {n : ℕ} {rows : List ℕ} {A : ℕ → ℕ → Type 0} (r : Represent
 
 -- ---- no arcs
 
-row-empty : (n i : ℕ) → row (replicate n 0) i ≡ 0
-row-empty zero i = refl
-row-empty (suc n) zero = refl
-row-empty (suc n) (suc i) = row-empty n i
-
-pub empty-represents : (n : ℕ) → Represents n (replicate n 0) NoArc
+pub empty-represents : (n : ℕ) → Represents n (replicate (cells n) 0) NoArc
 empty-represents n =
     record {
-      long = length-replicate n 0;
-      fit = λ i. rw (row-empty n i) (pow-pos n);
-      means = λ i j. ((λ e. clash e (ap (λ (w : ℕ). bit w j) (row-empty n i) ∙ bit-zero j)), (λ b. absurd (before-none b)));
+      long = length-blank n;
+      fit = fit-blank n;
+      means = λ i j. ((λ e. clash e (ap (λ (w : ℕ). bit w j) (row-blank n i) ∙ bit-zero j)), (λ b. absurd (before-none b)));
     }
 
 -- ---- one arc more, from x to y
@@ -117,13 +109,13 @@ module _ (n : ℕ) (rows : List ℕ) (x y : ℕ) where
   abbrev ends : ℕ → Bool
   ends j = after rows y j || eqb j y
 
-  grow-long : length (grow n rows x y) ≡ n
+  grow-long : length (grow n rows x y) ≡ cells n
   unfolding grow
-  grow-long = length-table n (λ i. gained x (gain rows y) i (row rows i))
+  grow-long = length-rows n (λ i. gained x (gain rows y) i (row rows i))
 
   row-grow : (i : ℕ) → i < n → row (grow n rows x y) i ≡ gained x (gain rows y) i (row rows i)
   unfolding grow
-  row-grow i h = getD-table n (λ i. gained x (gain rows y) i (row rows i)) i 0 h
+  row-grow i h = row-table n (λ i. gained x (gain rows y) i (row rows i)) i h
 
   after-grow : (i j : ℕ) → i < n → after (grow n rows x y) i j ≡ after rows i j || (starts i && ends j)
   after-grow i j h =
@@ -133,15 +125,17 @@ module _ (n : ℕ) (rows : List ℕ) (x y : ℕ) where
       (bit-or (row rows y) (2 ^ y) j ∙ ap (λ (b : Bool). after rows y j || b) (bit-single y j))
 
   module _ {A : ℕ → ℕ → Type 0} (r : Represents n rows A) (hx : x < n) (hy : y < n) where
-    grow-fit : (i : ℕ) → row (grow n rows x y) i < 2 ^ n
-    grow-fit i = at (decLt i n)
+    grow-fit : RowsFit n (grow n rows x y)
+    unfolding grow
+    grow-fit = fit-table n (λ i. gained x (gain rows y) i (row rows i)) each
       where
-        more : bitOr (row rows i) (gain rows y) < 2 ^ n
-        more = or-lt n (row rows i) (gain rows y) (r .fit i) (or-lt n (row rows y) (2 ^ y) (r .fit y) (pow-lt hy))
+        fit : (i : ℕ) → row rows i < 2 ^ n
+        fit = row-fit n rows (r .fit)
 
-        at : Dec (i < n) → row (grow n rows x y) i < 2 ^ n
-        at (yes h) = rw (row-grow i h) (cond-has (λ w. w < 2 ^ n) (starts i) (bitOr (row rows i) (gain rows y)) (row rows i) (λ e. more) (λ e. r .fit i))
-        at (no h) = rw (row-past n (grow n rows x y) i grow-long (omega arith)) (pow-pos n)
+        each : (i : ℕ) → i < n → gained x (gain rows y) i (row rows i) < 2 ^ n
+        each i h =
+            cond-has (λ w. w < 2 ^ n) (starts i) (bitOr (row rows i) (gain rows y)) (row rows i)
+            (λ e. or-lt n (row rows i) (gain rows y) (fit i) (or-lt n (row rows y) (2 ^ y) (fit y) (pow-lt hy))) (λ e. fit i)
 
     through : (i j : ℕ) → (starts i && ends j ≡ true) ↔ Through A x y i j
     through i j =

@@ -2,6 +2,7 @@
 -- An element stands for an activity; elements are numbered from 0. The laws are in `proofs/`.
 pub mod Before
 pub mod Nodes
+pub mod Stored
 pub mod Sets
 pub mod Rows
 pub mod Orders

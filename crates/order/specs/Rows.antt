@@ -1,22 +1,18 @@
--- An order of n elements as n rows, each a number of n digits: the members of row i are the elements that i is before. For any n.
+-- An order of n elements as a table of n sets: the members of row i are the elements that i is before. For any n.
 -- Assumes nothing.
 use mathlib.Core.Path.{_≡_}
 use mathlib.Core.Bool.{Bool, true, false, cond, _||_}
 use mathlib.Core.List.{List, [], _∷_}
 use mathlib.Core.Logic.{_↔_}
-use Prim.Native.Nat.{ℕ, zero, suc, _^_, _<_}
+use Prim.Native.Nat.{ℕ, zero, suc}
 use lib.Bits.{bitOr}
 use lib.Dec.{eqb}
-use lib.ListN.{length, getD, replicate}
+use lib.ListN.{length, replicate}
 use Rattle.words.specs.Bits.{bit, withBit}
 use Rattle.words.specs.Members.{first}
-use Rattle.words.specs.Tables.{table}
-use Rattle.words.specs.Loops.{upto, update}
+use Rattle.words.specs.Loops.{upto}
 use Rattle.order.specs.Before.{Before, Arc, arc}
-
--- row i; no members past the last row
-abbrev pub row : List ℕ → ℕ → ℕ
-row rows i = getD rows i 0
+use Rattle.order.specs.Stored.{cells, row, putRow, rowTable, RowsFit}
 
 -- whether row i has the member j: whether i is before j
 abbrev pub after : List ℕ → ℕ → ℕ → Bool
@@ -24,8 +20,8 @@ after rows i j = bit (row rows i) j
 
 -- THE STATED MEANING, on which all else rests: n rows of n digits say which element is before which by the arcs A
 pub record Represents (n : ℕ) (rows : List ℕ) (A : ℕ → ℕ → Type 0) : Type 0 where
-  pub long : length rows ≡ n
-  pub fit : (i : ℕ) → row rows i < 2 ^ n
+  pub long : length rows ≡ cells n
+  pub fit : RowsFit n rows
   pub means : (i j : ℕ) → (after rows i j ≡ true) ↔ Before A i j
 
 -- ---- adding an arc from x to y
@@ -40,13 +36,13 @@ gained x g i w = cond (eqb i x || bit w x) (bitOr w g) w
 
 -- the rows so extended
 unfoldable pub grow : ℕ → List ℕ → ℕ → ℕ → List ℕ
-grow n rows x y = table n (λ i. gained x (gain rows y) i (row rows i))
+grow n rows x y = rowTable n (λ i. gained x (gain rows y) i (row rows i))
 
 -- ---- the rows of arcs
 
 -- of a list: the arcs are added to the rows without arcs
 unfoldable pub rowsOf : ℕ → List Arc → List ℕ
-rowsOf n [] = replicate n 0
+rowsOf n [] = replicate (cells n) 0
 rowsOf n (a ∷ arcs) = grow n (rowsOf n arcs) (a .from) (a .to)
 
 -- the arcs from i to the members of w below k, put before other arcs
@@ -65,9 +61,13 @@ arcsIn n rows (suc k) = arcsFrom k (row rows k) n (arcsIn n rows k)
 abbrev pub passed : ℕ → ℕ → ℕ → ℕ
 passed k g w = cond (bit w k) (bitOr w g) w
 
+-- a step of a loop over the rows: row i becomes what f makes of it
+abbrev pub updateRow : (ℕ → ℕ → ℕ) → ℕ → List ℕ → List ℕ
+updateRow f i rows = putRow rows i (f i (row rows i))
+
 -- the rows, with k as a way through
 abbrev pub passing : ℕ → ℕ → List ℕ → List ℕ
-passing n k rows = upto (update (λ i w. passed k (row rows k) w)) n rows
+passing n k rows = upto (updateRow (λ i w. passed k (row rows k) w)) n rows
 
 -- the elements at which an arc of the first n rows ends
 unfoldable pub endsIn : ℕ → List ℕ → ℕ

@@ -1,7 +1,13 @@
-// Prints the order of plans A to E of document 01, and of 64 elements in a line and on a circle.
+// Prints the order of plans A to E of document 01, and of all elements in a line and on a circle.
 ghost use Prim.Native.Nat.{_<_};
+ghost use Rattle.order.specs.Stored.{elements};
+use order::CELLS;
+use order::ELEMENTS;
 use order::Order;
+use order::Rows;
 use order::Set;
+
+const LAST: usize = ELEMENTS - 1;
 
 fn print_number(x: usize) {
     io::print_decimal(1, x as u64);
@@ -10,9 +16,9 @@ fn print_number(x: usize) {
 // The members of a set, ascending, numbered from 1 as activities are.
 fn print_members(s: Set) {
     let mut left = s;
-    for _k in 0..64usize {
+    for _k in 0..ELEMENTS {
         let low = left.lowest();
-        if low < 64 {
+        if low < ELEMENTS {
             io::write_all(1, b" ");
             print_number(low + 1);
             left = left.without_lowest();
@@ -21,7 +27,7 @@ fn print_members(s: Set) {
 }
 
 fn print_row(o: Order, i: usize)
-    requires { ⌜ i < 64 ⌝ }
+    requires { ⌜ i < elements ⌝ }
 {
     let s = o.after(i);
     print_number(i + 1);
@@ -34,7 +40,7 @@ fn print_row(o: Order, i: usize)
 
 fn print_circle(o: Order) {
     let lowest = o.circle();
-    if lowest < 64 {
+    if lowest < ELEMENTS {
         io::write_all(1, b"circle at ");
         print_number(lowest + 1);
         io::write_all(1, b"\n");
@@ -59,13 +65,13 @@ fn print_test(holds: bool) {
     io::write_all(1, b"no\n");
 }
 
-// The arcs from i to i + 1, for i below 63, as rows; the last row is `end`.
-fn line(end: u64) -> [u64; 64] {
-    let mut rows = [0u64; 64];
-    for i in 0..63usize {
-        rows[i] = words::with_bit(0, i + 1);
+// The arcs from i to i + 1, for i below LAST, as rows; the last row is `end`.
+fn line(end: Set) -> Rows {
+    let mut rows = [0; CELLS];
+    for i in 0..LAST {
+        order::put_row(&mut rows, i, Set::single(i + 1));
     }
-    rows[63] = end;
+    order::put_row(&mut rows, LAST, end);
     rows
 }
 
@@ -87,20 +93,23 @@ fn main() {
     );
     io::write_all(1, b"E\n");
     print_order(Order::empty().with_arc(0, 1).with_arc(1, 0));
-    io::write_all(1, b"64 in a line: 1 before 64, 64 before 1\n");
-    let rows = line(0);
+    io::write_all(
+        1,
+        b"all in a line: the first before the last, the last before the first\n",
+    );
+    let rows = line(Set::EMPTY);
     let o = Order::of(rows);
-    print_test(o.before(0, 63));
-    print_test(o.before(63, 0));
+    print_test(o.before(0, LAST));
+    print_test(o.before(LAST, 0));
     print_circle(o);
-    io::write_all(1, b"with an arc from 64 to 3\n");
-    print_circle(o.with_arc(63, 2));
-    print_circle(Order::of(line(4)));
+    io::write_all(1, b"with an arc from the last to 3\n");
+    print_circle(o.with_arc(LAST, 2));
+    print_circle(Order::of(line(Set::single(2))));
     io::write_all(
         1,
         b"with job arcs of A and the arc from 4 to 1 as a second table\n",
     );
-    let mut extra = [0u64; 64];
-    extra[3] = 1;
-    print_order(Order::of(order::joined(a.after_words(), extra)));
+    let mut extra = [0; CELLS];
+    order::put_row(&mut extra, 3, Set::single(0));
+    print_order(Order::of(order::joined(a.after_rows(), extra)));
 }

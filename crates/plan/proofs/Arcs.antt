@@ -7,8 +7,7 @@ use Prim.Native.Nat.{ℕ, zero, suc, _+_, _-_, _≤_, _<_}
 use native.Mathlib.Nat.{add-zero, add-suc}
 use native.Mathlib.Decide.{ℕ-discrete}
 use native.Mathlib.Omega.{arith}
-use lib.ListN.{length, getD, set, replicate, length-set, length-replicate}
-use lib.Seq.{getD-set-same, getD-set-other}
+use lib.ListN.{length, replicate}
 use lib.Dec.{eqb}
 use borrow.Author.Tests.{eqb-true, eqb-false, eq-eqb, ne-eqb}
 use Rattle.words.specs.Bits.{bit, withBit}
@@ -17,6 +16,8 @@ use Rattle.words.proofs.Bits.{bit-or, bit-single}
 use Rattle.words.proofs.Tests.{or-says, by-test, cond-true, cond-false}
 use Rattle.order.specs.Rows.{after}
 use Rattle.records.specs.Bytes.{byte}
+use Rattle.order.specs.Stored.{elements, cells, row, putRow}
+use Rattle.order.proofs.Stored.{length-put, length-blank, row-put-same, row-put-other}
 use Rattle.plan.specs.Records.{recordAt, typeAt}
 use Rattle.plan.specs.Plans.{withArc, arcsUpTo}
 use Rattle.plan.specs.Phases.{putArc}
@@ -49,7 +50,7 @@ arcs-run s type a (suc n) h =
     ∙ ap (λ (r : List ℕ). withArc r (arcsUpTo s type (a + n))) (sym (record-on s a n))
     ∙ ap (withArc (recordAt (recordAt s a) n)) (arcs-run s type a n (λ i l. h i (omega arith)))
 
-pub arcs-start : (s : List ℕ) (type : ℕ) → arcsUpTo s type 0 ≡ replicate 64 0
+pub arcs-start : (s : List ℕ) (type : ℕ) → arcsUpTo s type 0 ≡ replicate (cells elements) 0
 unfolding arcsUpTo
 arcs-start s type = refl
 
@@ -57,10 +58,10 @@ arcs-start s type = refl
 
 pub length-with-arc : (r rows : List ℕ) → length (withArc r rows) ≡ length rows
 unfolding withArc
-length-with-arc r rows = length-set rows (byte r 1 - 1) (withBit (getD rows (byte r 1 - 1) 0) (byte r 2 - 1))
+length-with-arc r rows = length-put rows (byte r 1 - 1) (withBit (row rows (byte r 1 - 1)) (byte r 2 - 1))
 
-pub length-arcs : (s : List ℕ) (type p : ℕ) → length (arcsUpTo s type p) ≡ 64
-length-arcs s type zero = ap length (arcs-start s type) ∙ length-replicate {A = ℕ} 64 0
+pub length-arcs : (s : List ℕ) (type p : ℕ) → length (arcsUpTo s type p) ≡ cells elements
+length-arcs s type zero = ap length (arcs-start s type) ∙ length-blank elements
 length-arcs s type (suc p) =
     let ih = length-arcs s type p in
     by-test (eqb (typeAt s p) type)
@@ -68,34 +69,34 @@ length-arcs s type (suc p) =
     (λ t. ap length (arcs-skip s type p (eqb-false (typeAt s p) type t)) ∙ ih)
 
 -- it has the arcs that were there, and its own
-pub with-arc : (r rows : List ℕ) (i j : ℕ) → length rows ≡ 64 → 1 ≤ byte r 1 → byte r 1 ≤ 64 → 1 ≤ byte r 2
+pub with-arc : (r rows : List ℕ) (i j : ℕ) → length rows ≡ cells elements → 1 ≤ byte r 1 → byte r 1 ≤ elements → 1 ≤ byte r 2
     → (after (withArc r rows) i j ≡ true) ↔ ((after rows i j ≡ true) ⊎ ((byte r 1 ≡ i + 1) × (byte r 2 ≡ j + 1)))
 unfolding withArc
 with-arc r rows i j long la ha lb = go (byte r 1) (byte r 2) la ha lb
   where
-    go : (a b : ℕ) → 1 ≤ a → a ≤ 64 → 1 ≤ b
-        → (after (set rows (a - 1) (withBit (getD rows (a - 1) 0) (b - 1))) i j ≡ true) ↔ ((after rows i j ≡ true) ⊎ ((a ≡ i + 1) × (b ≡ j + 1)))
+    go : (a b : ℕ) → 1 ≤ a → a ≤ elements → 1 ≤ b
+        → (after (putRow rows (a - 1) (withBit (row rows (a - 1)) (b - 1))) i j ≡ true) ↔ ((after rows i j ≡ true) ⊎ ((a ≡ i + 1) × (b ≡ j + 1)))
     go a b la ha lb = at (ℕ-discrete i (a - 1))
       where
         new : ℕ
-        new = withBit (getD rows (a - 1) 0) (b - 1)
+        new = withBit (row rows (a - 1)) (b - 1)
 
         rows′ : List ℕ
-        rows′ = set rows (a - 1) new
+        rows′ = putRow rows (a - 1) new
 
-        bits : bit new j ≡ (bit (getD rows (a - 1) 0) j || eqb j (b - 1))
-        bits = bit-or (getD rows (a - 1) 0) _ j ∙ ap (λ (x : Bool). bit (getD rows (a - 1) 0) j || x) (bit-single (b - 1) j)
+        bits : bit new j ≡ (bit (row rows (a - 1)) j || eqb j (b - 1))
+        bits = bit-or (row rows (a - 1)) _ j ∙ ap (λ (x : Bool). bit (row rows (a - 1)) j || x) (bit-single (b - 1) j)
 
         at : Dec (i ≡ a - 1) → (after rows′ i j ≡ true) ↔ ((after rows i j ≡ true) ⊎ ((a ≡ i + 1) × (b ≡ j + 1)))
         at (yes e) =
             let here : after rows′ i j ≡ (after rows i j || eqb j (b - 1)) =
             subst (λ (x : ℕ). after rows′ x j ≡ (after rows x j || eqb j (b - 1))) (sym e)
-            (ap (λ (w : ℕ). bit w j) (getD-set-same rows (a - 1) new 0 (omega arith)) ∙ bits) in (
+            (ap (λ (w : ℕ). bit w j) (row-put-same elements rows (a - 1) new long (omega arith)) ∙ bits) in (
               (λ t. ⊎-elim (λ o. inl o) (λ o. let q = eqb-true j (b - 1) o in inr (omega arith, omega arith)) (or-says (after rows i j) (eqb j (b - 1)) .0 (sym here ∙ t))),
               (λ o. here ∙ or-says (after rows i j) (eqb j (b - 1)) .1 (⊎-elim (λ t. inl t) (λ n. inr (eq-eqb j (b - 1) (omega (arith, n .1)))) o)),
             )
         at (no ne) =
-            let other : after rows′ i j ≡ after rows i j = ap (λ (w : ℕ). bit w j) (getD-set-other rows (a - 1) i new 0 ne) in (
+            let other : after rows′ i j ≡ after rows i j = ap (λ (w : ℕ). bit w j) (row-put-other rows (a - 1) i new ne) in (
               (λ t. inl (sym other ∙ t)),
               (λ o. ⊎-elim (λ t. other ∙ t) (λ n. absurd (ne (omega (arith, n .0)))) o),
             )

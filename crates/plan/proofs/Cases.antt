@@ -1,7 +1,7 @@
 -- Files of document 01's plans and of its refusals, read. Assumes nothing.
 use mathlib.Core.Path.{_≡_, refl}
 use mathlib.Core.List.{List, [], _∷_, _++_}
-use Prim.Native.Nat.{ℕ, zero, suc}
+use Prim.Native.Nat.{ℕ, zero, suc, _+_}
 use lib.ListN.{replicate}
 use Rattle.words.specs.Members.{first}
 use Rattle.words.specs.Tables.{table}
@@ -9,7 +9,7 @@ use Rattle.records.specs.Bytes.{field, zeros}
 use Rattle.plan.specs.declared.Answer.{Answer}
 use Rattle.plan.specs.declared.Answer.the-variants.{Readable, Refused}
 use Rattle.plan.specs.declared.Cause.the-variants.{Length, RecordType, Field, Spare}
-use Rattle.plan.specs.Records.{leading, activityFields, crewFields, arcFields}
+use Rattle.plan.specs.Records.{leading, activityFields, crewFields, arcFields, activities}
 use Rattle.plan.specs.Plans.{demandsOf}
 use Rattle.plan.specs.Causes.{activityCause, crewCause, arcCause, causeAt, firstRefusal, recordsCause}
 use Rattle.plan.specs.Reads.{isLength, answerOf}
@@ -41,14 +41,14 @@ abbrev Read : List Case → Type 0
 Read [] = Unit {0}
 Read (x ∷ xs) = (answerOf (x .file) ≡ x .answer) × Read xs
 
--- the plans A, C, E and one with no activity are read, and so are 64 activities
+-- the plans A, C, E and one with no activity are read, and so are as many activities as a file may have
 abbrev readable : List Case
 readable =
     record { file = four ++ (arcBytes 4 1 2 ++ arcBytes 4 2 4); answer = Readable }
     ∷ record { file = four; answer = Readable }
     ∷ record { file = four ++ (arcBytes 3 1 2 ++ arcBytes 3 2 1); answer = Readable }
     ∷ record { file = crewBytes 0; answer = Readable }
-    ∷ record { file = activitiesFrom 64 1 ++ crewBytes 4; answer = Readable }
+    ∷ record { file = activitiesFrom activities 1 ++ crewBytes 4; answer = Readable }
     ∷ []
 
 readable-read : Read readable
@@ -66,7 +66,7 @@ refused =
     ∷ record { file = four ++ (arcBytes 4 1 2 ++ arcBytes 3 1 2); answer = Refused (RecordType 6) }
     ∷ record { file = activityBytes 1 0 2 ++ crewBytes 4; answer = Refused (Field 0) }
     ∷ record { file = four ++ arcBytes 3 2 2; answer = Refused (Field 5) }
-    ∷ record { file = activitiesFrom 65 1 ++ crewBytes 4; answer = Refused (Field 64) }
+    ∷ record { file = activitiesFrom (activities + 1) 1 ++ crewBytes 4; answer = Refused (Field activities) }
     ∷ record { file = four ++ (3 ∷ 1 ∷ 2 ∷ 1 ∷ replicate 20 0); answer = Refused (Spare 5) }
     ∷ []
 

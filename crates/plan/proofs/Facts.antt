@@ -12,7 +12,8 @@ use borrow.Author.Tests.{ltb-true, leb-true, eqb-true, eq-eqb, not-true, lt-ltb,
 use Rattle.words.proofs.Tests.{clash, and-left, and-right, cond-true, cond-false}
 use Rattle.records.proofs.Zeros.{all-zero}
 use Rattle.records.specs.Bytes.{byte, field, zeros}
-use Rattle.plan.specs.Records.{recordAt, activityCount, jobCount, dueType, activityFields, activitySpare, crewFields, crewSpare, isEnd, arcFields, arcSpare}
+use Rattle.order.specs.Stored.{elements}
+use Rattle.plan.specs.Records.{recordAt, activityCount, jobCount, dueType, activityFields, activitySpare, crewFields, crewSpare, isEnd, arcFields, arcSpare, activities}
 use Rattle.plan.specs.Plans.{demandsOf}
 use Rattle.plan.specs.Causes.{firstCause, isReadable, activityCause, crewCause, arcCause, causeAt}
 
@@ -39,20 +40,20 @@ fields-kept false f s place e = absurd (false≢true e)
 
 -- an activity with no cause, at a place
 pub record ActivityKept (place : ℕ) (r : List ℕ) : Type 0 where
-  pub few : place < 64
+  pub few : place < activities
   pub number : byte r 1 ≡ place + 1
   pub lasts : 1 ≤ field r 2 2
 
 pub activity-kept : (place : ℕ) (r : List ℕ) → isReadable (activityCause place r) ≡ true → ActivityKept place r
 unfolding activityCause activityFields
 activity-kept place r e =
-    let a : Bool = ltb place 64 in
+    let a : Bool = ltb place activities in
     let b : Bool = eqb (byte r 1) (place + 1) in
     let c : Bool = ltb 0 (field r 2 2) in
     let f : a && (b && c) ≡ true = fields-kept true (a && (b && c)) (activitySpare r) place e in
     let g : b && c ≡ true = and-right a (b && c) f in
     record {
-      few = ltb-true place 64 (and-left a (b && c) f);
+      few = ltb-true place activities (and-left a (b && c) f);
       number = eqb-true (byte r 1) (place + 1) (and-left b c g);
       lasts = ltb-true 0 (field r 2 2) (and-right b c g);
     }
@@ -63,7 +64,7 @@ pub record CrewKept (demand r : List ℕ) : Type 0 where
   pub some : 1 ≤ byte r 1
   pub few : byte r 1 ≤ 8
   pub none : (i : ℕ) → 4 + 2 * byte r 1 ≤ i → i < 20 → byte r i ≡ 0
-  pub no-demand : (i : ℕ) → 64 * byte r 1 ≤ i → i < 512 → getD demand i 0 ≡ 0
+  pub no-demand : (i : ℕ) → elements * byte r 1 ≤ i → i < 8 * elements → getD demand i 0 ≡ 0
 
 pub crew-kept : (place : ℕ) (demand r : List ℕ) → isReadable (crewCause place demand r) ≡ true → CrewKept demand r
 unfolding crewCause crewFields
@@ -71,7 +72,7 @@ crew-kept place demand r e =
     let a : Bool = ltb 0 (byte r 1) in
     let b : Bool = leb (byte r 1) 8 in
     let c : Bool = zeros (slice (4 + 2 * byte r 1) 20 r) in
-    let d : Bool = zeros (slice (64 * byte r 1) 512 demand) in
+    let d : Bool = zeros (slice (elements * byte r 1) (8 * elements) demand) in
     let f : a && (b && (c && d)) ≡ true = fields-kept (eqb (byte r 0) 2) (a && (b && (c && d))) (crewSpare r) place e in
     let g : b && (c && d) ≡ true = and-right a (b && (c && d)) f in
     let h : c && d ≡ true = and-right b (c && d) g in
@@ -80,7 +81,7 @@ crew-kept place demand r e =
       some = ltb-true 0 (byte r 1) (and-left a (b && (c && d)) f);
       few = leb-true (byte r 1) 8 (and-left b (c && d) g);
       none = λ i lo hi. zeros-mean r (4 + 2 * byte r 1) 20 i (and-left c d h) lo hi;
-      no-demand = λ i lo hi. zeros-mean demand (64 * byte r 1) 512 i (and-right c d h) lo hi;
+      no-demand = λ i lo hi. zeros-mean demand (elements * byte r 1) (8 * elements) i (and-right c d h) lo hi;
     }
 
 -- an arc with no cause, of the type that is due, among m activities

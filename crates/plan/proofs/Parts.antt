@@ -10,10 +10,11 @@ use lib.ListN.{replicate}
 use borrow.Author.Tests.{eq-eqb, ne-eqb}
 use Rattle.words.specs.Loops.{upto}
 use Rattle.words.proofs.Tests.{cond-true, cond-false}
+use Rattle.order.specs.Stored.{elements, cells}
 use Rattle.plan.specs.declared.Answer.{Answer}
 use Rattle.plan.specs.declared.Answer.the-variants.{Readable, Refused}
 use Rattle.plan.specs.declared.Cause.the-variants.{RecordType}
-use Rattle.plan.specs.Records.{recordAt, recordCount, typeAt, activityCount, jobCount, dueType}
+use Rattle.plan.specs.Records.{recordAt, recordCount, typeAt, activityCount, jobCount, dueType, activities}
 use Rattle.plan.specs.Plans.{demandsOf, arcsUpTo, arcRows}
 use Rattle.plan.specs.Causes.{isReadable, activityCause, causeAt, firstRefusal, followedBy, crewThere, recordsCause}
 use Rattle.plan.specs.Phases.{putArc}
@@ -58,10 +59,10 @@ faultless-read s F =
 
 -- ---- the records, by their places
 
-pub few-activities : (s : List ℕ) → ((p : ℕ) → p < activityCount s → isReadable (activityCause p (recordAt s p)) ≡ true) → activityCount s ≤ 64
+pub few-activities : (s : List ℕ) → ((p : ℕ) → p < activityCount s → isReadable (activityCause p (recordAt s p)) ≡ true) → activityCount s ≤ activities
 few-activities s h = go (activityCount s) h
   where
-    go : (m : ℕ) → ((p : ℕ) → p < m → isReadable (activityCause p (recordAt s p)) ≡ true) → m ≤ 64
+    go : (m : ℕ) → ((p : ℕ) → p < m → isReadable (activityCause p (recordAt s p)) ≡ true) → m ≤ activities
     go zero h = omega arith
     go (suc m) h = activity-kept m (recordAt s m) (h m (omega arith)) .few
 
@@ -72,7 +73,7 @@ module _ (s : List ℕ) (F : Faultless s) where
   pub activity-fine : (p : ℕ) → p < activityCount s → isReadable (activityCause p (recordAt s p)) ≡ true
   activity-fine p h = rw (at-activity s p h) at (F .fine p (omega (arith, F .crewed)))
 
-  pub few : activityCount s ≤ 64
+  pub few : activityCount s ≤ activities
   few = few-activities s activity-fine
 
   pub crew-fine : CrewKept (demandsOf s) (recordAt s (activityCount s))
@@ -98,12 +99,12 @@ module _ (s : List ℕ) (F : Faultless s) where
   -- ---- the rows of its arcs, as the loops store them
 
   pub job-rows : (x : ℕ) → recordCount s ≡ activityCount s + 1 + jobCount s + x
-      → upto (putArc (recordAt s (activityCount s + 1))) (jobCount s) (replicate 64 0) ≡ arcRows s 3
+      → upto (putArc (recordAt s (activityCount s + 1))) (jobCount s) (replicate (cells elements) 0) ≡ arcRows s 3
   job-rows x e =
       let m : ℕ = activityCount s in
       let j : ℕ = jobCount s in
       let f = upto (putArc (recordAt s (m + 1))) j in
-      let low : arcsUpTo s 3 (m + 1) ≡ replicate 64 0 =
+      let low : arcsUpTo s 3 (m + 1) ≡ replicate (cells elements) 0 =
       ap (arcsUpTo s 3) (sym (zero-add (m + 1))) ∙ arcs-none s 3 0 (m + 1) (λ i l. no-arc 3 (0 + i) (omega arith) (omega arith)) ∙ arcs-start s 3 in
       sym (
       ap (arcsUpTo s 3) e
@@ -113,12 +114,12 @@ module _ (s : List ℕ) (F : Faultless s) where
       )
 
   pub extra-rows : (x : ℕ) → recordCount s ≡ activityCount s + 1 + jobCount s + x
-      → upto (putArc (recordAt s (activityCount s + 1 + jobCount s))) x (replicate 64 0) ≡ arcRows s 4
+      → upto (putArc (recordAt s (activityCount s + 1 + jobCount s))) x (replicate (cells elements) 0) ≡ arcRows s 4
   extra-rows x e =
       let m : ℕ = activityCount s in
       let j : ℕ = jobCount s in
       let f = upto (putArc (recordAt s (m + 1 + j))) x in
-      let low : arcsUpTo s 4 (m + 1) ≡ replicate 64 0 =
+      let low : arcsUpTo s 4 (m + 1) ≡ replicate (cells elements) 0 =
       ap (arcsUpTo s 4) (sym (zero-add (m + 1))) ∙ arcs-none s 4 0 (m + 1) (λ i l. no-arc 4 (0 + i) (omega arith) (omega arith)) ∙ arcs-start s 4 in
       sym (
       ap (arcsUpTo s 4) e

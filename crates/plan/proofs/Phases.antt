@@ -10,6 +10,7 @@ use lib.ListN.{length, drop, replicate}
 use Rattle.words.specs.Loops.{upto}
 use Rattle.words.specs.Tables.{table}
 use Rattle.records.specs.Bytes.{byte}
+use Rattle.order.specs.Stored.{elements, cells}
 use Rattle.plan.specs.declared.Answer.{Answer}
 use Rattle.plan.specs.declared.Answer.the-variants.{Readable, Refused}
 use Rattle.plan.specs.declared.Cause.the-variants.{Length, RecordType}
@@ -62,8 +63,8 @@ restPlan m duration demand j x t arcs more =
       duration = duration;
       demand = demand;
       available = table 8 (availableIn t);
-      job = upto (putArc arcs) j (replicate 64 0);
-      extra = upto (putArc more) x (replicate 64 0);
+      job = upto (putArc arcs) j (replicate (cells elements) 0);
+      extra = upto (putArc more) x (replicate (cells elements) 0);
     }
 
 -- `arcs` is what follows the crew record
@@ -211,8 +212,8 @@ module _ (s : List ℕ) where
   unfolding readOf answerOf
   read-is e = ap (λ (b : Bool). outcome (cond b (recordsCause s) (Refused Length)) (planOf s)) e
 
-  file-is : fileOf (recordCount s) s ≡ unlessRefused activitiesCause (restOf (activityCount s) (upto (putDuration s) (activityCount s) (replicate 64 0))
-      (upto (putDemands s) (activityCount s) (replicate 512 0)) (recordCount s - activityCount s) (recordAt s (activityCount s)))
+  file-is : fileOf (recordCount s) s ≡ unlessRefused activitiesCause (restOf (activityCount s) (upto (putDuration s) (activityCount s) (replicate elements 0))
+      (upto (putDemands s) (activityCount s) (replicate (8 * elements) 0)) (recordCount s - activityCount s) (recordAt s (activityCount s)))
   unfolding fileOf
   file-is = refl
 
@@ -221,8 +222,8 @@ module _ (s : List ℕ) where
   unfolding recordsCause restOf
   no-crew e =
       let m : ℕ = activityCount s in
-      let D : List ℕ = upto (putDuration s) m (replicate 64 0) in
-      let E : List ℕ = upto (putDemands s) m (replicate 512 0) in
+      let D : List ℕ = upto (putDuration s) m (replicate elements 0) in
+      let E : List ℕ = upto (putDemands s) m (replicate (8 * elements) 0) in
       let z : recordCount s - m ≡ 0 = omega arith in
       let missing : Answer = Refused (RecordType (recordCount s)) in
       let all : Answer = firstRefusal (recordCount s) (causeAt s) in
@@ -237,7 +238,7 @@ module _ (s : List ℕ) where
   with-crew : activityCount s < recordCount s → fileOf (recordCount s) s ≡ outcome (recordsCause s) (planOf s)
   with-crew h =
       let m : ℕ = activityCount s in
-      let few : isReadable activitiesCause ≡ true → m ≤ 64 = λ e. few-activities s (all-readable m (λ i. activityCause i (recordAt s i)) e) in
+      let few : isReadable activitiesCause ≡ true → m ≤ elements = λ e. omega (arith, few-activities s (all-readable m (λ i. activityCause i (recordAt s i)) e)) in
       let on : List ℕ → List ℕ → Reading = λ d q. restOf m d q (recordCount s - m) (recordAt s m) in
       file-is
       ∙ unless-cong activitiesCause (λ e. ap₂ on (durations-stored s (few e)) (demands-stored s (few e)) ∙ rest-at s m (durationsOf s) (demandsOf s) h)

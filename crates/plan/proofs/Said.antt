@@ -14,10 +14,12 @@ use Rattle.words.specs.Bits.{bit}
 use Rattle.words.specs.Tables.{table}
 use Rattle.words.proofs.Bits.{bit-zero}
 use Rattle.words.proofs.Tests.{by-test, cond-true, cond-false, cond-least, clash}
-use Rattle.words.proofs.Tables.{getD-table, length-table, getD-zeros}
+use Rattle.words.proofs.Tables.{getD-table, length-table}
 use Rattle.order.specs.Orders.{Direct}
+use Rattle.order.proofs.Stored.{row-blank}
 use Rattle.order.specs.Rows.{after}
 use Rattle.records.specs.Bytes.{byte, field, AreBytes}
+use Rattle.order.specs.Stored.{elements}
 use Rattle.plan.specs.declared.Answer.the-variants.{Refused}
 use Rattle.plan.specs.declared.Cause.the-variants.{Length}
 use Rattle.plan.specs.Records.{recordAt, recordCount, typeAt, activityCount, dueType, durationIn, demandIn, availableIn}
@@ -46,25 +48,25 @@ readable-faultless s e = faultless s (rw (cond-true (recordsCause s) (Refused Le
 -- ---- the tables of its fields
 
 module _ (s : List ℕ) where
-  duration-at : (i : ℕ) → i < 64 → i < activityCount s → getD (durationsOf s) i 0 ≡ durationIn (recordAt s i)
+  duration-at : (i : ℕ) → i < elements → i < activityCount s → getD (durationsOf s) i 0 ≡ durationIn (recordAt s i)
   unfolding durationsOf
-  duration-at i l h = getD-table 64 (λ x. cond (ltb x (activityCount s)) (durationIn (recordAt s x)) 0) i 0 l ∙ cond-true _ 0 (lt-ltb i (activityCount s) h)
+  duration-at i l h = getD-table elements (λ x. cond (ltb x (activityCount s)) (durationIn (recordAt s x)) 0) i 0 l ∙ cond-true _ 0 (lt-ltb i (activityCount s) h)
 
   duration-past : (i : ℕ) → activityCount s ≤ i → getD (durationsOf s) i 0 ≡ 0
   unfolding durationsOf
   duration-past i h =
       let f : ℕ → ℕ = λ x. cond (ltb x (activityCount s)) (durationIn (recordAt s x)) 0 in
-      by-test (ltb i 64)
-      (λ t. getD-table 64 f i 0 (ltb-true i 64 t) ∙ cond-false _ 0 (le-ltb i (activityCount s) h))
-      (λ t. List·getD-eq-default (table 64 f) 0 (omega (arith, length-table 64 f, ltb-false i 64 t)))
+      by-test (ltb i elements)
+      (λ t. getD-table elements f i 0 (ltb-true i elements t) ∙ cond-false _ 0 (le-ltb i (activityCount s) h))
+      (λ t. List·getD-eq-default (table elements f) 0 (omega (arith, length-table elements f, ltb-false i elements t)))
 
-  demand-at : (k i : ℕ) → k < 8 → i < 64 → getD (demandsOf s) (64 * k + i) 0 ≡ cond (ltb i (activityCount s)) (demandIn (recordAt s i) k) 0
+  demand-at : (k i : ℕ) → k < 8 → i < elements → getD (demandsOf s) (elements * k + i) 0 ≡ cond (ltb i (activityCount s)) (demandIn (recordAt s i) k) 0
   unfolding demandsOf
   demand-at k i l b =
       let f : ℕ → ℕ → ℕ = λ c q. cond (ltb c (activityCount s)) (demandIn (recordAt s c) q) 0 in
-      let low : (64 * k + i) % 64 ≡ i = omega arith in
-      let high : (64 * k + i) / 64 ≡ k = omega arith in
-      getD-table 512 (λ x. f (x % 64) (x / 64)) (64 * k + i) 0 (omega arith) ∙ ap₂ f low high
+      let low : (elements * k + i) % elements ≡ i = omega arith in
+      let high : (elements * k + i) / elements ≡ k = omega arith in
+      getD-table (8 * elements) (λ x. f (x % elements) (x / elements)) (elements * k + i) 0 (omega arith) ∙ ap₂ f low high
 
   available-at : (k : ℕ) → k < 8 → getD (availableOf s) k 0 ≡ availableIn (recordAt s (activityCount s)) k
   unfolding availableOf
@@ -121,7 +123,7 @@ module _ (s : List ℕ) (F : Faultless s) (type : ℕ) (some : 3 ≤ type) where
   means-none : Means 0
   means-none i j =
       let z : after (arcsUpTo s type 0) i j ≡ false =
-      ap (λ (rows : List ℕ). after rows i j) (arcs-start s type) ∙ ap (λ (w : ℕ). bit w j) (getD-zeros 64 i) ∙ bit-zero j in (
+      ap (λ (rows : List ℕ). after rows i j) (arcs-start s type) ∙ ap (λ (w : ℕ). bit w j) (row-blank elements i) ∙ bit-zero j in (
         (λ t. clash t z),
         (λ n. absurd (omega (arith, n .there))),
       )
@@ -191,7 +193,7 @@ said-of s F =
       no-duration = λ i h. duration-past s i h;
       demand = λ k i l h. demand-at s k i l (omega arith) ∙ cond-true _ 0 (lt-ltb i m h);
       no-demand = λ k i l h b. demand-at s k i l b ∙ cond-false _ 0 (le-ltb i m h);
-      no-kind = λ k i h l b. C .no-demand (64 * k + i) (omega arith) (omega arith);
+      no-kind = λ k i h l b. C .no-demand (elements * k + i) (omega arith) (omega arith);
       available = λ k l. available-at s k l;
       none-available = λ k h.
           by-test (ltb k 8)
@@ -225,14 +227,14 @@ table-least n b f h i =
 pub durations-small : (s : List ℕ) → AreBytes s → (i : ℕ) → getD (planOf s .duration) i 0 ≤ 65535
 unfolding planOf durationsOf
 durations-small s small =
-    table-least 64 65535 (λ i. cond (ltb i (activityCount s)) (durationIn (recordAt s i)) 0)
+    table-least elements 65535 (λ i. cond (ltb i (activityCount s)) (durationIn (recordAt s i)) 0)
     (λ i. cond-least (ltb i (activityCount s)) (durationIn (recordAt s i)) 65535 (λ t. field-small s small i 2))
 
 pub demands-small : (s : List ℕ) → AreBytes s → (i : ℕ) → getD (planOf s .demand) i 0 ≤ 65535
 unfolding planOf demandsOf
 demands-small s small =
-    table-least 512 65535 (λ x. cond (ltb (x % 64) (activityCount s)) (demandIn (recordAt s (x % 64)) (x / 64)) 0)
-    (λ x. cond-least (ltb (x % 64) (activityCount s)) (demandIn (recordAt s (x % 64)) (x / 64)) 65535 (λ t. field-small s small (x % 64) (4 + 2 * (x / 64))))
+    table-least (8 * elements) 65535 (λ x. cond (ltb (x % elements) (activityCount s)) (demandIn (recordAt s (x % elements)) (x / elements)) 0)
+    (λ x. cond-least (ltb (x % elements) (activityCount s)) (demandIn (recordAt s (x % elements)) (x / elements)) 65535 (λ t. field-small s small (x % elements) (4 + 2 * (x / elements))))
 
 pub available-small : (s : List ℕ) → AreBytes s → (k : ℕ) → getD (planOf s .available) k 0 ≤ 65535
 unfolding planOf availableOf

@@ -13,22 +13,23 @@ use Rattle.words.specs.Loops.{upto}
 use Rattle.words.specs.Tables.{table}
 use Rattle.words.proofs.Tests.{by-test, below-suc, cond-true, cond-false}
 use Rattle.words.proofs.Tables.{is-table, stored, getD-zeros}
+use Rattle.order.specs.Stored.{elements}
 use Rattle.plan.specs.Records.{recordAt, activityCount, durationIn, demandIn}
 use Rattle.plan.specs.Plans.{durationsOf, demandsOf}
 use Rattle.plan.specs.Phases.{putDuration, putDemand, putDemands}
 
-pub durations-stored : (s : List ℕ) → activityCount s ≤ 64 → upto (putDuration s) (activityCount s) (replicate 64 0) ≡ durationsOf s
+pub durations-stored : (s : List ℕ) → activityCount s ≤ elements → upto (putDuration s) (activityCount s) (replicate elements 0) ≡ durationsOf s
 unfolding durationsOf
-durations-stored s h = stored (λ i. durationIn (recordAt s i)) 64 (activityCount s) h
+durations-stored s h = stored (λ i. durationIn (recordAt s i)) elements (activityCount s) h
 
 -- ---- the demands of one activity, of which the first n are stored
 
 record Put (r : List ℕ) (i n : ℕ) (old now : List ℕ) : Type 0 where
   long : length now ≡ length old
-  here : (k : ℕ) → k < n → getD now (64 * k + i) 0 ≡ demandIn r k
-  other : (x : ℕ) → ((k : ℕ) → k < n → x ≢ 64 * k + i) → getD now x 0 ≡ getD old x 0
+  here : (k : ℕ) → k < n → getD now (elements * k + i) 0 ≡ demandIn r k
+  other : (x : ℕ) → ((k : ℕ) → k < n → x ≢ elements * k + i) → getD now x 0 ≡ getD old x 0
 
-put : (r : List ℕ) (i n : ℕ) (old : List ℕ) → n ≤ 8 → i < 64 → length old ≡ 512 → Put r i n old (upto (putDemand r i) n old)
+put : (r : List ℕ) (i n : ℕ) (old : List ℕ) → n ≤ 8 → i < elements → length old ≡ 8 * elements → Put r i n old (upto (putDemand r i) n old)
 unfolding upto
 put r i zero old h l e = record { long = refl; here = λ k m. absurd (omega arith); other = λ x ne. refl }
 put r i (suc n) old h l e = go (upto (putDemand r i) n old) (put r i n old (omega arith) l e)
@@ -36,25 +37,25 @@ put r i (suc n) old h l e = go (upto (putDemand r i) n old) (put r i n old (omeg
     go : (now : List ℕ) → Put r i n old now → Put r i (suc n) old (putDemand r i n now)
     go now u =
         record {
-          long = length-set now (64 * n + i) (demandIn r n) ∙ u .long;
+          long = length-set now (elements * n + i) (demandIn r n) ∙ u .long;
           here =
-              below-suc (λ k. getD (putDemand r i n now) (64 * k + i) 0 ≡ demandIn r k) n
-              (λ k m. getD-set-other now (64 * n + i) (64 * k + i) (demandIn r n) 0 (omega arith) ∙ u .here k m)
-              (getD-set-same now (64 * n + i) (demandIn r n) 0 (omega (arith, u .long)));
-          other = λ x ne. getD-set-other now (64 * n + i) x (demandIn r n) 0 (ne n (omega arith)) ∙ u .other x (λ k m. ne k (omega arith));
+              below-suc (λ k. getD (putDemand r i n now) (elements * k + i) 0 ≡ demandIn r k) n
+              (λ k m. getD-set-other now (elements * n + i) (elements * k + i) (demandIn r n) 0 (omega arith) ∙ u .here k m)
+              (getD-set-same now (elements * n + i) (demandIn r n) 0 (omega (arith, u .long)));
+          other = λ x ne. getD-set-other now (elements * n + i) x (demandIn r n) 0 (ne n (omega arith)) ∙ u .other x (λ k m. ne k (omega arith));
         }
 
 -- ---- the demands of the activities below i
 
 record Demands (s : List ℕ) (i : ℕ) (now : List ℕ) : Type 0 where
-  long : length now ≡ 512
-  done : (k c : ℕ) → k < 8 → c < i → getD now (64 * k + c) 0 ≡ demandIn (recordAt s c) k
-  left : (k c : ℕ) → k < 8 → i ≤ c → c < 64 → getD now (64 * k + c) 0 ≡ 0
+  long : length now ≡ 8 * elements
+  done : (k c : ℕ) → k < 8 → c < i → getD now (elements * k + c) 0 ≡ demandIn (recordAt s c) k
+  left : (k c : ℕ) → k < 8 → i ≤ c → c < elements → getD now (elements * k + c) 0 ≡ 0
 
-demands : (s : List ℕ) (i : ℕ) → i ≤ 64 → Demands s i (upto (putDemands s) i (replicate 512 0))
+demands : (s : List ℕ) (i : ℕ) → i ≤ elements → Demands s i (upto (putDemands s) i (replicate (8 * elements) 0))
 unfolding upto
-demands s zero h = record { long = length-replicate {A = ℕ} 512 0; done = λ k c l m. absurd (omega arith); left = λ k c l m b. getD-zeros 512 (64 * k + c) }
-demands s (suc i) h = go (upto (putDemands s) i (replicate 512 0)) (demands s i (omega arith))
+demands s zero h = record { long = length-replicate {A = ℕ} (8 * elements) 0; done = λ k c l m. absurd (omega arith); left = λ k c l m b. getD-zeros (8 * elements) (elements * k + c) }
+demands s (suc i) h = go (upto (putDemands s) i (replicate (8 * elements) 0)) (demands s i (omega arith))
   where
     go : (now : List ℕ) → Demands s i now → Demands s (suc i) (putDemands s i now)
     go now u =
@@ -62,24 +63,24 @@ demands s (suc i) h = go (upto (putDemands s) i (replicate 512 0)) (demands s i 
         record {
           long = p .long ∙ u .long;
           done =
-              λ k c l. below-suc (λ x. getD (putDemands s i now) (64 * k + x) 0 ≡ demandIn (recordAt s x) k) i
-              (λ x m. p .other (64 * k + x) (λ y b q. omega arith) ∙ u .done k x l m)
+              λ k c l. below-suc (λ x. getD (putDemands s i now) (elements * k + x) 0 ≡ demandIn (recordAt s x) k) i
+              (λ x m. p .other (elements * k + x) (λ y b q. omega arith) ∙ u .done k x l m)
               (p .here k l) c;
-          left = λ k c l m b. p .other (64 * k + c) (λ y a q. omega arith) ∙ u .left k c l (omega arith) b;
+          left = λ k c l m b. p .other (elements * k + c) (λ y a q. omega arith) ∙ u .left k c l (omega arith) b;
         }
 
-pub demands-stored : (s : List ℕ) → activityCount s ≤ 64 → upto (putDemands s) (activityCount s) (replicate 512 0) ≡ demandsOf s
+pub demands-stored : (s : List ℕ) → activityCount s ≤ elements → upto (putDemands s) (activityCount s) (replicate (8 * elements) 0) ≡ demandsOf s
 unfolding demandsOf
 demands-stored s h = go (activityCount s) h
   where
-    go : (m : ℕ) → m ≤ 64 → upto (putDemands s) m (replicate 512 0) ≡ table 512 (λ x. cond (ltb (x % 64) m) (demandIn (recordAt s (x % 64)) (x / 64)) 0)
+    go : (m : ℕ) → m ≤ elements → upto (putDemands s) m (replicate (8 * elements) 0) ≡ table (8 * elements) (λ x. cond (ltb (x % elements) m) (demandIn (recordAt s (x % elements)) (x / elements)) 0)
     go m h =
         let u = demands s m h in
-        let l : List ℕ = upto (putDemands s) m (replicate 512 0) in
-        is-table 512 (λ x. cond (ltb (x % 64) m) (demandIn (recordAt s (x % 64)) (x / 64)) 0) l 0 (u .long)
+        let l : List ℕ = upto (putDemands s) m (replicate (8 * elements) 0) in
+        is-table (8 * elements) (λ x. cond (ltb (x % elements) m) (demandIn (recordAt s (x % elements)) (x / elements)) 0) l 0 (u .long)
         (λ x b.
-        let e : 64 * (x / 64) + x % 64 ≡ x = omega arith in
+        let e : elements * (x / elements) + x % elements ≡ x = omega arith in
         ap (λ (y : ℕ). getD l y 0) (sym e)
-        ∙ by-test (ltb (x % 64) m)
-        (λ t. u .done (x / 64) (x % 64) (omega arith) (ltb-true (x % 64) m t) ∙ sym (cond-true (demandIn (recordAt s (x % 64)) (x / 64)) 0 t))
-        (λ t. u .left (x / 64) (x % 64) (omega arith) (ltb-false (x % 64) m t) (omega arith) ∙ sym (cond-false (demandIn (recordAt s (x % 64)) (x / 64)) 0 t)))
+        ∙ by-test (ltb (x % elements) m)
+        (λ t. u .done (x / elements) (x % elements) (omega arith) (ltb-true (x % elements) m t) ∙ sym (cond-true (demandIn (recordAt s (x % elements)) (x / elements)) 0 t))
+        (λ t. u .left (x / elements) (x % elements) (omega arith) (ltb-false (x % elements) m t) (omega arith) ∙ sym (cond-false (demandIn (recordAt s (x % elements)) (x / elements)) 0 t)))

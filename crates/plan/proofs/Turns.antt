@@ -14,10 +14,11 @@ use Rattle.words.specs.Members.{first}
 use Rattle.words.proofs.Tests.{clash, and-left, and-right, and-both, cond-true, cond-false}
 use Rattle.words.proofs.Firsts.{first-stop, first-end}
 use Rattle.records.specs.Bytes.{byte}
+use Rattle.order.specs.Stored.{elements}
 use Rattle.plan.specs.declared.Answer.{Answer}
 use Rattle.plan.specs.declared.Answer.the-variants.{Readable, Refused}
 use Rattle.plan.specs.declared.Reading.{Reading}
-use Rattle.plan.specs.Records.{recordAt, leading, isEnd, arcFields, arcSpare}
+use Rattle.plan.specs.Records.{recordAt, leading, isEnd, arcFields, arcSpare, activities}
 use Rattle.plan.specs.Causes.{isReadable, activityCause, arcCause, firstRefusal}
 use Rattle.plan.specs.Phases.{refusalOf, unlessRefused}
 use Rattle.plan.specs.Reads.{isLength}
@@ -112,8 +113,8 @@ module _ {answer cause : Answer} {b : Bool} (found : answer ≡ cause) (test : b
 
 -- ---- what a run of records with no cause tells
 
--- an activity is one of the first 64 records
-pub few-activities : (m : ℕ) (s : List ℕ) → isReadable (firstRefusal m (λ i. activityCause i (recordAt s i))) ≡ true → m ≤ 64
+-- an activity is one of as many first records as a file may have activities
+pub few-activities : (m : ℕ) (s : List ℕ) → isReadable (firstRefusal m (λ i. activityCause i (recordAt s i))) ≡ true → m ≤ activities
 few-activities zero s e = omega arith
 few-activities (suc k) s e =
     let h = activity-kept k (recordAt s k) (all-readable (suc k) (λ i. activityCause i (recordAt s i)) e k (omega arith)) .few in omega arith
@@ -145,12 +146,12 @@ module _ (m : ℕ) (r : List ℕ) (e : arcFields m r ≡ true) where
       and-both (isEnd n (byte r 1)) (isEnd n (byte r 2) && differ r) (end-more m (byte r 1) n arc-from h)
       (and-both (isEnd n (byte r 2)) (differ r) (end-more m (byte r 2) n arc-to h) (and-right (isEnd m (byte r 2)) (differ r) both-to))
 
-pub arcs-kept : (type place m n : ℕ) (t : List ℕ) → m ≤ 64 → isReadable (firstRefusal n (λ i. arcCause type (place + i) m (recordAt t i))) ≡ true
-    → (i : ℕ) → i < n → arcFields 64 (recordAt t i) ≡ true
+pub arcs-kept : (type place m n : ℕ) (t : List ℕ) → m ≤ elements → isReadable (firstRefusal n (λ i. arcCause type (place + i) m (recordAt t i))) ≡ true
+    → (i : ℕ) → i < n → arcFields elements (recordAt t i) ≡ true
 unfolding arcCause
 arcs-kept type place m n t h e i l =
     let r = recordAt t i in
-    arc-more m r (fields-kept (eqb (byte r 0) type) (arcFields m r) (arcSpare r) (place + i) (all-readable n (λ k. arcCause type (place + k) m (recordAt t k)) e i l)) 64 h
+    arc-more m r (fields-kept (eqb (byte r 0) type) (arcFields m r) (arcSpare r) (place + i) (all-readable n (λ k. arcCause type (place + k) m (recordAt t k)) e i l)) elements h
 
 -- a file of a right length has at most 49,152 bytes
 pub length-high : (n : ℕ) → isLength n ≡ true → n ≤ 49152

@@ -8,9 +8,10 @@ use Prim.Native.Nat.{ℕ, _+_, _*_, _≤_, _<_}
 use lib.ListN.{getD}
 use Rattle.records.specs.Bytes.{byte, field}
 use Rattle.order.specs.Orders.{Direct}
+use Rattle.order.specs.Stored.{elements}
 use Rattle.plan.specs.declared.Answer.{Answer}
 use Rattle.plan.specs.declared.Plan.{Plan}
-use Rattle.plan.specs.Records.{recordAt, recordCount, typeAt}
+use Rattle.plan.specs.Records.{recordAt, recordCount, typeAt, activities}
 use Rattle.plan.specs.Causes.{isReadable, causeAt}
 use Rattle.plan.specs.Reads.{answerOf}
 
@@ -37,7 +38,7 @@ pub record ArcsOf (s : List ℕ) (type count : ℕ) (rows : List ℕ) : Type 0 w
 
 -- all that a plan q takes from a readable file s: element i is activity i + 1, whose record is at place i; kind k + 1 stands at k
 pub record Said (s : List ℕ) (q : Plan) : Type 0 where
-  pub few : q .count ≤ 64
+  pub few : q .count ≤ activities
   pub within : q .count < recordCount s
   pub activities : (p : ℕ) → p < q .count → typeAt s p ≡ 1
   pub crew : typeAt s (q .count) ≡ 2
@@ -47,9 +48,9 @@ pub record Said (s : List ℕ) (q : Plan) : Type 0 where
   pub duration : (i : ℕ) → i < q .count → getD (q .duration) i 0 ≡ field (recordAt s i) 2 2
   pub lasts : (i : ℕ) → i < q .count → 1 ≤ getD (q .duration) i 0
   pub no-duration : (i : ℕ) → q .count ≤ i → getD (q .duration) i 0 ≡ 0
-  pub demand : (k i : ℕ) → k < 8 → i < q .count → getD (q .demand) (64 * k + i) 0 ≡ field (recordAt s i) (4 + 2 * k) 2
-  pub no-demand : (k i : ℕ) → k < 8 → q .count ≤ i → i < 64 → getD (q .demand) (64 * k + i) 0 ≡ 0
-  pub no-kind : (k i : ℕ) → q .kinds ≤ k → k < 8 → i < 64 → getD (q .demand) (64 * k + i) 0 ≡ 0
+  pub demand : (k i : ℕ) → k < 8 → i < q .count → getD (q .demand) (elements * k + i) 0 ≡ field (recordAt s i) (4 + 2 * k) 2
+  pub no-demand : (k i : ℕ) → k < 8 → q .count ≤ i → i < elements → getD (q .demand) (elements * k + i) 0 ≡ 0
+  pub no-kind : (k i : ℕ) → q .kinds ≤ k → k < 8 → i < elements → getD (q .demand) (elements * k + i) 0 ≡ 0
   pub available : (k : ℕ) → k < 8 → getD (q .available) k 0 ≡ field (recordAt s (q .count)) (4 + 2 * k) 2
   pub none-available : (k : ℕ) → q .kinds ≤ k → getD (q .available) k 0 ≡ 0
   pub job : ArcsOf s 3 (q .count) (q .job)

@@ -6,6 +6,7 @@ use lib.ListN.{set, drop, replicate}
 use Rattle.words.specs.Loops.{upto}
 use Rattle.words.specs.Tables.{table}
 use Rattle.records.specs.Bytes.{byte}
+use Rattle.order.specs.Stored.{elements, cells}
 use Rattle.plan.specs.declared.Answer.{Answer}
 use Rattle.plan.specs.declared.Answer.the-variants.{Readable, Refused}
 use Rattle.plan.specs.declared.Cause.the-variants.{RecordType}
@@ -19,7 +20,7 @@ putDuration s i durations = set durations i (durationIn (recordAt s i))
 
 -- the demand of element i, whose record is r, for kind k + 1
 abbrev pub putDemand : List ℕ → ℕ → ℕ → List ℕ → List ℕ
-putDemand r i k demands = set demands (64 * k + i) (demandIn r k)
+putDemand r i k demands = set demands (elements * k + i) (demandIn r k)
 
 abbrev pub putDemands : List ℕ → ℕ → List ℕ → List ℕ
 putDemands s i demands = upto (putDemand (recordAt s i) i) 8 demands
@@ -56,8 +57,8 @@ restOf m duration demand (suc n) t =
         duration = duration;
         demand = demand;
         available = table 8 (availableIn t);
-        job = upto (putArc arcs) j (replicate 64 0);
-        extra = upto (putArc more) (n - j) (replicate 64 0);
+        job = upto (putArc arcs) j (replicate (cells elements) 0);
+        extra = upto (putArc more) (n - j) (replicate (cells elements) 0);
       };
       answer = Readable;
     })))
@@ -67,4 +68,4 @@ unfoldable pub fileOf : ℕ → List ℕ → Reading
 fileOf n s =
     let m = leading 1 n s in
     unlessRefused (firstRefusal m (λ i. activityCause i (recordAt s i)))
-    (restOf m (upto (putDuration s) m (replicate 64 0)) (upto (putDemands s) m (replicate 512 0)) (n - m) (drop (24 * m) s))
+    (restOf m (upto (putDuration s) m (replicate elements 0)) (upto (putDemands s) m (replicate (8 * elements) 0)) (n - m) (drop (24 * m) s))

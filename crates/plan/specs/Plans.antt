@@ -1,33 +1,34 @@
 -- The plan that a readable file says, field by field. Assumes nothing.
 use mathlib.Core.Bool.{cond}
 use mathlib.Core.List.{List}
-use Prim.Native.Nat.{ℕ, zero, suc, _-_, _/_, _%_}
+use Prim.Native.Nat.{ℕ, zero, suc, _-_, _*_, _/_, _%_}
 use lib.Dec.{eqb, ltb}
-use lib.ListN.{getD, set, replicate}
+use lib.ListN.{replicate}
 use Rattle.words.specs.Bits.{withBit}
 use Rattle.words.specs.Tables.{table}
 use Rattle.records.specs.Bytes.{byte}
+use Rattle.order.specs.Stored.{elements, cells, row, putRow}
 use Rattle.plan.specs.declared.Plan.{Plan}
 use Rattle.plan.specs.Records.{recordAt, recordCount, typeAt, activityCount, durationIn, demandIn, availableIn}
 
 -- element i's duration is the field of record i
 unfoldable pub durationsOf : List ℕ → List ℕ
-durationsOf s = table 64 (λ i. cond (ltb i (activityCount s)) (durationIn (recordAt s i)) 0)
+durationsOf s = table elements (λ i. cond (ltb i (activityCount s)) (durationIn (recordAt s i)) 0)
 
--- and so are its demands; that of element i for kind k + 1 stands at 64 * k + i
+-- and so are its demands; that of element i for kind k + 1 stands at elements * k + i
 unfoldable pub demandsOf : List ℕ → List ℕ
-demandsOf s = table 512 (λ x. cond (ltb (x % 64) (activityCount s)) (demandIn (recordAt s (x % 64)) (x / 64)) 0)
+demandsOf s = table (8 * elements) (λ x. cond (ltb (x % elements) (activityCount s)) (demandIn (recordAt s (x % elements)) (x / elements)) 0)
 
 -- the availabilities are the fields of the crew record
 unfoldable pub availableOf : List ℕ → List ℕ
 availableOf s = table 8 (availableIn (recordAt s (activityCount s)))
 
--- the arcs of a type, as rows of bits: each record of that type sets bit (to - 1) of row (from - 1). "Repeated arcs are allowed and count once."
+-- the arcs of a type, as a table of sets: each record of that type puts (to - 1) into the set in row (from - 1). "Repeated arcs are allowed and count once."
 unfoldable pub withArc : List ℕ → List ℕ → List ℕ
-withArc r rows = set rows (byte r 1 - 1) (withBit (getD rows (byte r 1 - 1) 0) (byte r 2 - 1))
+withArc r rows = putRow rows (byte r 1 - 1) (withBit (row rows (byte r 1 - 1)) (byte r 2 - 1))
 
 unfoldable pub arcsUpTo : List ℕ → ℕ → ℕ → List ℕ
-arcsUpTo s type zero = replicate 64 0
+arcsUpTo s type zero = replicate (cells elements) 0
 arcsUpTo s type (suc p) = cond (eqb (typeAt s p) type) (withArc (recordAt s p) (arcsUpTo s type p)) (arcsUpTo s type p)
 
 abbrev pub arcRows : List ℕ → ℕ → List ℕ
@@ -51,9 +52,9 @@ emptyPlan =
     record {
       count = 0;
       kinds = 0;
-      duration = replicate 64 0;
-      demand = replicate 512 0;
+      duration = replicate elements 0;
+      demand = replicate (8 * elements) 0;
       available = replicate 8 0;
-      job = replicate 64 0;
-      extra = replicate 64 0;
+      job = replicate (cells elements) 0;
+      extra = replicate (cells elements) 0;
     }

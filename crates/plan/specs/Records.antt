@@ -6,6 +6,7 @@ use lib.Dec.{eqb, leb, ltb}
 use lib.ListN.{length, drop}
 use lib.Seq.{slice}
 use Rattle.records.specs.Bytes.{byte, field, zeros}
+use Rattle.order.specs.Stored.{elements}
 
 -- "Records of 24 bytes, no header." The record at a place is what the rest of the file begins with.
 abbrev pub recordAt : List ℕ → ℕ → List ℕ
@@ -27,9 +28,13 @@ leading type (suc n) t = cond (eqb (byte t 0) type) (suc (leading type n (drop 2
 abbrev pub activityCount : List ℕ → ℕ
 activityCount s = leading 1 (recordCount s) s
 
--- "Type 1, activity: byte 1 its number; 2–3 duration, 1 to 65,535; 4–19 eight demands of two bytes, kinds 1 to 8", "m from 0 to 64"
+-- "m from 0 to 64": how many activities a file may have, `plan::ACTIVITIES`. THE FORMAT'S OWN LIMIT: the number of elements may be larger.
+abbrev pub activities : ℕ
+activities = 64
+
+-- "Type 1, activity: byte 1 its number; 2–3 duration, 1 to 65,535; 4–19 eight demands of two bytes, kinds 1 to 8"
 unfoldable pub activityFields : ℕ → List ℕ → Bool
-activityFields place r = ltb place 64 && (eqb (byte r 1) (place + 1) && ltb 0 (field r 2 2))
+activityFields place r = ltb place activities && (eqb (byte r 1) (place + 1) && ltb 0 (field r 2 2))
 
 abbrev pub durationIn : List ℕ → ℕ
 durationIn r = field r 2 2
@@ -42,10 +47,10 @@ abbrev pub activitySpare : List ℕ → Bool
 activitySpare r = zeros (slice 20 24 r)
 
 -- "Type 2, crew: byte 1 the count K of kinds, 1 to 8; 4–19 eight availabilities, 0 to 65,535, zero beyond K."
--- "Demands beyond K are zero; this is checked at the crew record": the demand of element i for kind k + 1 stands at 64 * k + i
+-- "Demands beyond K are zero; this is checked at the crew record": the demand of element i for kind k + 1 stands at elements * k + i
 unfoldable pub crewFields : List ℕ → List ℕ → Bool
 crewFields demand r =
-    ltb 0 (byte r 1) && (leb (byte r 1) 8 && (zeros (slice (4 + 2 * byte r 1) 20 r) && zeros (slice (64 * byte r 1) 512 demand)))
+    ltb 0 (byte r 1) && (leb (byte r 1) 8 && (zeros (slice (4 + 2 * byte r 1) 20 r) && zeros (slice (elements * byte r 1) (8 * elements) demand)))
 
 abbrev pub availableIn : List ℕ → ℕ → ℕ
 availableIn r k = field r (4 + 2 * k) 2

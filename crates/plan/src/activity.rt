@@ -3,21 +3,24 @@ ghost use mathlib.Core.Path.{_≡_};
 ghost use Prim.Native.Nat.{_*_, _≤_, _<_};
 ghost use lib.ListN.{length};
 ghost use Rattle.words.specs.Loops.{upto};
+ghost use Rattle.order.specs.Stored.{elements};
 ghost use Rattle.plan.specs.Records.{activityFields, recordAt};
 ghost use Rattle.plan.specs.Causes.{activityCause, firstRefusal};
 ghost use Rattle.plan.specs.Phases.{putDuration, putDemand, putDemands};
+use crate::ACTIVITIES;
 use crate::Answer;
 use crate::checks::first_cause;
 use crate::checks::is_readable;
 use crate::field::all_zero;
 use crate::field::half;
+use order::ELEMENTS;
 
 // Whether an activity record's fields keep their rules.
 fn activity_fields(r: &[u8], place: usize) -> bool
     requires { ⌜ 24 ≤ length (now r) ⌝ }
     ensures { λ b. ⌜ b ≡ activityFields place (now (r .entry)) ⌝ }
 {
-    if 64 <= place {
+    if ACTIVITIES <= place {
         return false;
     }
     let number = r[1] as usize;
@@ -52,8 +55,8 @@ pub fn activities_cause(s: &[u8], m: usize) -> Answer
 }
 
 // The durations of the first m records.
-pub fn store_durations(s: &[u8], m: usize, durations: &mut [u32; 64])
-    requires { ⌜ (24 * m ≤ length (now s)) × (m ≤ 64) ⌝ }
+pub fn store_durations(s: &[u8], m: usize, durations: &mut [u32; ELEMENTS])
+    requires { ⌜ (24 * m ≤ length (now s)) × (m ≤ elements) ⌝ }
     ensures { λ _. ⌜ now (durations .exit) ≡ upto (putDuration (now (s .entry))) m (now (durations .entry)) ⌝ }
 {
     let mut i: usize = 0;
@@ -64,20 +67,20 @@ pub fn store_durations(s: &[u8], m: usize, durations: &mut [u32; 64])
 }
 
 // The eight demands of element i.
-fn store_demands_of(r: &[u8], i: usize, demands: &mut [u32; 512])
-    requires { ⌜ (24 ≤ length (now r)) × (i < 64) ⌝ }
+fn store_demands_of(r: &[u8], i: usize, demands: &mut [u32; 8 * ELEMENTS])
+    requires { ⌜ (24 ≤ length (now r)) × (i < elements) ⌝ }
     ensures { λ _. ⌜ now (demands .exit) ≡ upto (putDemand (now (r .entry)) i) 8 (now (demands .entry)) ⌝ }
 {
     let mut k: usize = 0;
     while k < 8 {
-        demands[64 * k + i] = half(r, 4 + 2 * k);
+        demands[ELEMENTS * k + i] = half(r, 4 + 2 * k);
         k += 1;
     }
 }
 
 // The demands of the first m records.
-pub fn store_demands(s: &[u8], m: usize, demands: &mut [u32; 512])
-    requires { ⌜ (24 * m ≤ length (now s)) × (m ≤ 64) ⌝ }
+pub fn store_demands(s: &[u8], m: usize, demands: &mut [u32; 8 * ELEMENTS])
+    requires { ⌜ (24 * m ≤ length (now s)) × (m ≤ elements) ⌝ }
     ensures { λ _. ⌜ now (demands .exit) ≡ upto (putDemands (now (s .entry))) m (now (demands .entry)) ⌝ }
 {
     let mut i: usize = 0;

@@ -4,6 +4,7 @@ ghost use mathlib.Core.Bool.{true};
 ghost use Prim.Native.Nat.{ℕ, _+_, _*_, _≤_, _<_};
 ghost use lib.ListN.{length};
 ghost use Rattle.words.specs.Loops.{upto};
+ghost use Rattle.order.specs.Stored.{elements};
 ghost use Rattle.plan.specs.Records.{isEnd, arcFields, recordAt};
 ghost use Rattle.plan.specs.Plans.{withArc};
 ghost use Rattle.plan.specs.Causes.{arcCause, firstRefusal};
@@ -13,6 +14,7 @@ use crate::checks::first_cause;
 use crate::checks::is_readable;
 use crate::field::all_zero;
 use crate::field::index;
+use order::Rows;
 
 fn is_end(m: usize, i: u8) -> bool
     ensures { λ b. ⌜ b ≡ isEnd m i ⌝ }
@@ -62,19 +64,20 @@ pub fn arcs_cause(m: usize, t: &[u8], of: u8, n: usize, place: usize) -> Answer
     Answer::Readable
 }
 
-// The arc of a record, whose ends are 1 to 64.
-fn store_arc(r: &[u8], rows: &mut [u64; 64])
-    requires { ⌜ (24 ≤ length (now r)) × (arcFields 64 (now r) ≡ true) ⌝ }
+// The arc of a record, whose ends are 1 to ELEMENTS.
+fn store_arc(r: &[u8], rows: &mut Rows)
+    requires { ⌜ (24 ≤ length (now r)) × (arcFields elements (now r) ≡ true) ⌝ }
     ensures { λ _. ⌜ now (rows .exit) ≡ withArc (now (r .entry)) (now (rows .entry)) ⌝ }
 {
     let i = index(r[1]) - 1;
     let j = index(r[2]) - 1;
-    rows[i] = words::with_bit(rows[i], j);
+    let arcs = order::row(rows, i).with(j);
+    order::put_row(rows, i, arcs);
 }
 
 // The arcs of the first n records of t.
-pub fn store_arcs(t: &[u8], n: usize, rows: &mut [u64; 64])
-    requires { ⌜ (24 * n ≤ length (now t)) × (n ≤ 2048) × ((i : ℕ) → i < n → arcFields 64 (recordAt (now t) i) ≡ true) ⌝ }
+pub fn store_arcs(t: &[u8], n: usize, rows: &mut Rows)
+    requires { ⌜ (24 * n ≤ length (now t)) × (n ≤ 2048) × ((i : ℕ) → i < n → arcFields elements (recordAt (now t) i) ≡ true) ⌝ }
     ensures { λ _. ⌜ now (rows .exit) ≡ upto (putArc (now (t .entry))) n (now (rows .entry)) ⌝ }
 {
     let mut i: usize = 0;

@@ -1,24 +1,29 @@
 // The crew record, type 2.
 ghost use mathlib.Core.Path.{_≡_};
-ghost use Prim.Native.Nat.{_≤_};
+ghost use Prim.Native.Nat.{_*_, _≤_};
 ghost use lib.ListN.{length};
 ghost use lib.Seq.{slice};
 ghost use Rattle.words.specs.Tables.{table};
 ghost use Rattle.records.specs.Bytes.{zeros};
+ghost use Rattle.order.specs.Stored.{elements};
 ghost use Rattle.plan.specs.Records.{crewFields, crewSpare, availableIn};
 ghost use Rattle.plan.specs.Causes.{crewCause};
 use crate::Answer;
 use crate::checks::first_cause;
 use crate::field::all_zero;
 use crate::field::half;
+use order::ELEMENTS;
+
+// How many demands a plan has: a product in the test of a loop would be checked in each turn.
+const DEMANDS: usize = 8 * ELEMENTS;
 
 // Whether the demands from an index on are zero.
-fn no_demand_from(demand: &[u32; 512], from: usize) -> bool
-    requires { ⌜ from ≤ 512 ⌝ }
-    ensures { λ b. ⌜ b ≡ zeros (slice from 512 (now (demand .entry))) ⌝ }
+fn no_demand_from(demand: &[u32; 8 * ELEMENTS], from: usize) -> bool
+    requires { ⌜ from ≤ 8 * elements ⌝ }
+    ensures { λ b. ⌜ b ≡ zeros (slice from (8 * elements) (now (demand .entry))) ⌝ }
 {
     let mut i = from;
-    while i < 512 {
+    while i < DEMANDS {
         if demand[i] != 0 {
             return false;
         }
@@ -28,7 +33,7 @@ fn no_demand_from(demand: &[u32; 512], from: usize) -> bool
 }
 
 // Whether a crew record's fields keep their rules, and the demands beyond its kinds are zero.
-fn crew_fields(demand: &[u32; 512], r: &[u8]) -> bool
+fn crew_fields(demand: &[u32; 8 * ELEMENTS], r: &[u8]) -> bool
     requires { ⌜ 24 ≤ length (now r) ⌝ }
     ensures { λ b. ⌜ b ≡ crewFields (now (demand .entry)) (now (r .entry)) ⌝ }
 {
@@ -42,7 +47,7 @@ fn crew_fields(demand: &[u32; 512], r: &[u8]) -> bool
     if !all_zero(r, 4 + 2 * k, 20) {
         return false;
     }
-    no_demand_from(demand, 64 * k)
+    no_demand_from(demand, ELEMENTS * k)
 }
 
 // Whether a crew record's spare bytes are zero.
@@ -57,7 +62,7 @@ fn crew_spare(r: &[u8]) -> bool
 }
 
 // The cause of the record that has to be the crew record.
-pub fn crew_cause(demand: &[u32; 512], r: &[u8], place: usize) -> Answer
+pub fn crew_cause(demand: &[u32; 8 * ELEMENTS], r: &[u8], place: usize) -> Answer
     requires { ⌜ 24 ≤ length (now r) ⌝ }
     ensures { λ a. ⌜ a ≡ crewCause place (now (demand .entry)) (now (r .entry)) ⌝ }
 {

@@ -2,6 +2,7 @@
 ghost use mathlib.Core.Path.{_≡_};
 ghost use Prim.Native.Nat.{_+_, _*_, _≤_};
 ghost use lib.ListN.{length};
+ghost use Rattle.order.specs.Stored.{elements};
 ghost use Rattle.plan.specs.Records.{leading};
 ghost use Rattle.plan.specs.Plans.{emptyPlan};
 ghost use Rattle.plan.specs.Phases.{fileOf, restOf, refusalOf};
@@ -19,6 +20,8 @@ use crate::checks::is_readable;
 use crate::crew::available;
 use crate::crew::crew_cause;
 use crate::field::index;
+use order::CELLS;
+use order::ELEMENTS;
 
 fn empty_plan() -> Plan
     ensures { λ q. ⌜ q ≡ emptyPlan ⌝ }
@@ -26,11 +29,11 @@ fn empty_plan() -> Plan
     Plan {
         count: 0,
         kinds: 0,
-        duration: [0; 64],
-        demand: [0; 512],
+        duration: [0; ELEMENTS],
+        demand: [0; 8 * ELEMENTS],
         available: [0; 8],
-        job: [0; 64],
-        extra: [0; 64],
+        job: [0; CELLS],
+        extra: [0; CELLS],
     }
 }
 
@@ -61,8 +64,14 @@ fn leading_records(s: &[u8], of: u8, n: usize) -> usize
 }
 
 // The rest of the file from its crew record on, of n records: the arc reader. The m activities before it are read.
-fn read_rest(m: usize, duration: [u32; 64], demand: [u32; 512], t: &[u8], n: usize) -> Reading
-    requires { ⌜ (24 * n ≤ length (now t)) × (m ≤ 64) × (m + n ≤ 2048) ⌝ }
+fn read_rest(
+    m: usize,
+    duration: [u32; ELEMENTS],
+    demand: [u32; 8 * ELEMENTS],
+    t: &[u8],
+    n: usize,
+) -> Reading
+    requires { ⌜ (24 * n ≤ length (now t)) × (m ≤ elements) × (m + n ≤ 2048) ⌝ }
     ensures { λ q. ⌜ q ≡ restOf m duration demand n (now (t .entry)) ⌝ }
 {
     if n == 0 {
@@ -83,9 +92,9 @@ fn read_rest(m: usize, duration: [u32; 64], demand: [u32; 512], t: &[u8], n: usi
     if !is_readable(extras) {
         return refusal(extras);
     }
-    let mut job = [0u64; 64];
+    let mut job = [0; CELLS];
     store_arcs(arcs, j, &mut job);
-    let mut extra = [0u64; 64];
+    let mut extra = [0; CELLS];
     store_arcs(more, n - 1 - j, &mut extra);
     Reading {
         plan: Plan {
@@ -111,9 +120,9 @@ pub fn read_file(s: &[u8], n: usize) -> Reading
     if !is_readable(activities) {
         return refusal(activities);
     }
-    let mut duration = [0u32; 64];
+    let mut duration = [0u32; ELEMENTS];
     store_durations(s, m, &mut duration);
-    let mut demand = [0u32; 512];
+    let mut demand = [0u32; 8 * ELEMENTS];
     store_demands(s, m, &mut demand);
     let a = 24 * m;
     read_rest(m, duration, demand, &s[a..], n - m)

@@ -6,23 +6,27 @@ mod crew;
 mod field;
 mod file;
 
-pub use checks::is_readable;
 ghost use mathlib.Core.Path.{_≡_};
 ghost use Rattle.plan.specs.Reads.{readOf};
 use file::is_length;
 use file::read_file;
 use file::refusal;
+use order::ELEMENTS;
+use order::Rows;
 
-// What a readable file says. Element i is activity i + 1; the demand of element i for kind k + 1 stands at 64 * k + i; bit j of row i of `job`
-// is a job arc from i to j, and of `extra` an extra arc.
+// How many activities a file may have. (The format's own limit: there may be more elements.)
+pub const ACTIVITIES: usize = 64;
+
+// What a readable file says. Element i is activity i + 1; the demand of element i for kind k + 1 stands at ELEMENTS * k + i; a member j of row i
+// of `job` is a job arc from i to j, and of `extra` an extra arc.
 pub struct Plan {
     pub count: usize,
     pub kinds: usize,
-    pub duration: [u32; 64],
-    pub demand: [u32; 512],
+    pub duration: [u32; ELEMENTS],
+    pub demand: [u32; 8 * ELEMENTS],
     pub available: [u32; 8],
-    pub job: [u64; 64],
-    pub extra: [u64; 64],
+    pub job: Rows,
+    pub extra: Rows,
 }
 
 // A cause of refusal, with the place of the record that has it.

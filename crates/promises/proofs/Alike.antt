@@ -10,6 +10,7 @@ use borrow.Author.Tests.{ltb-true}
 use Rattle.words.specs.Members.{first}
 use Rattle.words.proofs.Firsts.{first-cong}
 use Rattle.words.proofs.Tests.{and-left, and-right, cond-cong}
+use Rattle.order.specs.Stored.{elements}
 use Rattle.order.specs.Orders.{isBefore}
 use Rattle.order.specs.Rows.{after}
 use Rattle.order.specs.declared.Order.{Order}
@@ -31,12 +32,12 @@ use Rattle.desk.specs.declared.Cause.the-variants.{Overloaded}
 pub record Alike (p q : Plan) : Type 0 where
   pub count : p .count ≡ q .count
   pub kinds : p .kinds ≡ q .kinds
-  pub few : p .count ≤ 64
+  pub few : p .count ≤ elements
   pub few-kinds : p .kinds ≤ 8
   pub order : orderFor p ≡ orderFor q
   pub demand : (k : ℕ) → k < 8 → demandsFor (p .demand) k ≡ demandsFor (q .demand) k
   pub available : (k : ℕ) → k < 8 → availableFor p k ≡ availableFor q k
-  pub drawn : (i j : ℕ) → i < 64 → j < 64 → after (p .job) i j ≡ after (q .job) i j
+  pub drawn : (i j : ℕ) → i < elements → j < elements → after (p .job) i j ≡ after (q .job) i j
 
 module _ {p q : Plan} (a : Alike p q) where
   -- whatever goes by the count, the order and the demands of a kind
@@ -52,17 +53,17 @@ module _ {p q : Plan} (a : Alike p q) where
   need-same = same-by (λ m o d. needOf m (isBefore o) (λ i. getD d i 0))
 
   set-same : (k : ℕ) → k < 8 → shownSet p k ≡ shownSet q k
-  set-same = same-by (λ m o d. quoteOf o d .set)
+  set-same = same-by (λ m o d. quoteOf m o d .set)
 
   units-same : (k : ℕ) → k < 8 → (u v : ℕ) → flowUnits p k u v ≡ flowUnits q k u v
   unfolding flowUnits
   units-same k h u v =
-      same-by (λ m o d. nodeFlow m (λ i. getD d i 0) (handed (flowOf o d)) (needFor p k) (availableFor p k) u v) k h
+      same-by (λ m o d. nodeFlow m (λ i. getD d i 0) (handed (flowOf m o d)) (needFor p k) (availableFor p k) u v) k h
       ∙ ap (λ (x : ℕ). passed x (availableFor p k)) (need-same k h)
       ∙ ap (λ (x : ℕ). passed (needFor q k) x) (a .available k h)
     where
       passed : ℕ → ℕ → ℕ
-      passed x y = nodeFlow (q .count) (demandFor q k) (handed (flowOf (orderFor q) (demandsFor (q .demand) k))) x y u v
+      passed x y = nodeFlow (q .count) (demandFor q k) (handed (flowOf (q .count) (orderFor q) (demandsFor (q .demand) k))) x y u v
 
   -- the lowest overloaded kind, and 7
   kind-same : overKind p ≡ overKind q
@@ -80,9 +81,9 @@ module _ {p q : Plan} (a : Alike p q) where
   unfolding isOverloaded overCause
   why-same e =
       let l : overKind p < 8 = omega (arith, ltb-true (overKind p) (p .kinds) e, a .few-kinds) in
-      ap (λ (x : ℕ). Overloaded (overKind p + 1) x (shownSet p (overKind p) .word)) (need-same (overKind p) l)
-      ∙ ap (λ (x : Set). Overloaded (overKind p + 1) (needFor q (overKind p)) (x .word)) (set-same (overKind p) l)
-      ∙ ap (λ (k : ℕ). Overloaded (k + 1) (needFor q k) (shownSet q k .word)) kind-same
+      ap (λ (x : ℕ). Overloaded (overKind p + 1) x (shownSet p (overKind p))) (need-same (overKind p) l)
+      ∙ ap (λ (x : Set). Overloaded (overKind p + 1) (needFor q (overKind p)) x) (set-same (overKind p) l)
+      ∙ ap (λ (k : ℕ). Overloaded (k + 1) (needFor q k) (shownSet q k)) kind-same
 
   -- the added marks
   mark-same : (u v : ℕ) → markOf (p .job) (p .count) u v ≡ markOf (q .job) (q .count) u v
@@ -95,7 +96,7 @@ module _ {p q : Plan} (a : Alike p q) where
       (below j (and-right (ltb i (p .count)) (ltb j (p .count)) e))))
       ∙ ap (λ (m : ℕ). cond (t m) (cond (after (q .job) i j) 0 1) 0) (a .count)
     where
-      below : (x : ℕ) → ltb x (p .count) ≡ true → x < 64
+      below : (x : ℕ) → ltb x (p .count) ≡ true → x < elements
       below x e = omega (arith, ltb-true x (p .count) e, a .few)
 
   -- the records of a kind: how many, and their bytes

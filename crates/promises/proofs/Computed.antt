@@ -5,8 +5,9 @@ use Rattle.words.specs.Loops.{each, run, upto}
 use Rattle.words.specs.Members.{first, members, count}
 use Rattle.words.specs.Sums.{sum, maximum}
 use Rattle.words.specs.Tables.{table}
+use Rattle.order.specs.Stored.{row, putRow, rowTable, cells, numberOf, setOf}
 use Rattle.order.specs.Rows.{grow, arcsFrom, arcsIn, circleIn}
-use Rattle.order.specs.Orders.{extended, circleOf, orderOf, orderIn, joinedRows, afterWords}
+use Rattle.order.specs.Orders.{extended, circleOf, orderOf, orderIn, joinedRows, afterRows}
 use Rattle.records.specs.Bytes.{field, zeros, bytes}
 use Rattle.records.specs.Records.{overloadRecord}
 use Rattle.plan.specs.Records.{leading, activityFields, crewFields, arcFields}
@@ -19,8 +20,8 @@ use Rattle.schedule.specs.Arrays.{startsOf}
 use Rattle.flow_math.specs.Need.{heaviest, needOf}
 use Rattle.flow.specs.Search.{advance}
 use Rattle.flow.specs.Network.{giver, positive, joined, shifted, handing}
-use Rattle.flow.specs.Solve.{blanks, ranked, started, rounded, solved}
-use Rattle.flow.specs.Quote.{unused, copied, outcome, amount, quoteOf}
+use Rattle.flow.specs.Solve.{blanks, blankRows, ranked, started, rounded, solved}
+use Rattle.flow.specs.Quote.{unused, copied, outcome, amount, quoteIn}
 use Rattle.kinds.specs.Needs.{demandsFor}
 use Rattle.desk.specs.Open.{circlesOf, faultOf}
 use Rattle.desk.specs.Output.{lentAfter}
@@ -33,7 +34,7 @@ use Rattle.desk.specs.Crew.{someZero, badLists, crewFault, crewFound}
 use Rattle.promises.specs.Cases.{Cases}
 
 pub cases : Cases
-unfolding digit bit each run upto first members count sum maximum table grow arcsFrom arcsIn circleIn extended circleOf orderOf orderIn joinedRows afterWords field zeros bytes overloadRecord leading activityFields crewFields arcFields durationsOf demandsOf availableOf withArc arcsUpTo planOf activityCause crewCause arcCause causeAt firstRefusal recordsCause isLength answerOf readOf asked rounds earliestOf endOf brokenTo brokenFrom occupied lowestKind lastFinish quiet firstPeriod checkOf startsOf heaviest needOf advance giver positive joined shifted handing blanks ranked started rounded solved unused copied outcome amount quoteOf demandsFor circlesOf faultOf lentAfter needFor overKind isOverloaded overCause verdictFault needsFault needNumbers needsOut startsFault startsOut startNumbers withEnd overloadFault overCount overBytes overloadOut someZero badLists crewFault crewFound
+unfolding row putRow rowTable cells numberOf setOf digit bit each run upto first members count sum maximum table grow arcsFrom arcsIn circleIn extended circleOf orderOf orderIn joinedRows afterRows field zeros bytes overloadRecord leading activityFields crewFields arcFields durationsOf demandsOf availableOf withArc arcsUpTo planOf activityCause crewCause arcCause causeAt firstRefusal recordsCause isLength answerOf readOf asked rounds earliestOf endOf brokenTo brokenFrom occupied lowestKind lastFinish quiet firstPeriod checkOf startsOf heaviest needOf advance giver positive joined shifted handing blanks blankRows ranked started rounded solved unused copied outcome amount quoteIn demandsFor circlesOf faultOf lentAfter needFor overKind isOverloaded overCause verdictFault needsFault needNumbers needsOut startsFault startsOut startNumbers withEnd overloadFault overCount overBytes overloadOut someZero badLists crewFault crewFound
 cases =
     record {
       a-accepted = refl;

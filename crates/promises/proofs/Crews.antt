@@ -13,6 +13,7 @@ use Rattle.words.specs.Members.{first}
 use Rattle.words.proofs.Firsts.{before-first}
 use Rattle.words.proofs.Sums.{sum-zero}
 use Rattle.words.proofs.Tests.{cond-least}
+use Rattle.order.specs.Stored.{elements}
 use Rattle.schedule.specs.Network.{Arc}
 use Rattle.schedule.specs.Checks.{atWork, occupied, checkOf, Enough, FirstOver}
 use Rattle.schedule.specs.Arrays.{crewNet}
@@ -65,7 +66,7 @@ module _ (s starts worked : List ℕ) {x : Checked} (L : CrewRight s starts work
             record { from = omega (arith, h .0, L .starts-all); to = omega (arith, h .1, L .starts-all); drawn = plan-arcs s e i j .1 f .drawn }),
       )
     where
-      short : {k : ℕ} → k < length starts → k < 64
+      short : {k : ℕ} → k < length starts → k < elements
       short h = omega (arith, count-few s, L .starts-all)
 
 -- IT FITS: every arc of the file is kept, and in no period is more of a kind occupied than is available
@@ -101,10 +102,10 @@ module _ (s starts worked : List ℕ) {x : Checked} (L : CrewRight s starts work
   none-occupied : (t k : ℕ) → planIn s .kinds ≤ k → k < 8 → occupied (crewWork s starts worked) t k ≡ 0
   unfolding occupied
   none-occupied t k l h =
-      sum-zero (length starts) (λ i. cond (atWork (crewWork s starts worked) t i) (getD (planIn s .demand) (64 * k + i) 0) 0)
+      sum-zero (length starts) (λ i. cond (atWork (crewWork s starts worked) t i) (getD (planIn s .demand) (elements * k + i) 0) 0)
       (λ i li.
       let z = said-in s (opens-readable s (L .opens)) .no-kind k i l h (omega (arith, count-few s, L .starts-all)) in
-      let c = cond-least (atWork (crewWork s starts worked) t i) (getD (planIn s .demand) (64 * k + i) 0) 0 (λ y. omega arith) in
+      let c = cond-least (atWork (crewWork s starts worked) t i) (getD (planIn s .demand) (elements * k + i) 0) 0 (λ y. omega arith) in
       omega (arith, c))
 
   pub over-kind : (t k : ℕ) → FirstOver (crewWork s starts worked) t k → k < planIn s .kinds

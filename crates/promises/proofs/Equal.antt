@@ -15,6 +15,7 @@ use Rattle.words.proofs.Tables.{table-same}
 use Rattle.records.proofs.Fields.{field-same, byte-same}
 use Rattle.words.proofs.Tests.{test-same, and-right, ⊎-iff}
 use Rattle.records.specs.Bytes.{field}
+use Rattle.order.specs.Stored.{elements}
 use Rattle.order.specs.Orders.{Direct}
 use Rattle.order.specs.Rows.{after}
 use Rattle.order.proofs.Orders.{direct-same}
@@ -50,7 +51,7 @@ module _ (s t : List ℕ) (e : Readable s) (f : Readable t) (same : SamePlan s t
   jobs : (i j : ℕ) → Direct (planIn s .job) i j ↔ Direct (planIn t .job) i j
   jobs i j = Iff·trans (job-arcs s e i j) (Iff·trans (same .job i j) (Iff·symm (job-arcs t f i j)))
 
-  drawn : (i j : ℕ) → i < 64 → j < 64 → after (planIn s .job) i j ≡ after (planIn t .job) i j
+  drawn : (i j : ℕ) → i < elements → j < elements → after (planIn s .job) i j ≡ after (planIn t .job) i j
   drawn i j h l =
       test-same (after (planIn s .job) i j) (after (planIn t .job) i j)
       ((λ w. jobs i j .0 (record { from = h; to = l; drawn = w }) .drawn), (λ w. jobs i j .1 (record { from = h; to = l; drawn = w }) .drawn))
@@ -74,7 +75,7 @@ module _ (s t : List ℕ) (e : Readable s) (f : Readable t) (same : SamePlan s t
       ∙ sym (readable-fault (answerOf t) (circlesOf (jobOrder t) (planOrder t)) f)
 
   -- the demands
-  demand-at : (k i : ℕ) → k < 8 → i < 64 → demandAt (planIn s .demand) k i ≡ demandAt (planIn t .demand) k i
+  demand-at : (k i : ℕ) → k < 8 → i < elements → demandAt (planIn s .demand) k i ≡ demandAt (planIn t .demand) k i
   demand-at k i hk h =
       by-cases (decLt i (planIn s .count))
       (λ l. said-in s e .demand k i hk l ∙ demanded l ∙ sym (said-in t f .demand k i hk (omega (arith, counts))))
@@ -85,7 +86,7 @@ module _ (s t : List ℕ) (e : Readable s) (f : Readable t) (same : SamePlan s t
 
   demands : (k : ℕ) → k < 8 → demandsFor (planIn s .demand) k ≡ demandsFor (planIn t .demand) k
   unfolding demandsFor
-  demands k hk = table-same 64 (demandAt (planIn s .demand) k) (demandAt (planIn t .demand) k) (λ i h. demand-at k i hk h)
+  demands k hk = table-same elements (demandAt (planIn s .demand) k) (demandAt (planIn t .demand) k) (λ i h. demand-at k i hk h)
 
   alike : Alike (planIn s) (planIn t)
   alike =
@@ -94,7 +95,7 @@ module _ (s t : List ℕ) (e : Readable s) (f : Readable t) (same : SamePlan s t
       record {
         count = counts;
         kinds = kinds-in s e ∙ byte-same 24 c d (same .crew) 1 (omega arith) ∙ sym (kinds-in t f);
-        few = said-in s e .few;
+        few = omega (arith, said-in s e .few);
         few-kinds = kinds-few s;
         order = plan-orders;
         demand = demands;

@@ -8,6 +8,7 @@ use native.Mathlib.Omega.{arith}
 use native.Mathlib.Decide.{decLt}
 use lib.Dec.{ltb}
 use borrow.Author.Tests.{ltb-true, ltb-false}
+use Rattle.order.specs.Stored.{elements}
 use Rattle.order.specs.Before.{Acyclic}
 use Rattle.order.specs.Orders.{OrderOf, circleOf}
 use Rattle.order.specs.declared.Order.{Order}
@@ -49,7 +50,7 @@ opens-when s = ((λ o. (opens-readable s o, opens-acyclic s o)), back)
 
 not-circle : (job whole : Order) (c : Unread) → circlesOf job whole ≡ Refused (Unreadable c) → ⊥
 unfolding circlesOf
-not-circle job whole c e = go (ltb (circleOf job) 64) (ltb (circleOf whole) 64) e
+not-circle job whole c e = go (ltb (circleOf job) elements) (ltb (circleOf whole) elements) e
   where
     go : (a b : Bool) → cond a (Refused (JobCircle (circleOf job + 1))) (cond b (Refused (PlanCircle (circleOf whole + 1))) Fine) ≡ Refused (Unreadable c) → ⊥
     go true b e = let z : _≡_ {A = ℕ} 0 1 = cc in omega arith
@@ -80,30 +81,30 @@ from-circles s c never e = go (answerOf s) refl e
     go (answer.Refused u) q e = absurd (never u e)
 
 module _ (job whole : Order) (i : ℕ) where
-  job-found : circlesOf job whole ≡ Refused (JobCircle (i + 1)) → (circleOf job ≡ i) × (circleOf job < 64)
+  job-found : circlesOf job whole ≡ Refused (JobCircle (i + 1)) → (circleOf job ≡ i) × (circleOf job < elements)
   unfolding circlesOf
-  job-found e = go (ltb (circleOf job) 64) (ltb (circleOf whole) 64) refl e
+  job-found e = go (ltb (circleOf job) elements) (ltb (circleOf whole) elements) refl e
     where
-      go : (a b : Bool) → ltb (circleOf job) 64 ≡ a
+      go : (a b : Bool) → ltb (circleOf job) elements ≡ a
           → cond a (Refused (JobCircle (circleOf job + 1))) (cond b (Refused (PlanCircle (circleOf whole + 1))) Fine) ≡ Refused (JobCircle (i + 1))
-          → (circleOf job ≡ i) × (circleOf job < 64)
-      go true b p e = let z : circleOf job + 1 ≡ i + 1 = cc in (omega arith, ltb-true (circleOf job) 64 p)
+          → (circleOf job ≡ i) × (circleOf job < elements)
+      go true b p e = let z : circleOf job + 1 ≡ i + 1 = cc in (omega arith, ltb-true (circleOf job) elements p)
       go false true p e = absurd (let z : _≡_ {A = ℕ} 0 1 = cc in omega arith)
       go false false p e = absurd (let z : _≡_ {A = ℕ} 0 1 = cc in omega arith)
 
-  plan-found : circlesOf job whole ≡ Refused (PlanCircle (i + 1)) → (64 ≤ circleOf job) × (circleOf whole ≡ i) × (circleOf whole < 64)
+  plan-found : circlesOf job whole ≡ Refused (PlanCircle (i + 1)) → (elements ≤ circleOf job) × (circleOf whole ≡ i) × (circleOf whole < elements)
   unfolding circlesOf
-  plan-found e = go (ltb (circleOf job) 64) (ltb (circleOf whole) 64) refl refl e
+  plan-found e = go (ltb (circleOf job) elements) (ltb (circleOf whole) elements) refl refl e
     where
-      go : (a b : Bool) → ltb (circleOf job) 64 ≡ a → ltb (circleOf whole) 64 ≡ b
+      go : (a b : Bool) → ltb (circleOf job) elements ≡ a → ltb (circleOf whole) elements ≡ b
           → cond a (Refused (JobCircle (circleOf job + 1))) (cond b (Refused (PlanCircle (circleOf whole + 1))) Fine) ≡ Refused (PlanCircle (i + 1))
-          → (64 ≤ circleOf job) × (circleOf whole ≡ i) × (circleOf whole < 64)
+          → (elements ≤ circleOf job) × (circleOf whole ≡ i) × (circleOf whole < elements)
       go true b p q e = absurd (let z : _≡_ {A = ℕ} 0 1 = cc in omega arith)
-      go false true p q e = let z : circleOf whole + 1 ≡ i + 1 = cc in (ltb-false (circleOf job) 64 p, omega arith, ltb-true (circleOf whole) 64 q)
+      go false true p q e = let z : circleOf whole + 1 ≡ i + 1 = cc in (ltb-false (circleOf job) elements p, omega arith, ltb-true (circleOf whole) elements q)
       go false false p q e = absurd (let z : _≡_ {A = ℕ} 0 1 = cc in omega arith)
 
 -- a circle that was found
-lowest-of : {o : Order} {A : ℕ → ℕ → Type 0} → OrderOf o A → (i : ℕ) → circleOf o ≡ i → circleOf o < 64 → Lowest A i
+lowest-of : {o : Order} {A : ℕ → ℕ → Type 0} → OrderOf o A → (i : ℕ) → circleOf o ≡ i → circleOf o < elements → Lowest A i
 lowest-of {o} {A} r i e l =
     let w = circle-lowest r l in
     subst (Lowest A) e (record { round = w .0; none = w .1 })
@@ -124,10 +125,10 @@ plan-circle-means s i e =
 
 -- ---- and each meaning has its cause
 
-is-lowest : {o : Order} {A : ℕ → ℕ → Type 0} → OrderOf o A → (i : ℕ) → Lowest A i → (circleOf o ≡ i) × (circleOf o < 64)
-is-lowest {o} {A} r i L = go (decLt (circleOf o) 64) (decLt (circleOf o) i) (decLt i (circleOf o))
+is-lowest : {o : Order} {A : ℕ → ℕ → Type 0} → OrderOf o A → (i : ℕ) → Lowest A i → (circleOf o ≡ i) × (circleOf o < elements)
+is-lowest {o} {A} r i L = go (decLt (circleOf o) elements) (decLt (circleOf o) i) (decLt i (circleOf o))
   where
-    go : Dec (circleOf o < 64) → Dec (circleOf o < i) → Dec (i < circleOf o) → (circleOf o ≡ i) × (circleOf o < 64)
+    go : Dec (circleOf o < elements) → Dec (circleOf o < i) → Dec (i < circleOf o) → (circleOf o ≡ i) × (circleOf o < elements)
     go (yes l) (yes h) d = absurd (L .none (circleOf o) h (circle-lowest r l .0))
     go (yes l) (no h) (yes k) = absurd (circle-lowest r l .1 i k (L .round))
     go (yes l) (no h) (no k) = (omega arith, l)
@@ -145,4 +146,4 @@ means-plan-circle s i e free L =
     let c = is-lowest (plan-order s e) i L in
     let n = circle-none (job-order s e) .1 free in
     readable-fault (answerOf s) (circlesOf (jobOrder s) (planOrder s)) e
-    ∙ sym (circles-plan (jobOrder s) (planOrder s) 64 i (sym n) (omega arith) (sym (c .0)) (omega (arith, c .0, c .1)))
+    ∙ sym (circles-plan (jobOrder s) (planOrder s) elements i (sym n) (omega arith) (sym (c .0)) (omega (arith, c .0, c .1)))

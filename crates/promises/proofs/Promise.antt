@@ -11,6 +11,7 @@ use borrow.Author.Tests.{lt-ltb, le-leb, leb-true}
 use Rattle.words.specs.Bits.{bit}
 use Rattle.words.specs.Members.{count}
 use Rattle.words.proofs.Tests.{by-test, cond-true, and-right, and-both}
+use Rattle.order.specs.Stored.{elements, numberOf}
 use Rattle.order.specs.Sets.{sizeOf}
 use Rattle.records.specs.Bytes.{AreBytes, byte, field}
 use Rattle.records.specs.Records.{overloadRecord}
@@ -20,7 +21,6 @@ use Rattle.plan.specs.Records.{activityCount}
 use Rattle.kinds.specs.Needs.{demandsFor}
 use Rattle.kinds.specs.Reading.{unitsRead}
 use Rattle.flow.proofs.Headline.{need-small}
-use Rattle.flow.proofs.First.{set-small}
 use Rattle.desk.specs.Open.{planIn, planOrder, isFine, faultOf, orCause, Opens}
 use Rattle.desk.specs.Numbers.{numbersOf}
 use Rattle.desk.specs.Need.{needFor, overKind, isOverloaded, shownSet, overCause}
@@ -40,7 +40,7 @@ use Rattle.desk.proofs.Turns.{cause-none, cause-next, fine-is}
 use Rattle.desk.proofs.Writing.{output-fine, output-is-fine, output-is-refused, lent-fine}
 use Rattle.desk.proofs.Opening.{opens-readable}
 use Rattle.promises.proofs.Faults.{opens-when}
-use Rattle.desk.proofs.Weighing.{count-in, kinds-in, quotable, need-quoted}
+use Rattle.desk.proofs.Weighing.{count-in, kinds-in, quotable, need-quoted, set-fits}
 use Rattle.promises.proofs.Quoting.{need-some, need-every, crew-none, crew-some}
 use Rattle.desk.proofs.Passing.{flow-said}
 use Rattle.promises.proofs.Flowing.{file-flow, file-unused}
@@ -97,8 +97,8 @@ module _ (s : List ℕ) (small : AreBytes s) (o : Opens s) where
   seven t = (
     overKind (planIn s) + 1,
     needFor (planIn s) (overKind (planIn s)),
-    shownSet (planIn s) (overKind (planIn s)) .word,
-    count 64 (bit (shownSet (planIn s) (overKind (planIn s)) .word)),
+    numberOf (shownSet (planIn s) (overKind (planIn s))),
+    count elements (bit (numberOf (shownSet (planIn s) (overKind (planIn s))))),
     refl,
     shown s small o t,
   )
@@ -115,8 +115,8 @@ module _ (s : List ℕ) (small : AreBytes s) (o : Opens s) where
   unfolding overCause
   seven-shown c kind need set size t e i =
       let q = planIn s in
-      let w = shownSet q (overKind q) .word in
-      let j : (overKind q + 1) ∷ needFor q (overKind q) ∷ w ∷ count 64 (bit w) ∷ [] ≡ kind ∷ need ∷ set ∷ size ∷ [] = tails (sym (ap numbersOf e) ∙ i) in
+      let w = numberOf (shownSet q (overKind q)) in
+      let j : (overKind q + 1) ∷ needFor q (overKind q) ∷ w ∷ count elements (bit w) ∷ [] ≡ kind ∷ need ∷ set ∷ size ∷ [] = tails (sym (ap numbersOf e) ∙ i) in
       values j (shown s small o t)
     where
       tails : {x y : ℕ} {xs ys : List ℕ} → x ∷ xs ≡ y ∷ ys → xs ≡ ys
@@ -139,13 +139,13 @@ module _ (s : List ℕ) (small : AreBytes s) (o : Opens s) where
         omega (
           arith,
           need-quoted s small o (overKind (planIn s)) h,
-          need-small (planOrder s) (demandsFor (planIn s .demand) (overKind (planIn s))) (quotable s small o (overKind (planIn s))),
+          need-small (planIn s .count) (planOrder s) (demandsFor (planIn s .demand) (overKind (planIn s))) (quotable s small o (overKind (planIn s)) h),
         )
 
     over-out : (out : List ℕ) → overloadFault s (length out) ≡ fault.Fine
         → overloadOut s out
         ≡ overloadRecord (overKind (planIn s) + 1) (sizeOf (shownSet (planIn s) (overKind (planIn s)))) (needFor (planIn s) (overKind (planIn s)))
-        (shownSet (planIn s) (overKind (planIn s)) .word) ++ drop (length (overBytes (planIn s))) out
+        (numberOf (shownSet (planIn s) (overKind (planIn s)))) ++ drop (length (overBytes (planIn s))) out
     unfolding overloadOut overBytes
     over-out out f =
         lent-fine (overloadFault s (length out)) (overBytes (planIn s)) out f
@@ -155,8 +155,8 @@ module _ (s : List ℕ) (small : AreBytes s) (o : Opens s) where
         → Shown s (byte (overloadOut s out) 1) (field (overloadOut s out) 4 4) (field (overloadOut s out) 8 8) (byte (overloadOut s out) 2)
     over-read out f =
         let k = overKind (planIn s) in
-        let w = overload-read (k + 1) (sizeOf (shownSet (planIn s) k)) (needFor (planIn s) k) (shownSet (planIn s) k .word)
-        (drop (length (overBytes (planIn s))) out) need-fits (set-small (planOrder s) (demandsFor (planIn s .demand) k)) in
+        let w = overload-read (k + 1) (sizeOf (shownSet (planIn s) k)) (needFor (planIn s) k) (numberOf (shownSet (planIn s) k))
+        (drop (length (overBytes (planIn s))) out) need-fits (set-fits s small o k (few s small o (over-below s small o t) .1)) in
         rw (over-out out f, w .0, w .1, w .2, w .3) (shown s small o t)
 
   overload-shows : (out : List ℕ) → overloadAnswer s (length out) ≡ output.Written 1

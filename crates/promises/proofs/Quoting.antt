@@ -3,12 +3,12 @@
 use mathlib.Core.Path.{_≡_, sym, _∙_, ap}
 use mathlib.Core.Bool.{Bool, true}
 use mathlib.Core.List.{List}
-use mathlib.Core.Logic.{_↔_, by-cases}
+use mathlib.Core.Logic.{_↔_}
 use Prim.Native.Nat.{ℕ, _+_, _≤_, _<_}
-use native.Mathlib.Decide.{decLt}
 use native.Mathlib.Omega.{arith}
 use Rattle.words.specs.Bits.{bit}
 use Rattle.records.specs.Bytes.{AreBytes}
+use Rattle.order.specs.Stored.{elements, numberOf}
 use Rattle.order.specs.Before.{Before, last, StrictOrder}
 use Rattle.order.specs.Orders.{isBefore}
 use Rattle.order.proofs.Before.{before-least, before-within, strict-first}
@@ -27,7 +27,7 @@ use Rattle.desk.specs.Need.{demandFor, needFor, shownSet}
 use Rattle.desk.specs.File.{FileArc, fileDemand, Unrelated, demandSum, FileCrew, crewOccupies}
 use Rattle.desk.proofs.Opening.{opens-readable, count-few}
 use Rattle.desk.proofs.Meaning.{arc-ends, plan-order, opens-strict}
-use Rattle.desk.proofs.Weighing.{count-in, demand-in, demand-none, quotable, sound-in}
+use Rattle.desk.proofs.Weighing.{count-in, demand-in, quotable, sound-in}
 
 module _ (s : List ℕ) (small : AreBytes s) (o : Opens s) where
   readable : Readable s
@@ -36,7 +36,7 @@ module _ (s : List ℕ) (small : AreBytes s) (o : Opens s) where
   -- ---- the plan order is that of the file's arcs, of the m activities
 
   pub strict-in : StrictOrder (planIn s .count) (isBefore (planOrder s))
-  strict-in = strict-first (planIn s .count) 64 (isBefore (planOrder s)) (count-few s) (opens-strict s o)
+  strict-in = strict-first (planIn s .count) elements (isBefore (planOrder s)) (count-few s) (opens-strict s o)
 
   pub before-in : (i j : ℕ) → (isBefore (planOrder s) i j ≡ true) ↔ Before (FileArc s) i j
   before-in = order-means (plan-order s readable)
@@ -69,21 +69,16 @@ module _ (s : List ℕ) (small : AreBytes s) (o : Opens s) where
 
   -- ---- THE SET SHOWN: it is unrelated, demands exactly the need, and holds only activities that demand the kind
 
-  pub set-unrelated : (k : ℕ) → k < 8 → Unrelated s (bit (shownSet (planIn s) k .word))
-  set-unrelated k h = unrelated-in (bit (shownSet (planIn s) k .word)) .0 (sound-in s small o k h .unrelated)
+  pub set-unrelated : (k : ℕ) → k < 8 → Unrelated s (bit (numberOf (shownSet (planIn s) k)))
+  set-unrelated k h = unrelated-in (bit (numberOf (shownSet (planIn s) k))) .0 (sound-in s small o k h .unrelated)
 
-  pub set-demands : (k : ℕ) → k < 8 → demandSum s k (bit (shownSet (planIn s) k .word)) ≡ needFor (planIn s) k
-  set-demands k h = sym (sum-in k h (bit (shownSet (planIn s) k .word))) ∙ sound-in s small o k h .weighs
+  pub set-demands : (k : ℕ) → k < 8 → demandSum s k (bit (numberOf (shownSet (planIn s) k))) ≡ needFor (planIn s) k
+  set-demands k h = sym (sum-in k h (bit (numberOf (shownSet (planIn s) k)))) ∙ sound-in s small o k h .weighs
 
-  pub set-members : (k : ℕ) → k < 8 → (i : ℕ) → bit (shownSet (planIn s) k .word) i ≡ true → (i < activityCount s) × (0 < fileDemand s k i)
+  pub set-members : (k : ℕ) → k < 8 → (i : ℕ) → bit (numberOf (shownSet (planIn s) k)) i ≡ true → (i < activityCount s) × (0 < fileDemand s k i)
   set-members k h i e =
-      by-cases (decLt i (planIn s .count))
-      (λ l. (omega (arith, count-in s readable), omega (arith, demand-in s small o k i h l, w .1)))
-      (λ g. absurd (omega (arith, demand-none s small o k i h (omega arith) (w .0), w .1)))
-    where
-      -- below 64, with a demand
-      w : (i < 64) × (0 < demandFor (planIn s) k i)
-      w = set-within (planOrder s) (demandsFor (planIn s .demand) k) (quotable s small o k) i e
+      let w = set-within (planIn s .count) (planOrder s) (demandsFor (planIn s .demand) k) (quotable s small o k h) i e in
+      (omega (arith, w .0, count-in s readable), omega (arith, demand-in s small o k i h (w .0), w .1))
 
   -- ---- CREWS
 

@@ -13,6 +13,7 @@ use Rattle.words.proofs.Firsts.{first-below, at-first, before-first}
 use Rattle.words.proofs.Tables.{getD-table, length-table}
 use Rattle.words.proofs.Tests.{by-test}
 use Rattle.records.specs.Bytes.{AreBytes}
+use Rattle.order.specs.Stored.{elements, numberOf}
 use Rattle.plan.specs.Meaning.{Readable}
 use Rattle.desk.specs.Open.{planIn, faultOf, Opens}
 use Rattle.desk.specs.Need.{availableFor, needFor, overKind, isOverloaded, shownSet}
@@ -93,8 +94,8 @@ module _ (s : List ℕ) (small : AreBytes s) (o : Opens s) where
         omega (arith, w .0, w .1, ltb-false (availableFor (planIn s) k) (needFor (planIn s) k) t)
 
     -- THE SET SHOWN
-    pub shown : Shown s (overKind (planIn s) + 1) (needFor (planIn s) (overKind (planIn s))) (shownSet (planIn s) (overKind (planIn s)) .word)
-        (count 64 (bit (shownSet (planIn s) (overKind (planIn s)) .word)))
+    pub shown : Shown s (overKind (planIn s) + 1) (needFor (planIn s) (overKind (planIn s))) (numberOf (shownSet (planIn s) (overKind (planIn s))))
+        (count elements (bit (numberOf (shownSet (planIn s) (overKind (planIn s))))))
     shown =
         let h = few over-below .1 in
         record {

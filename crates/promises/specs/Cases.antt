@@ -4,6 +4,7 @@ use mathlib.Core.Path.{_≡_}
 use mathlib.Core.List.{List, [], _∷_, _++_}
 use Prim.Native.Nat.{ℕ}
 use lib.ListN.{replicate}
+use Rattle.order.specs.Stored.{setOf}
 use Rattle.schedule.specs.declared.Checked.the-variants.{Fits, Broken, Overload}
 use Rattle.desk.specs.Numbers.{numbersOf}
 use Rattle.desk.specs.Verdict.{verdictAnswer}
@@ -55,12 +56,12 @@ pub record Cases : Type 0 where
   -- "*A accepted, need 4."
   pub a-accepted : verdictAnswer planA ≡ Accepted 4 1
   pub a-need : needsOut planA (9 ∷ 9 ∷ []) ≡ 4 ∷ 9 ∷ []
-  -- "*B, A with extra arcs 1→2, 1→3, 1→4: `refused 7 1 6 2 3 4`": the set of the activities 2, 3 and 4 is the word 14
-  pub b-overloaded : verdictAnswer planB ≡ Refused (Overloaded 1 6 14)
+  -- "*B, A with extra arcs 1→2, 1→3, 1→4: `refused 7 1 6 2 3 4`": the set of the activities 2, 3 and 4 is the number 14
+  pub b-overloaded : verdictAnswer planB ≡ Refused (Overloaded 1 6 (setOf 14))
   pub b-need : needsOut planB (9 ∷ []) ≡ 6 ∷ []
   -- "*C, A with none: need 8, set all four."
-  pub c-overloaded : verdictAnswer planC ≡ Refused (Overloaded 1 8 15)
-  pub c-numbers : numbersOf (Overloaded 1 8 15) ≡ 7 ∷ 1 ∷ 8 ∷ 15 ∷ 4 ∷ []
+  pub c-overloaded : verdictAnswer planC ≡ Refused (Overloaded 1 8 (setOf 15))
+  pub c-numbers : numbersOf (Overloaded 1 8 (setOf 15)) ≡ 7 ∷ 1 ∷ 8 ∷ 15 ∷ 4 ∷ []
   pub c-need : needsOut planC (9 ∷ []) ≡ 8 ∷ []
   pub c-record : overloadOut planC (replicate 25 9) ≡ 32 ∷ 1 ∷ 4 ∷ 0 ∷ 8 ∷ 0 ∷ 0 ∷ 0 ∷ 15 ∷ replicate 15 0 ++ 9 ∷ []
   -- "*D, A with 1→3, 1→4, 2→3, 2→4: need 4."
@@ -74,7 +75,7 @@ pub record Cases : Type 0 where
   pub e-needs : needsAnswer planEJob 0 ≡ output.Refused (JobCircle 1)
   -- "*F, one activity, demand 4 of 4: accepted; *demand 5: 7, need 5."
   pub f-accepted : verdictAnswer (planF 4) ≡ Accepted 1 1
-  pub f-overloaded : verdictAnswer (planF 5) ≡ Refused (Overloaded 1 5 1)
+  pub f-overloaded : verdictAnswer (planF 5) ≡ Refused (Overloaded 1 5 (setOf 1))
   -- Starts of A, as the report prints them, and cause 9
   pub a-starts : startsOut planA (9 ∷ 9 ∷ 9 ∷ 9 ∷ 9 ∷ 9 ∷ []) ≡ 0 ∷ 1 ∷ 0 ∷ 3 ∷ 4 ∷ 9 ∷ []
   pub a-short : startsAnswer planA 4 ≡ output.Refused (Short 5)

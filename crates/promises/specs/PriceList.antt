@@ -8,6 +8,7 @@ use Prim.Native.Nat.{ℕ, _+_, _-_, _≤_, _<_}
 use lib.ListN.{length, getD, replicate}
 use Rattle.words.specs.Bits.{bit}
 use Rattle.words.specs.Members.{count}
+use Rattle.order.specs.Stored.{elements}
 use Rattle.order.specs.Before.{Acyclic}
 use Rattle.records.specs.Bytes.{AreBytes, byte, field}
 use Rattle.plan.specs.Meaning.{Readable}
@@ -50,7 +51,7 @@ pub record Shown (s : List ℕ) (kind need set size : ℕ) : Type 0 where
   pub unrelated : Unrelated s (bit set)
   pub demands : demandSum s index (bit set) ≡ need
   pub members : (i : ℕ) → bit set i ≡ true → (i < activityCount s) × (0 < fileDemand s index i)
-  pub size-is : size ≡ count 64 (bit set)
+  pub size-is : size ≡ count elements (bit set)
 
 pub record PriceList (s : List ℕ) : Type 0 where
   -- "They share one number for each kind of worker, the quoted need, as Needs writes it.": whatever is lent, if it is long enough

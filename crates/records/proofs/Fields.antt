@@ -1,9 +1,10 @@
 -- What is read of the bytes of a number, and that they are bytes. Assumes nothing.
-use mathlib.Core.Path.{_≡_, refl, sym, ap, _∙_}
+use mathlib.Core.Path.{_≡_, refl, sym, ap, ap₂, _∙_}
 use mathlib.Core.List.{List, [], _∷_, _++_}
 use Prim.Native.Nat.{ℕ, zero, suc, _+_, _*_, _/_, _%_, _^_, _≤_, _<_}
 use native.Mathlib.Omega.{arith}
 use native.Mathlib.Nat.{pow-zero, pow-suc, mod-lt, mod-add-div, div-lt-iff-lt-mul}
+use lib.Arith.{mod-mul}
 use lib.ListN.{length, take, drop, replicate, List·getD-append}
 use lib.Seq.{getD-take, getD-drop}
 use Rattle.records.specs.Bytes.{byte, field, bytes, AreBytes}
@@ -12,6 +13,22 @@ pub length-bytes : (n x : ℕ) → length (bytes n x) ≡ n
 unfolding bytes
 length-bytes zero x = refl
 length-bytes (suc n) x = ap suc (length-bytes n (x / 256))
+
+power-pos : (n : ℕ) → 0 < 256 ^ n
+power-pos zero = omega (arith, pow-zero 256)
+power-pos (suc n) = omega (arith, pow-suc 256 n, power-pos n)
+
+-- the n bytes of a number are those of its rest by 256 ^ n
+pub bytes-low : (n x : ℕ) → bytes n (x % 256 ^ n) ≡ bytes n x
+unfolding bytes
+bytes-low zero x = refl
+bytes-low (suc n) x =
+    let e : x % 256 ^ suc n ≡ x / 256 % 256 ^ n * 256 + x % 256 =
+    ap (λ (p : ℕ). x % p) (pow-suc 256 n) ∙ mod-mul x (power-pos n) (omega arith) in
+    let small : x % 256 < 256 = mod-lt x (omega arith) in
+    let low : x % 256 ^ suc n % 256 ≡ x % 256 = omega (arith, e, small) in
+    let high : x % 256 ^ suc n / 256 ≡ x / 256 % 256 ^ n = omega (arith, e, small) in
+    ap₂ (λ (b y : ℕ). b ∷ bytes n y) low high ∙ ap (λ (l : List ℕ). x % 256 ∷ l) (bytes-low n (x / 256))
 
 -- ---- fields
 

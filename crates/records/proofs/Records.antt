@@ -1,13 +1,13 @@
 -- What stands in a flow record and in an overload record. Assumes nothing.
-use mathlib.Core.Path.{_≡_, refl, _∙_}
+use mathlib.Core.Path.{_≡_, refl, ap, _∙_}
 use mathlib.Core.Bool.{true}
 use mathlib.Core.List.{List, [], _∷_, _++_}
-use Prim.Native.Nat.{ℕ, _^_, _<_}
+use Prim.Native.Nat.{ℕ, _%_, _^_, _<_}
 use native.Mathlib.Omega.{arith}
 use lib.ListN.{length, drop, replicate, List·getD-append}
 use Rattle.records.specs.Bytes.{byte, field, bytes, zeros, AreBytes}
 use Rattle.records.specs.Records.{flowRecord, overloadRecord}
-use Rattle.records.proofs.Fields.{field-append, field-bytes, bytes-cons, bytes-append, bytes-bytes, bytes-zeros}
+use Rattle.records.proofs.Fields.{bytes-low, field-append, field-bytes, bytes-cons, bytes-append, bytes-bytes, bytes-zeros}
 
 module _ (kind from to units mark : ℕ) where
   pub flow-length : length (flowRecord kind from to units mark) ≡ 24
@@ -67,6 +67,11 @@ module _ (kind size need members : ℕ) where
   pub overload-size : byte (overloadRecord kind size need members) 2 ≡ size
   unfolding overloadRecord
   overload-size = refl
+
+  -- the set's field takes the eight lowest bytes of a number
+  pub overload-low : overloadRecord kind size need (members % 256 ^ 8) ≡ overloadRecord kind size need members
+  unfolding overloadRecord
+  overload-low = ap (λ (l : List ℕ). 32 ∷ kind ∷ size ∷ 0 ∷ bytes 4 need ++ l ++ replicate 8 0) (bytes-low 8 members)
 
   pub overload-need : need < 256 ^ 4 → field (overloadRecord kind size need members) 4 4 ≡ need
   unfolding overloadRecord field bytes

@@ -13,7 +13,7 @@ use Rattle.desk.specs.Need.{isOverloaded, overCause}
 use Rattle.desk.specs.Verdict.{verdictFault, verdictOf, verdictAnswer}
 use Rattle.desk.specs.Needs.{needsFault, needNumbers, needsOut}
 use Rattle.desk.specs.Starts.{needed, startsFault, startNumbers, startsOut}
-use Rattle.desk.specs.Flow.{flowFault, flowCount, recordBytes, flowAnswer, flowOut}
+use Rattle.desk.specs.Flow.{mostRecords, flowFault, flowCount, recordBytes, flowAnswer, flowOut}
 use Rattle.desk.specs.declared.Cause.the-variants.{Short}
 use Rattle.desk.specs.declared.Fault.{Fault}
 use Rattle.desk.specs.declared.Fault.the-variants.{Fine, Refused}
@@ -22,7 +22,7 @@ use Rattle.desk.specs.declared.Decision.the-variants as decision
 use Rattle.desk.specs.declared.Output.the-variants.{Written}
 use Rattle.desk.proofs.Turns.{cause-fine, cause-none}
 use Rattle.desk.proofs.Writing.{output-fine, lent-fine, lent-front}
-use Rattle.desk.proofs.Opening.{count-few}
+use Rattle.desk.proofs.Opening.{count-within}
 use Rattle.desk.proofs.Weighing.{kinds-few}
 use Rattle.desk.proofs.Pricing.{length-numbers as length-needs}
 use Rattle.desk.proofs.Starting.{length-numbers as length-starts}
@@ -66,17 +66,17 @@ module _ (s : List ℕ) (fine : Accepts s) where
 
   -- ---- Flow of a kind
 
-  pub flow-few : AreBytes s → (k : ℕ) → k < planIn s .kinds → flowCount (planIn s) k ≤ 2145
+  pub flow-few : AreBytes s → (k : ℕ) → k < planIn s .kinds → flowCount (planIn s) k ≤ mostRecords
   flow-few bytes k h =
       let room = count-room s bytes (opens .0) k (omega (arith, kinds-few s)) (not-over s (opens .1) k h) in
-      omega (arith, length-few (planIn s .count) (count-few s))
+      omega (arith, length-few (planIn s .count) (count-within s))
 
   -- with enough bytes lent it is written
-  module _ (kind : ℕ) (some : 1 ≤ kind) (within : kind ≤ planIn s .kinds) (out : List ℕ) (room : 24 * 2145 ≤ length out) where
+  module _ (kind : ℕ) (some : 1 ≤ kind) (within : kind ≤ planIn s .kinds) (out : List ℕ) (room : 24 * mostRecords ≤ length out) where
     flow-goes : flowFault s kind (length out) ≡ Fine
     flow-goes =
         fine-flow s kind (length out) (opens .0) (sym (kind-some kind (planIn s .kinds) some) ∙ le-leb kind (planIn s .kinds) within)
-        (omega (arith, length-few (planIn s .count) (count-few s))) (opens .1)
+        (omega (arith, length-few (planIn s .count) (count-within s))) (opens .1)
 
     pub flow-answers : flowAnswer s kind (length out) ≡ Written (flowCount (planIn s) (kind - 1))
     flow-answers = output-fine (flowFault s kind (length out)) (flowCount (planIn s) (kind - 1)) flow-goes

@@ -6,7 +6,7 @@ use native.Mathlib.Omega.{arith}
 use lib.ListN.{length, drop}
 use Rattle.records.specs.Bytes.{AreBytes}
 use Rattle.desk.specs.Open.{planIn}
-use Rattle.desk.specs.Flow.{flowCount, recordBytes, flowAnswer, flowOut}
+use Rattle.desk.specs.Flow.{mostRecords, flowCount, recordBytes, flowAnswer, flowOut}
 use Rattle.desk.specs.declared.Cause.{Cause}
 use Rattle.desk.specs.declared.Output.{Output}
 use Rattle.desk.specs.declared.Output.the-variants.{Written, Refused}
@@ -18,7 +18,7 @@ use Rattle.report.proofs.Accepted.{flow-few, flow-answers, flow-writes}
 
 -- what the code holds: `old` are the bytes that it lent, and `r` is the answer
 module _ (s : List ℕ) (fine : Accepts s) (kind : ℕ) (some : 1 ≤ kind) (within : kind ≤ planIn s .kinds)
-    (old : List ℕ) (room : 24 * 2145 ≤ length old) {r : Output} (answer : r ≡ flowAnswer s kind (length old)) where
+    (old : List ℕ) (room : 24 * mostRecords ≤ length old) {r : Output} (answer : r ≡ flowAnswer s kind (length old)) where
   answered : r ≡ Written (flowCount (planIn s) (kind - 1))
   answered = answer ∙ flow-answers s fine kind some within old room
 
@@ -31,7 +31,7 @@ module _ (s : List ℕ) (fine : Accepts s) (kind : ℕ) (some : 1 ≤ kind) (wit
 
   -- it wrote n records
   pub written-lines : AreBytes s → (n : ℕ) {records : List ℕ} → r ≡ Written n → records ≡ flowOut s kind old
-      → (n ≤ 2145) × (flowLines n records ≡ kindLines (planIn s) (kind - 1))
+      → (n ≤ mostRecords) × (flowLines n records ≡ kindLines (planIn s) (kind - 1))
   unfolding kindLines
   written-lines small n e f =
       let w = answered in

@@ -9,6 +9,7 @@ use Rattle.io.specs.Counts.{Counts}
 use Rattle.records.specs.Records.{joined}
 use Rattle.lines.specs.Text.{Text, text, more}
 use Rattle.lines.proofs.Texts.{more-more, grown, grown-by}
+use Rattle.plan.specs.Records.{activities as most}
 use Rattle.plan.specs.Reads.{readOf}
 use Rattle.plan.specs.declared.Reading.{Reading}
 use Rattle.desk.specs.Open.{planIn}
@@ -16,11 +17,11 @@ use Rattle.desk.specs.Verdict.{verdictAnswer}
 use Rattle.desk.specs.Needs.{needNumbers, needsOut}
 use Rattle.desk.specs.Starts.{startNumbers, startsOut}
 use Rattle.desk.specs.declared.Decision.{Decision}
-use Rattle.desk.proofs.Opening.{count-few}
+use Rattle.desk.proofs.Opening.{count-within}
 use Rattle.desk.proofs.Weighing.{kinds-few}
-use Rattle.report_lines.specs.Lines.{headLines}
+use Rattle.report_lines.specs.Lines.{headRoom, headLines}
 use Rattle.report_lines.proofs.HeadLines.{head-short, head-same}
-use Rattle.report.specs.Report.{Accepts, kindLines, planLines, reportBy, reportOf}
+use Rattle.report.specs.Report.{flowRoom, textRoom, Accepts, kindLines, planLines, reportBy, reportOf}
 use Rattle.report.proofs.Accepted.{need-front, start-front}
 
 -- so many bytes at the front of a list that has them
@@ -32,11 +33,11 @@ abbrev pub headOf : List ℕ → ℕ → ℕ → List ℕ
 headOf s m n = headLines m n (needNumbers s) (planIn s .available) (startNumbers s)
 
 module _ (s : List ℕ) {m n : ℕ} (activities : m ≡ planIn s .count) (kinds : n ≡ planIn s .kinds) where
-  pub sizes-few : (m ≤ 64) × (n ≤ 8)
-  sizes-few = (omega (arith, count-few s), omega (arith, kinds-few s))
+  pub sizes-few : (m ≤ most) × (n ≤ 8)
+  sizes-few = (omega (arith, count-within s), omega (arith, kinds-few s))
 
   -- what the code holds: `needs` and `starts` are what it lent, `r` is what it read
-  pub head-read : Accepts s → (needs starts : List ℕ) {needs′ starts′ : List ℕ} {r : Reading} → 8 ≤ length needs → 65 ≤ length starts
+  pub head-read : Accepts s → (needs starts : List ℕ) {needs′ starts′ : List ℕ} {r : Reading} → 8 ≤ length needs → most + 1 ≤ length starts
       → needs′ ≡ needsOut s needs → starts′ ≡ startsOut s starts → r ≡ readOf s
       → (t : Text) {u : Text} → u ≡ more t (headLines m n needs′ (r .plan .available) starts′) → u ≡ more t (headOf s m n)
   head-read fine needs starts {needs′} {starts′} {r} many long a b e t w =
@@ -48,17 +49,17 @@ module _ (s : List ℕ) {m n : ℕ} (activities : m ≡ planIn s .count) (kinds 
       (λ i h. rw b (start-front s fine starts (omega (arith, sizes-few)) i (omega arith))))
 
   -- and of the text: the head is written, then the flows behind it
-  module _ (old : List ℕ) {one : List ℕ} {at : ℕ} (fits : 553294 ≤ length old) (first : text at one ≡ more (text 0 old) (headOf s m n)) where
-    head-at : (length (headOf s m n) ≤ 4096) × (at ≡ length (headOf s m n)) × (length one ≡ length old)
+  module _ (old : List ℕ) {one : List ℕ} {at : ℕ} (fits : textRoom ≤ length old) (first : text at one ≡ more (text 0 old) (headOf s m n)) where
+    head-at : (length (headOf s m n) ≤ headRoom) × (at ≡ length (headOf s m n)) × (length one ≡ length old)
     head-at =
         let h = head-short m n (needNumbers s) (planIn s .available) (startNumbers s) (sizes-few .0) (sizes-few .1) in
         let g = grown 0 at (headOf s m n) old one (omega arith) first in
         (h, omega arith, g .1)
 
-    pub flows-room : at + 68640 * n + 78 ≤ length one
+    pub flows-room : at + flowRoom * n + 78 ≤ length one
     flows-room = omega (arith, head-at, sizes-few)
 
-    module _ {two : List ℕ} {end : ℕ} (second : text end two ≡ more (text at one) (joined (kindLines (planIn s)) n)) (short : end ≤ at + 68640 * n) where
+    module _ {two : List ℕ} {end : ℕ} (second : text end two ≡ more (text at one) (joined (kindLines (planIn s)) n)) (short : end ≤ at + flowRoom * n) where
       pub plan-end : (text end two ≡ more (text 0 old) (planLines s)) × Counts end two
       unfolding planLines
       plan-end =

@@ -2,21 +2,28 @@
 use mathlib.Core.Path.{_≡_}
 use mathlib.Core.Bool.{true}
 use mathlib.Core.List.{List, _++_}
-use Prim.Native.Nat.{ℕ}
+use Prim.Native.Nat.{ℕ, _+_, _*_}
 use Rattle.records.specs.Records.{joined}
 use Rattle.plan.specs.declared.Plan.{Plan}
 use Rattle.desk.specs.Open.{planIn, isFine}
 use Rattle.desk.specs.Needs.{needNumbers}
 use Rattle.desk.specs.Starts.{startNumbers}
-use Rattle.desk.specs.Flow.{flowCount, recordBytes}
+use Rattle.desk.specs.Flow.{mostRecords, flowCount, recordBytes}
 use Rattle.desk.specs.Verdict.{verdictFault, verdictAnswer}
 use Rattle.desk.specs.declared.Decision.{Decision}
 use Rattle.desk.specs.declared.Decision.the-variants.{Accepted, Refused}
-use Rattle.report_lines.specs.Lines.{headLines, flowLines, refusedLine}
+use Rattle.report_lines.specs.Lines.{headRoom, headLines, flowLines, refusedLine}
 
 -- the lines of the flow of kind k + 1, from the records that Flow writes
 unfoldable pub kindLines : Plan → ℕ → List ℕ
 kindLines q k = flowLines (flowCount q k) (recordBytes q k)
+
+-- so many bytes have room for the lines of a flow, and so many for the whole text (the last line may ask for 78 more while it is written)
+abbrev pub flowRoom : ℕ
+flowRoom = 32 * mostRecords
+
+abbrev pub textRoom : ℕ
+textRoom = headRoom + 8 * flowRoom + 78
 
 -- an accepted plan: its first lines, then those of each kind's flow
 unfoldable pub planLines : List ℕ → List ℕ

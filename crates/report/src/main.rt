@@ -2,14 +2,21 @@
 // function, `report_text`.
 ghost use mathlib.Core.Path.{_≡_};
 ghost use lib.ListN.{length};
+ghost use Rattle.report.specs.Report.{textRoom};
+use plan::ACTIVITIES;
 
 mod text;
 
+// The most records that a flow has, and the most bytes that a report has (`mostRecords` and `textRoom` of the specs).
+const RECORDS: usize = ACTIVITIES * (ACTIVITIES - 1) / 2 + 2 * ACTIVITIES + 1;
+
+const TEXT: usize = 1024 + 48 * ACTIVITIES + 8 * (32 * RECORDS) + 78;
+
 // Zeros, for the whole text: as many as `report_text` asks for.
-fn text_buffer() -> [u8; 553294]
-    ensures { λ r. ⌜ 553294 ≡ length r ⌝ }
+fn text_buffer() -> [u8; TEXT]
+    ensures { λ r. ⌜ textRoom ≡ length r ⌝ }
 {
-    [0; 553294]
+    [0; TEXT]
 }
 
 // A program has no exit status of its own in Rattle: that output is lost is said on standard error.

@@ -8,20 +8,21 @@ ghost use Rattle.records.specs.Records.{joined};
 ghost use Rattle.desk.specs.Open.{planIn};
 ghost use Rattle.desk.specs.Needs.{needNumbers};
 ghost use Rattle.desk.specs.Starts.{startNumbers};
-ghost use Rattle.report_lines.specs.Lines.{headLines};
-ghost use Rattle.report.specs.Report.{kindLines, planLines, reportOf, Accepts};
+ghost use Rattle.report_lines.specs.Lines.{headLines, headRoom};
+ghost use Rattle.report.specs.Report.{flowRoom, textRoom, kindLines, planLines, reportOf, Accepts};
 use desk::Decision;
 use desk::Output;
+use plan::ACTIVITIES;
 use report_lines::head_text;
 use report_lines::put_records;
 use report_lines::refused_text;
 
-// Writes the lines of one kind's flow behind what is written: at most 2,145, each of at most 32 bytes, and the last may ask for 78 more. The records of the
-// largest plan take 51,480 of the buffer's 65,536 bytes; so Flow of an accepted plan refuses none of its kinds, and the second case does not happen.
+// Writes the lines of one kind's flow behind what is written, each of at most 32 bytes, and the last may ask for 78 more. The records of the
+// largest plan fit into the buffer; so Flow of an accepted plan refuses none of its kinds, and the second case does not happen.
 fn put_flow(out: &mut [u8], at: usize, s: &[u8], kind: usize) -> usize
-    requires { ⌜ Accepts (now s) × (1 ≤ kind) × (kind ≤ planIn (now s) .kinds) × (at + 68718 ≤ length (now out)) ⌝ }
+    requires { ⌜ Accepts (now s) × (1 ≤ kind) × (kind ≤ planIn (now s) .kinds) × (at + flowRoom + 78 ≤ length (now out)) ⌝ }
     ensures { λ r. ⌜ text r (now (out .exit)) ≡ more (text at (now (out .entry))) (kindLines (planIn (now (s .entry))) (kind - 1)) ⌝ }
-    ensures { λ r. ⌜ r ≤ at + 68640 ⌝ }
+    ensures { λ r. ⌜ r ≤ at + flowRoom ⌝ }
 {
     let mut records = io::large_buffer();
     let written = desk::flow(s, kind, &mut records);
@@ -33,9 +34,9 @@ fn put_flow(out: &mut [u8], at: usize, s: &[u8], kind: usize) -> usize
 
 // Writes the lines of the flows of the first n kinds behind what is written.
 fn put_flows(out: &mut [u8], at: usize, s: &[u8], n: usize) -> usize
-    requires { ⌜ Accepts (now s) × (n ≤ planIn (now s) .kinds) × (at + 68640 * n + 78 ≤ length (now out)) ⌝ }
+    requires { ⌜ Accepts (now s) × (n ≤ planIn (now s) .kinds) × (at + flowRoom * n + 78 ≤ length (now out)) ⌝ }
     ensures { λ r. ⌜ text r (now (out .exit)) ≡ more (text at (now (out .entry))) (joined (kindLines (planIn (now (s .entry)))) n) ⌝ }
-    ensures { λ r. ⌜ r ≤ at + 68640 * n ⌝ }
+    ensures { λ r. ⌜ r ≤ at + flowRoom * n ⌝ }
 {
     let mut end = at;
     for k in 0..n {
@@ -46,14 +47,14 @@ fn put_flows(out: &mut [u8], at: usize, s: &[u8], n: usize) -> usize
 
 // Writes the first lines of an accepted plan of m activities and n kinds to the front of the lent bytes.
 fn put_head(out: &mut [u8], s: &[u8], m: usize, n: usize) -> usize
-    requires { ⌜ Accepts (now s) × (m ≡ planIn (now s) .count) × (n ≡ planIn (now s) .kinds) × (4096 ≤ length (now out)) ⌝ }
+    requires { ⌜ Accepts (now s) × (m ≡ planIn (now s) .count) × (n ≡ planIn (now s) .kinds) × (headRoom ≤ length (now out)) ⌝ }
     ensures { λ r. ⌜ text r (now (out .exit))
         ≡ more (text 0 (now (out .entry)))
         (headLines m n (needNumbers (now (s .entry))) (planIn (now (s .entry)) .available) (startNumbers (now (s .entry)))) ⌝ }
 {
     let mut needs = [0u32; 8];
     desk::needs(s, &mut needs);
-    let mut starts = [0u32; 65];
+    let mut starts = [0u32; ACTIVITIES + 1];
     desk::starts(s, &mut starts);
     let reading = plan::read(s);
     let q = reading.plan;
@@ -63,7 +64,7 @@ fn put_head(out: &mut [u8], s: &[u8], m: usize, n: usize) -> usize
 
 // Writes the report of an accepted plan of m activities and n kinds to the front of the lent bytes.
 fn put_plan(out: &mut [u8], s: &[u8], m: usize, n: usize) -> usize
-    requires { ⌜ Accepts (now s) × (m ≡ planIn (now s) .count) × (n ≡ planIn (now s) .kinds) × (553294 ≤ length (now out)) ⌝ }
+    requires { ⌜ Accepts (now s) × (m ≡ planIn (now s) .count) × (n ≡ planIn (now s) .kinds) × (textRoom ≤ length (now out)) ⌝ }
     ensures { λ r. ⌜ text r (now (out .exit)) ≡ more (text 0 (now (out .entry))) (planLines (now (s .entry))) ⌝ }
     ensures { λ r. ⌜ Counts r (now (out .exit)) ⌝ }
 {
@@ -71,10 +72,10 @@ fn put_plan(out: &mut [u8], s: &[u8], m: usize, n: usize) -> usize
     put_flows(out, at, s, n)
 }
 
-// Writes the report of a file's bytes to the front of the lent bytes. Gives its length. Its first lines take at most 4,096 bytes, the flows of eight kinds
-// 68,640 each, and the last line may ask for 78 more.
+// Writes the report of a file's bytes to the front of the lent bytes. Gives its length. (`textRoom`: its first lines, the flows of eight kinds, and the
+// last line may ask for 78 more.)
 pub fn report_text(out: &mut [u8], s: &[u8]) -> usize
-    requires { ⌜ 553294 ≤ length (now out) ⌝ }
+    requires { ⌜ textRoom ≤ length (now out) ⌝ }
     ensures { λ r. ⌜ text r (now (out .exit)) ≡ more (text 0 (now (out .entry))) (reportOf (now (s .entry))) ⌝ }
     ensures { λ r. ⌜ Counts r (now (out .exit)) ⌝ }
 {

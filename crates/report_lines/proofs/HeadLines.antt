@@ -6,10 +6,11 @@ use native.Mathlib.Omega.{arith}
 use lib.ListN.{length, getD, length-append}
 use Rattle.records.specs.Records.{joined}
 use Rattle.records.proofs.Runs.{joined-same}
+use Rattle.plan.specs.Records.{activities}
 use Rattle.lines.specs.Text.{Text, lineOf, text, more}
 use Rattle.lines.proofs.Texts.{more-more, grown, line-length}
 use Rattle.lines.proofs.Putting.{joined-short}
-use Rattle.report_lines.specs.Lines.{needWord, startWord, planWord, endWord, needLines, startLines, headLines}
+use Rattle.report_lines.specs.Lines.{headRoom, needWord, startWord, planWord, endWord, needLines, startLines, headLines}
 
 -- ---- the needs and the starts
 
@@ -50,7 +51,7 @@ starts-short m starts = joined-short (startLine starts) 48 (start-short starts) 
 
 -- ---- the head: the plan, the needs, the starts and the end
 
-pub head-short : (m n : ℕ) (needs available starts : List ℕ) → m ≤ 64 → n ≤ 8 → length (headLines m n needs available starts) ≤ 4096
+pub head-short : (m n : ℕ) (needs available starts : List ℕ) → m ≤ activities → n ≤ 8 → length (headLines m n needs available starts) ≤ headRoom
 unfolding headLines
 head-short m n needs available starts few kinds =
     let last : List ℕ = lineOf endWord (getD starts m 0 ∷ []) in
@@ -74,7 +75,7 @@ head-same m n needs needs′ available starts starts′ p q =
     rw (a, b, q m (omega arith))
 
 module _ (m n : ℕ) (needs available starts old one two three : List ℕ) (named needed started : ℕ)
-    (few : m ≤ 64) (kinds : n ≤ 8) (fits : 4096 ≤ length old) (first : text named one ≡ more (text 0 old) (lineOf planWord (m ∷ n ∷ []))) where
+    (few : m ≤ activities) (kinds : n ≤ 8) (fits : headRoom ≤ length old) (first : text named one ≡ more (text 0 old) (lineOf planWord (m ∷ n ∷ []))) where
   named-at : (named ≤ 47) × (length one ≡ length old)
   named-at =
       let l = line-length planWord (m ∷ n ∷ []) in

@@ -1,30 +1,32 @@
--- The numbers of a refused plan's line: they are written to the front of a list of at least 67. Assumes nothing.
+-- The numbers of a refused plan's line: they are written to the front of a list that has room for them. Assumes nothing.
 use mathlib.Core.Path.{_≡_, refl, sym, ap, _∙_}
 use mathlib.Core.List.{List, [], _∷_, _++_, map, append-nil}
-use Prim.Native.Nat.{ℕ, zero, suc, _+_, _/_, _%_, _^_, _≤_, _<_}
+use Prim.Native.Nat.{ℕ, zero, suc, _+_, _/_, _%_, _≤_, _<_}
 use native.Mathlib.Omega.{arith}
 use native.Mathlib.Numerals.{add-one}
 use lib.ListN.{length, set, take, length-set}
 use lib.Seq.{length-take-le}
 use Rattle.lines.specs.Text.{lineOf, text, more}
 use Rattle.lines.proofs.Texts.{grown, line-length}
+use Rattle.order.specs.Stored.{elements, bound}
+use Rattle.order.proofs.Stored.{in-bound}
 use Rattle.words.specs.Bits.{bit, rest}
 use Rattle.words.specs.Members.{first, lead, members}
-use Rattle.words.proofs.Members.{members-none, members-more, rest-le}
-use Rattle.report_lines.specs.Lines.{refusedWord}
+use Rattle.words.proofs.Members.{members-none, members-more}
+use Rattle.report_lines.specs.Lines.{refusedWord, slots, refusedRoom}
 
 -- ---- numbers at the front
 
-pub one-first : (xs : List ℕ) (a : ℕ) → 67 ≤ length xs → take 1 (set xs 0 a) ≡ a ∷ []
+pub one-first : (xs : List ℕ) (a : ℕ) → slots ≤ length xs → take 1 (set xs 0 a) ≡ a ∷ []
 one-first [] a h = absurd (omega arith)
 one-first (x ∷ xs) a h = refl
 
-pub two-first : (xs : List ℕ) (a b : ℕ) → 67 ≤ length xs → take 2 (set (set xs 0 a) 1 b) ≡ a ∷ b ∷ []
+pub two-first : (xs : List ℕ) (a b : ℕ) → slots ≤ length xs → take 2 (set (set xs 0 a) 1 b) ≡ a ∷ b ∷ []
 two-first [] a b h = absurd (omega arith)
 two-first (x ∷ []) a b h = absurd (omega arith)
 two-first (x ∷ y ∷ xs) a b h = refl
 
-pub three-first : (xs : List ℕ) (a b c : ℕ) → 67 ≤ length xs → take 3 (set (set (set xs 0 a) 1 b) 2 c) ≡ a ∷ b ∷ c ∷ []
+pub three-first : (xs : List ℕ) (a b c : ℕ) → slots ≤ length xs → take 3 (set (set (set xs 0 a) 1 b) 2 c) ≡ a ∷ b ∷ c ∷ []
 three-first [] a b c h = absurd (omega arith)
 three-first (x ∷ []) a b c h = absurd (omega arith)
 three-first (x ∷ y ∷ []) a b c h = absurd (omega arith)
@@ -55,47 +57,45 @@ take-set b ys (suc n) (x ∷ xs) h = ap (λ (l : List ℕ). x ∷ l) (take-set b
 
 -- n numbers are written: three, and the members that are not left
 pub record Listed (set : ℕ) (old : List ℕ) (n left : ℕ) (numbers : List ℕ) : Type 0 where
-  pub below : left < 2 ^ 64
   pub long : length numbers ≡ length old
-  pub room : n + length (members 64 left) ≤ 67
-  pub done : take n numbers ++ map suc (members 64 left) ≡ take 3 old ++ map suc (members 64 set)
+  pub room : n + length (members elements left) ≤ slots
+  pub done : take n numbers ++ map suc (members elements left) ≡ take 3 old ++ map suc (members elements set)
 
 module _ (word : ℕ) (old : List ℕ) where
-  pub listed-none : word < 2 ^ 64 → Listed word old 3 word old
-  listed-none h = record { below = h; long = refl; room = omega (arith, length-members 64 word); done = refl }
+  pub listed-none : Listed word old 3 word old
+  listed-none = record { long = refl; room = omega (arith, length-members elements word); done = refl }
 
   module _ (n left : ℕ) (numbers : List ℕ) (l : Listed word old n left numbers) where
-    some-left : (left ≡ 0 → ⊥) → members 64 left ≡ first 64 (bit left) ∷ members 64 (rest left)
-    some-left h = members-more 64 left (omega arith) (l .below)
+    some-more : (left ≡ 0 → ⊥) → left < bound → members elements left ≡ first elements (bit left) ∷ members elements (rest left)
+    some-more h fits = members-more elements left (omega arith) (in-bound fits)
 
-    pub listed-room : (left ≡ 0 → ⊥) → n < 67
-    listed-room h = omega (arith, l .room, ap length (some-left h))
+    pub listed-room : (left ≡ 0 → ⊥) → left < bound → n < slots
+    listed-room h fits = omega (arith, l .room, ap length (some-more h fits))
 
-    pub listed-next : (left ≡ 0 → ⊥) → 67 ≤ length old → {b v : ℕ} → b ≡ first 64 (bit left) → v ≡ rest left
+    pub listed-next : (left ≡ 0 → ⊥) → left < bound → slots ≤ length old → {b v : ℕ} → b ≡ first elements (bit left) → v ≡ rest left
         → Listed word old (n + 1) v (set numbers n (b + 1))
-    listed-next h enough {b} {v} low next =
-        let m = some-left h in
-        let e : n < length numbers = omega (arith, l .long, listed-room h) in
-        let t : take (n + 1) (set numbers n (b + 1)) ++ map suc (members 64 v) ≡ take n numbers ++ (suc b ∷ map suc (members 64 v)) =
-        simp add-one (take-set (suc b) (map suc (members 64 v)) n numbers e) in
-        let c : suc b ∷ map suc (members 64 v) ≡ map suc (members 64 left) = rw (low, next, m) in
+    listed-next h fits enough {b} {v} low next =
+        let m = some-more h fits in
+        let e : n < length numbers = omega (arith, l .long, listed-room h fits) in
+        let t : take (n + 1) (set numbers n (b + 1)) ++ map suc (members elements v) ≡ take n numbers ++ (suc b ∷ map suc (members elements v)) =
+        simp add-one (take-set (suc b) (map suc (members elements v)) n numbers e) in
+        let c : suc b ∷ map suc (members elements v) ≡ map suc (members elements left) = rw (low, next, m) in
         record {
-          below = omega (arith, l .below, rest-le left);
           long = length-set numbers n (b + 1) ∙ l .long;
           room = rw next (omega (arith, l .room, ap length m));
           done =
               t ∙ ap (λ (xs : List ℕ). take n numbers ++ xs) c ∙ l .done;
         }
 
-    pub listed-end : left ≡ 0 → (n ≤ 67) × (take n numbers ≡ take 3 old ++ map suc (members 64 word))
+    pub listed-end : left ≡ 0 → (n ≤ slots) × (take n numbers ≡ take 3 old ++ map suc (members elements word))
     listed-end z =
-        let none : members 64 left ≡ [] = rw z (members-none 64) in
+        let none : members elements left ≡ [] = rw z (members-none elements) in
         (omega (arith, l .room), sym (append-nil (take n numbers)) ∙ ap (λ (xs : List ℕ). take n numbers ++ map suc xs) (sym none) ∙ l .done)
 
 -- ---- the line
 
--- a list that begins with n numbers, at most 67: its line has room in 2048 bytes
-module _ (n : ℕ) (numbers ns old : List ℕ) (held : (n ≤ 67) × (take n numbers ≡ ns)) (long : length numbers ≡ 67) (fits : 2048 ≤ length old) where
+-- a list that begins with n numbers, no more than there are slots: its line has room
+module _ (n : ℕ) (numbers ns old : List ℕ) (held : (n ≤ slots) × (take n numbers ≡ ns)) (long : length numbers ≡ slots) (fits : refusedRoom ≤ length old) where
   pub numbers-few : length (take n numbers) ≡ n
   numbers-few = length-take-le n numbers (omega (arith, held .0))
 

@@ -4,9 +4,11 @@ use mathlib.Core.List.{List, [], _∷_, _++_, map}
 use Prim.Native.Nat.{ℕ, suc, _+_, _*_}
 use lib.ListN.{getD, drop}
 use Rattle.words.specs.Members.{members}
+use Rattle.order.specs.Stored.{elements, numberOf}
 use Rattle.records.specs.Bytes.{byte, field}
 use Rattle.records.specs.Records.{joined}
 use Rattle.lines.specs.Text.{lineOf}
+use Rattle.plan.specs.Records.{activities}
 use Rattle.desk.specs.Numbers.{numbersOf}
 use Rattle.desk.specs.declared.Cause.{Cause}
 use Rattle.desk.specs.declared.Cause.the-variants.{Unreadable, JobCircle, PlanCircle, Overloaded, NoKind, Short, Lists}
@@ -42,6 +44,10 @@ unfoldable pub headLines : ℕ → ℕ → List ℕ → List ℕ → List ℕ �
 headLines m n needs available starts =
     lineOf planWord (m ∷ n ∷ []) ++ needLines n needs available ++ startLines m starts ++ lineOf endWord (getD starts m 0 ∷ [])
 
+-- so many bytes have room for these lines
+abbrev pub headRoom : ℕ
+headRoom = 1024 + 48 * activities
+
 -- then, for each kind, the n records of its flow
 abbrev pub flowNumbers : List ℕ → List ℕ
 flowNumbers r = byte r 1 ∷ byte r 2 ∷ byte r 3 ∷ field r 4 4 ∷ byte r 8 ∷ []
@@ -56,10 +62,17 @@ abbrev pub refusedNumbers : Cause → List ℕ
 refusedNumbers (Unreadable c) = numbersOf (Unreadable c)
 refusedNumbers (JobCircle i) = 5 ∷ i ∷ []
 refusedNumbers (PlanCircle i) = 6 ∷ i ∷ []
-refusedNumbers (Overloaded k need set) = 7 ∷ k ∷ need ∷ map suc (members 64 set)
+refusedNumbers (Overloaded k need set) = 7 ∷ k ∷ need ∷ map suc (members elements (numberOf set))
 refusedNumbers (NoKind n) = 8 ∷ n ∷ []
 refusedNumbers (Short n) = 9 ∷ n ∷ []
 refusedNumbers (Lists m) = 10 ∷ m ∷ []
+
+-- no cause has more numbers, and so many bytes have room for its line
+abbrev pub slots : ℕ
+slots = 3 + elements
+
+abbrev pub refusedRoom : ℕ
+refusedRoom = 32 * elements
 
 unfoldable pub refusedLine : Cause → List ℕ
 refusedLine c = lineOf refusedWord (refusedNumbers c)

@@ -3,6 +3,7 @@ ghost use mathlib.Core.Path.{_≡_};
 ghost use Prim.Native.Nat.{_+_, _*_, _≤_, _<_};
 ghost use lib.ListN.{length};
 ghost use Rattle.records.specs.Bytes.{field};
+ghost use Rattle.desk.specs.Flow.{mostRecords};
 ghost use Rattle.lines.specs.Text.{text, more, lineOf};
 ghost use Rattle.report_lines.specs.Lines.{flowWord, flowNumbers, flowLines};
 
@@ -38,7 +39,7 @@ fn put_record(out: &mut [u8], at: usize, bytes: &[u8]) -> usize
 
 // Writes the lines of n records behind what is written, each of at most 32 bytes.
 pub fn put_records(out: &mut [u8], at: usize, records: &[u8], n: usize) -> usize
-    requires { ⌜ (n ≤ 2145) × (24 * n ≤ length (now records)) × (at + 32 * n + 78 ≤ length (now out)) ⌝ }
+    requires { ⌜ (n ≤ mostRecords) × (24 * n ≤ length (now records)) × (at + 32 * n + 78 ≤ length (now out)) ⌝ }
     ensures { λ r. ⌜ text r (now (out .exit)) ≡ more (text at (now (out .entry))) (flowLines n (now (records .entry))) ⌝ }
     ensures { λ r. ⌜ r ≤ at + 32 * n ⌝ }
 {

@@ -2,8 +2,10 @@
 ghost use mathlib.Core.Path.{_≡_};
 ghost use Prim.Native.Nat.{_+_, _*_, _≤_};
 ghost use lib.ListN.{length};
+ghost use Rattle.plan.specs.Records.{activities};
 ghost use Rattle.lines.specs.Text.{text, more};
-ghost use Rattle.report_lines.specs.Lines.{needLines, startLines, headLines};
+ghost use Rattle.report_lines.specs.Lines.{needLines, startLines, headLines, headRoom};
+use plan::ACTIVITIES;
 
 // Writes the line of each of n kinds behind what is written.
 fn put_needs(out: &mut [u8], at: usize, n: usize, needs: &[u32; 8], available: &[u32; 8]) -> usize
@@ -23,8 +25,8 @@ fn put_needs(out: &mut [u8], at: usize, n: usize, needs: &[u32; 8], available: &
 }
 
 // Writes the line of each of m activities behind what is written.
-fn put_starts(out: &mut [u8], at: usize, m: usize, starts: &[u32; 65]) -> usize
-    requires { ⌜ (m ≤ 64) × (at + 48 * m ≤ length (now out)) ⌝ }
+fn put_starts(out: &mut [u8], at: usize, m: usize, starts: &[u32; ACTIVITIES + 1]) -> usize
+    requires { ⌜ (m ≤ activities) × (at + 48 * m ≤ length (now out)) ⌝ }
     ensures { λ r. ⌜ text r (now (out .exit)) ≡ more (text at (now (out .entry))) (startLines m (now (starts .entry))) ⌝ }
 {
     let mut end = at;
@@ -42,9 +44,9 @@ pub fn head_text(
     n: usize,
     needs: &[u32; 8],
     available: &[u32; 8],
-    starts: &[u32; 65],
+    starts: &[u32; ACTIVITIES + 1],
 ) -> usize
-    requires { ⌜ (m ≤ 64) × (n ≤ 8) × (4096 ≤ length (now out)) ⌝ }
+    requires { ⌜ (m ≤ activities) × (n ≤ 8) × (headRoom ≤ length (now out)) ⌝ }
     ensures { λ r. ⌜ text r (now (out .exit))
         ≡ more (text 0 (now (out .entry))) (headLines m n (now (needs .entry)) (now (available .entry)) (now (starts .entry))) ⌝ }
 {

@@ -4,15 +4,21 @@ ghost use mathlib.Core.List.{[], _∷_, _++_, map};
 ghost use Prim.Native.Nat.{suc, _+_, _≤_};
 ghost use lib.ListN.{length, take};
 ghost use Rattle.words.specs.Members.{members};
+ghost use Rattle.order.specs.Stored.{elements, numberOf};
 ghost use Rattle.desk.specs.Numbers.{unreadNumbers};
 ghost use Rattle.lines.specs.Text.{text, more};
-ghost use Rattle.report_lines.specs.Lines.{refusedNumbers, refusedLine};
+ghost use Rattle.report_lines.specs.Lines.{refusedNumbers, refusedLine, slots, refusedRoom};
 use desk::Cause;
+use order::ELEMENTS;
+use order::Set;
+
+// A number, two values, and the members of a set.
+const SLOTS: usize = 3 + ELEMENTS;
 
 // A number and one value.
 fn put_value(numbers: &mut [u64], number: u64, value: usize) -> usize
-    requires { ⌜ 67 ≤ length (now numbers) ⌝ }
-    ensures { λ r. ⌜ (r ≤ 67) × (take r (now (numbers .exit)) ≡ number ∷ value ∷ []) ⌝ }
+    requires { ⌜ slots ≤ length (now numbers) ⌝ }
+    ensures { λ r. ⌜ (r ≤ slots) × (take r (now (numbers .exit)) ≡ number ∷ value ∷ []) ⌝ }
 {
     numbers[0] = number;
     numbers[1] = value as u64;
@@ -21,8 +27,8 @@ fn put_value(numbers: &mut [u64], number: u64, value: usize) -> usize
 
 // The numbers of a cause of the reader's.
 fn put_unread(numbers: &mut [u64], c: plan::Cause) -> usize
-    requires { ⌜ 67 ≤ length (now numbers) ⌝ }
-    ensures { λ r. ⌜ (r ≤ 67) × (take r (now (numbers .exit)) ≡ unreadNumbers c) ⌝ }
+    requires { ⌜ slots ≤ length (now numbers) ⌝ }
+    ensures { λ r. ⌜ (r ≤ slots) × (take r (now (numbers .exit)) ≡ unreadNumbers c) ⌝ }
 {
     match c {
         plan::Cause::Length => {
@@ -36,15 +42,15 @@ fn put_unread(numbers: &mut [u64], c: plan::Cause) -> usize
 }
 
 // The members of a set, ascending, as activities, behind the first three numbers.
-fn put_members(numbers: &mut [u64], set: u64) -> usize
-    requires { ⌜ 67 ≤ length (now numbers) ⌝ }
-    ensures { λ r. ⌜ (r ≤ 67) × (take r (now (numbers .exit)) ≡ take 3 (now (numbers .entry)) ++ map suc (members 64 set)) ⌝ }
+fn put_members(numbers: &mut [u64], set: Set) -> usize
+    requires { ⌜ slots ≤ length (now numbers) ⌝ }
+    ensures { λ r. ⌜ (r ≤ slots) × (take r (now (numbers .exit)) ≡ take 3 (now (numbers .entry)) ++ map suc (members elements (numberOf set))) ⌝ }
 {
     let mut n: usize = 3;
     let mut left = set;
-    while left != 0 {
-        numbers[n] = words::lowest(left) as u64 + 1;
-        left = words::without_lowest(left);
+    while !left.is_empty() {
+        numbers[n] = left.lowest() as u64 + 1;
+        left = left.without_lowest();
         n += 1;
     }
     n
@@ -52,8 +58,8 @@ fn put_members(numbers: &mut [u64], set: u64) -> usize
 
 // The numbers of a cause.
 fn put_cause(numbers: &mut [u64], c: Cause) -> usize
-    requires { ⌜ 67 ≤ length (now numbers) ⌝ }
-    ensures { λ r. ⌜ (r ≤ 67) × (take r (now (numbers .exit)) ≡ refusedNumbers c) ⌝ }
+    requires { ⌜ slots ≤ length (now numbers) ⌝ }
+    ensures { λ r. ⌜ (r ≤ slots) × (take r (now (numbers .exit)) ≡ refusedNumbers c) ⌝ }
 {
     match c {
         Cause::Unreadable(u) => put_unread(numbers, u),
@@ -73,11 +79,11 @@ fn put_cause(numbers: &mut [u64], c: Cause) -> usize
 
 // Writes the line of a refused plan to the front of the lent bytes. Gives its length.
 pub fn refused_text(out: &mut [u8], c: Cause) -> usize
-    requires { ⌜ 2048 ≤ length (now out) ⌝ }
+    requires { ⌜ refusedRoom ≤ length (now out) ⌝ }
     ensures { λ r. ⌜ text r (now (out .exit)) ≡ more (text 0 (now (out .entry))) (refusedLine c) ⌝ }
     ensures { λ r. ⌜ r ≤ length (now (out .exit)) ⌝ }
 {
-    let mut numbers = [0u64; 67];
+    let mut numbers = [0u64; SLOTS];
     let n = put_cause(&mut numbers, c);
     lines::put_line(out, 0, b"refused", &numbers[..n])
 }

@@ -20,6 +20,7 @@ use Rattle.schedule.specs.Arrays.{at, netOf, crewNet, workOf, byDuration
 use Rattle.schedule.proofs.Starts.{earliest-least, earliest-bound, earliest-keeps, earliest-direct, earliest-largest, end-largest}
 use Rattle.schedule.proofs.Ranks.{ranked}
 use Rattle.schedule.proofs.Periods.{at-work-unrelated, period-bound}
+use Rattle.order.specs.Stored.{elements}
 
 -- ---- durations that are stored one by one are at most b
 
@@ -45,23 +46,23 @@ largest-same {P} {Q} {x} {z} e f L =
     }
 
 module _ (rows : List ℕ) (weight : ℕ → ℕ → ℕ) where
-  pub starts-at : (i : ℕ) → i < 64 → at (startsOf rows weight) i ≡ earliestOf (netOf rows weight) i
+  pub starts-at : (i : ℕ) → i < elements → at (startsOf rows weight) i ≡ earliestOf (netOf rows weight) i
   unfolding startsOf
-  starts-at i l = getD-table 64 (earliestOf (netOf rows weight)) i 0 l
+  starts-at i l = getD-table elements (earliestOf (netOf rows weight)) i 0 l
 
-  pub starts-long : length (startsOf rows weight) ≡ 64
+  pub starts-long : length (startsOf rows weight) ≡ elements
   unfolding startsOf
-  starts-long = length-table 64 (earliestOf (netOf rows weight))
+  starts-long = length-table elements (earliestOf (netOf rows weight))
 
   -- EVERY SCHEDULE THAT KEEPS THE ARCS STARTS EACH NO EARLIER
-  pub starts-least : (s : Schedule) → Keeps (netOf rows weight) s → (j : ℕ) → j < 64 → at (startsOf rows weight) j ≤ s j
+  pub starts-least : (s : Schedule) → Keeps (netOf rows weight) s → (j : ℕ) → j < elements → at (startsOf rows weight) j ≤ s j
   starts-least s k j l = omega (arith, starts-at j l, earliest-least (netOf rows weight) s k j l)
 
-  -- THEY FIT 32 BITS: each is at most 64 times the largest weight
-  pub starts-bound : (b : ℕ) → ((i j : ℕ) → weight i j ≤ b) → (i : ℕ) → at (startsOf rows weight) i ≤ 64 * b
-  starts-bound b a i = go (decLt i 64)
+  -- THEY FIT 32 BITS: each is at most elements times the largest weight
+  pub starts-bound : (b : ℕ) → ((i j : ℕ) → weight i j ≤ b) → (i : ℕ) → at (startsOf rows weight) i ≤ elements * b
+  starts-bound b a i = go (decLt i elements)
     where
-      go : Dec (i < 64) → at (startsOf rows weight) i ≤ 64 * b
+      go : Dec (i < elements) → at (startsOf rows weight) i ≤ elements * b
       go (yes l) = omega (arith, starts-at i l, earliest-bound (netOf rows weight) b (λ k m x. a k m) i l)
       go (no l) =
           let e : at (startsOf rows weight) i ≡ 0 = List·getD-eq-default (startsOf rows weight) 0 (omega (arith, starts-long)) in
@@ -72,7 +73,7 @@ module _ (rows : List ℕ) (weight : ℕ → ℕ → ℕ) where
   starts-fit a i j l = omega (arith, a i j, starts-bound 65535 a i)
 
   -- what it then gives: the largest finish by the earliest starts
-  pub starts-end : (m : ℕ) (d : ℕ → ℕ) → m ≤ 64 → endOf m (at (startsOf rows weight)) d ≡ endOf m (earliestOf (netOf rows weight)) d
+  pub starts-end : (m : ℕ) (d : ℕ → ℕ) → m ≤ elements → endOf m (at (startsOf rows weight)) d ≡ endOf m (earliestOf (netOf rows weight)) d
   unfolding endOf
   starts-end m d h = maximum-cong m _ _ λ i l. ap (λ (x : ℕ). x + d i) (starts-at i (omega arith))
 
@@ -83,7 +84,7 @@ module _ (rows : List ℕ) (weight : ℕ → ℕ → ℕ) where
         omega (arith, starts-at i (a .from), starts-at j (a .to), earliest-keeps (netOf rows weight) (ranked rows weight free) i j a)
 
     -- the start is the largest that an arc asks, or 0, whatever the weights are
-    pub starts-direct : (j : ℕ) → j < 64 → LargestOr0 (ArcAsks (netOf rows weight) (at (startsOf rows weight)) j) (at (startsOf rows weight) j)
+    pub starts-direct : (j : ℕ) → j < elements → LargestOr0 (ArcAsks (netOf rows weight) (at (startsOf rows weight)) j) (at (startsOf rows weight) j)
     starts-direct j l =
         largest-same (sym (starts-at j l))
         (λ y. (
@@ -94,7 +95,7 @@ module _ (rows : List ℕ) (weight : ℕ → ℕ → ℕ) where
 
 -- "An activity starts at the largest finish (start plus duration) of those before it, or at 0"
 pub starts-largest :
-    (rows durations : List ℕ) → Acyclic (Direct rows) → (j : ℕ) → j < 64
+    (rows durations : List ℕ) → Acyclic (Direct rows) → (j : ℕ) → j < elements
     → LargestOr0 (FinishBefore (netOf rows (byDuration durations)) (at (startsOf rows (byDuration durations))) (at durations) j)
     (at (startsOf rows (byDuration durations)) j)
 starts-largest rows durations free j l =
@@ -109,7 +110,7 @@ starts-largest rows durations free j l =
     W = byDuration durations
 
     finish-at : {i : ℕ} → Before (Direct rows) i j → at (startsOf rows (byDuration durations)) i ≡ earliestOf (netOf rows (byDuration durations)) i
-    finish-at {i} b = starts-at rows (byDuration durations) i (before-within 64 (drawn-within 64 (after rows)) b .0)
+    finish-at {i} b = starts-at rows (byDuration durations) i (before-within elements (drawn-within elements (after rows)) b .0)
 
 -- "the end starts at the largest finish of all, or at 0"
 pub starts-end-largest :

@@ -1,7 +1,7 @@
 -- The starred cases of document 01 that concern starts and the crew check, as theorems about the definitions. Assumes nothing.
 use mathlib.Core.Path.{_≡_, refl}
 use mathlib.Core.List.{List, [], _∷_}
-use Prim.Native.Nat.{ℕ, zero, suc, _≤_, _<_}
+use Prim.Native.Nat.{ℕ, zero, suc, _≤_, _<_, _-_}
 use native.Mathlib.Omega.{arith}
 use lib.ListN.{replicate}
 use Rattle.words.specs.Bits.{digit, bit}
@@ -16,10 +16,11 @@ use Rattle.schedule.specs.declared.Checked.{Checked}
 use Rattle.schedule.specs.declared.Checked.the-variants.{Fits, Broken, Overload}
 use Rattle.schedule.proofs.Candidates.{best-all}
 use Rattle.schedule.proofs.Answers.{check-over}
+use Rattle.order.specs.Stored.{elements, row, rowsFrom}
 
 -- plan A: arcs 1 to 2 and 2 to 4, between the elements 0, 1 and 3, and durations 1, 2, 3, 1; every activity demands 2 of 4
 abbrev arcs-a : List ℕ
-arcs-a = 2 ∷ 8 ∷ []
+arcs-a = rowsFrom (2 ∷ 8 ∷ [])
 
 abbrev durations-a : List ℕ
 durations-a = 1 ∷ 2 ∷ 3 ∷ 1 ∷ []
@@ -30,7 +31,7 @@ crewCheck arcs starts worked = checkOf (crewNet arcs starts worked) (workOf (2 �
 
 -- the table; plan C is plan A with no arcs
 pub record Cases : Type 0 where
-  pub a-starts : startsOf arcs-a (byDuration durations-a) ≡ 0 ∷ 1 ∷ 0 ∷ 3 ∷ replicate 60 0
+  pub a-starts : startsOf arcs-a (byDuration durations-a) ≡ 0 ∷ 1 ∷ 0 ∷ 3 ∷ replicate (elements - 4) 0
   pub a-end : endOf 4 (earliestOf (netOf arcs-a (byDuration durations-a))) (at durations-a) ≡ 4
   pub a-fits : crewCheck arcs-a (0 ∷ 1 ∷ 0 ∷ 3 ∷ []) durations-a ≡ Fits
   pub a-breaks-2-4 : crewCheck arcs-a (0 ∷ 1 ∷ 0 ∷ 2 ∷ []) durations-a ≡ Broken 2 4
@@ -39,7 +40,7 @@ pub record Cases : Type 0 where
   pub c-longer : crewCheck [] (0 ∷ 0 ∷ 1 ∷ 1 ∷ []) (2 ∷ 2 ∷ 1 ∷ 1 ∷ []) ≡ Overload 2 1
 
 pub cases : Cases
-unfolding digit maximum first sum asked rounds earliestOf endOf brokenTo brokenFrom occupied lowestKind lastFinish quiet firstPeriod checkOf bit table startsOf
+unfolding row digit maximum first sum asked rounds earliestOf endOf brokenTo brokenFrom occupied lowestKind lastFinish quiet firstPeriod checkOf bit table startsOf
 cases =
     record { a-starts = refl; a-end = refl; a-fits = refl; a-breaks-2-4 = refl; c-at-once = refl; c-two-by-two = refl; c-longer = refl }
 
@@ -56,5 +57,5 @@ unfolding first sum occupied lowestKind
 late-best = record { real = λ l. refl; least = λ i l o. (omega arith, late-start i l) }
 
 pub last-period : Overload 4294967296 1 ≡ checkOf (crewNet [] (4294967295 ∷ []) (1 ∷ [])) late
-unfolding digit bit first sum occupied lowestKind brokenTo brokenFrom
+unfolding row digit bit first sum occupied lowestKind brokenTo brokenFrom
 last-period = check-over (crewNet [] (4294967295 ∷ []) (1 ∷ [])) late 1 4294967296 0 refl (omega arith) (best-all late 4294967296 late-best) (omega arith) refl

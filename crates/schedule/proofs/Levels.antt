@@ -3,7 +3,7 @@ use mathlib.Core.Path.{_≡_, refl, sym, _∙_, ap, ap₂}
 use mathlib.Core.Bool.{Bool, true, false, cond, not, _&&_, _||_}
 use mathlib.Core.List.{List}
 use mathlib.Core.Logic.{⊎-elim, _≢_, _↔_}
-use Prim.Native.Nat.{ℕ, zero, suc, _+_, _-_, _*_, _≤_, _<_, _^_}
+use Prim.Native.Nat.{ℕ, zero, suc, _+_, _-_, _*_, _≤_, _<_}
 use native.Mathlib.Nat.{not-suc-le-zero}
 use native.Mathlib.Omega.{arith}
 use lib.Bits.{bitOr, or-zero-r}
@@ -12,19 +12,22 @@ use lib.Seq.{getD-set-same, getD-set-other}
 use Rattle.words.specs.Bits.{digit, bit, minus, rest}
 use Rattle.words.specs.Members.{first, some}
 use Rattle.words.specs.Loops.{each, upto}
-use Rattle.words.proofs.Bits.{bit-zero, bit-one, bit-or, bit-minus, digit-one, digit-none, digit-not}
+use Rattle.words.proofs.Bits.{bit-zero, bit-one, bit-or, bit-minus, digit-one, digit-none}
 use Rattle.words.proofs.Firsts.{some-found, some-here}
 use Rattle.words.proofs.Kept.{each-keeps}
 use Rattle.words.proofs.Loops.{each-more, each-upto, upto-cong}
 use Rattle.words.proofs.Members.{digit-rest, rest-lt}
 use Rattle.words.proofs.Tables.{is-table, getD-table, length-table}
 use Rattle.words.proofs.Tests.{clash, holds, fails, by-test, at-or-other, and-says, and-both, or-left, or-right, not-of-false, false-of-not, cond-true, cond-false, cond-least}
-use Rattle.order.specs.Rows.{row, after}
+use Rattle.order.specs.Stored.{row}
+use Rattle.order.proofs.Stored.{everyone-bit, everyone-fits, in-bound}
+use Rattle.order.specs.Rows.{after}
 use Rattle.schedule.specs.Network.{Network, Schedule, Ranked}
 use Rattle.schedule.specs.Starts.{asked, earliestOf}
 use Rattle.schedule.specs.Arrays.{at, netOf, startsOf, FinishesFit}
 use Rattle.schedule.specs.Levels.{openRow, waitingFor, readyOf, place, placed, startsBy, RanksDone}
 use Rattle.schedule.proofs.Starts.{asked-cong, earliest-fixed, earliest-bound}
+use Rattle.order.specs.Stored.{elements, everyone, bound}
 
 -- ---- who waits, and who is ready
 
@@ -45,58 +48,58 @@ module _ (rows : List ℕ) (done : ℕ) where
       ∙ ap (λ (b : Bool). b || bit (openRow done n (row rows n)) j) (waiting-bit n j)
       ∙ ap (λ (b : Bool). some n (holdsBack j) || b) (open-bit (bit done n) (row rows n) j)
 
-  all-bit : (j : ℕ) → j < 64 → bit (2 ^ 64 - 1) j ≡ true
-  all-bit j l = bit-one (2 ^ 64 - 1) j (omega (arith, digit-not j 64 0 l (omega arith), digit-none j))
+  all-bit : (j : ℕ) → j < elements → bit everyone j ≡ true
+  all-bit j l = everyone-bit j l
 
   -- the code goes over those that are not done alone
-  pub waiting-members : each 64 (λ w i. bitOr w (row rows i)) 0 (minus (2 ^ 64 - 1) done) ≡ waitingFor 64 rows done
+  pub waiting-members : each elements (λ w i. bitOr w (row rows i)) 0 (minus everyone done) ≡ waitingFor elements rows done
   unfolding waitingFor
   waiting-members =
-      each-upto 64 (λ w i. bitOr w (row rows i)) 0 (minus (2 ^ 64 - 1) done)
-      ∙ upto-cong _ _ 64 0 (λ i w l. ap (λ (b : Bool). cond b (bitOr w (row rows i)) w) (left i l) ∙ skip (bit done i) w (row rows i))
+      each-upto elements (λ w i. bitOr w (row rows i)) 0 (minus everyone done)
+      ∙ upto-cong _ _ elements 0 (λ i w l. ap (λ (b : Bool). cond b (bitOr w (row rows i)) w) (left i l) ∙ skip (bit done i) w (row rows i))
     where
-      left : (i : ℕ) → i < 64 → bit (minus (2 ^ 64 - 1) done) i ≡ not (bit done i)
-      left i l = bit-minus (2 ^ 64 - 1) done i ∙ ap (λ (b : Bool). b && not (bit done i)) (all-bit i l)
+      left : (i : ℕ) → i < elements → bit (minus everyone done) i ≡ not (bit done i)
+      left i l = bit-minus everyone done i ∙ ap (λ (b : Bool). b && not (bit done i)) (all-bit i l)
 
       skip : (b : Bool) (w r : ℕ) → cond (not b) (bitOr w r) w ≡ bitOr w (cond b 0 r)
       skip true w r = sym (or-zero-r w)
       skip false w r = refl
 
-  ready-bit : (j : ℕ) → j < 64 → bit (readyOf rows done) j ≡ not (bit (waitingFor 64 rows done) j) && not (bit done j)
+  ready-bit : (j : ℕ) → j < elements → bit (readyOf rows done) j ≡ not (bit (waitingFor elements rows done) j) && not (bit done j)
   unfolding readyOf
   ready-bit j l =
-      bit-minus (minus (2 ^ 64 - 1) (waitingFor 64 rows done)) done j
+      bit-minus (minus everyone (waitingFor elements rows done)) done j
       ∙ ap (λ (b : Bool). b && not (bit done j))
-      (bit-minus (2 ^ 64 - 1) (waitingFor 64 rows done) j ∙ ap (λ (b : Bool). b && not (bit (waitingFor 64 rows done) j)) (all-bit j l))
+      (bit-minus everyone (waitingFor elements rows done) j ∙ ap (λ (b : Bool). b && not (bit (waitingFor elements rows done) j)) (all-bit j l))
 
   -- all that have an arc to j are done
   abbrev AllDone : ℕ → Type 0
-  AllDone j = (i : ℕ) → i < 64 → after rows i j ≡ true → bit done i ≡ true
+  AllDone j = (i : ℕ) → i < elements → after rows i j ≡ true → bit done i ≡ true
 
-  ready-says : (j : ℕ) → j < 64 → (bit (readyOf rows done) j ≡ true) ↔ ((bit done j ≡ false) × AllDone j)
+  ready-says : (j : ℕ) → j < elements → (bit (readyOf rows done) j ≡ true) ↔ ((bit done j ≡ false) × AllDone j)
   ready-says j l = (there, back)
     where
       there : bit (readyOf rows done) j ≡ true → (bit done j ≡ false) × AllDone j
       there e =
-          let w = and-says (not (bit (waitingFor 64 rows done) j)) (not (bit done j)) .0 (sym (ready-bit j l) ∙ e) in (
+          let w = and-says (not (bit (waitingFor elements rows done) j)) (not (bit done j)) .0 (sym (ready-bit j l) ∙ e) in (
             false-of-not _ (w .1),
             λ i h a. holds (bit done i) λ n.
-                clash (waiting-bit 64 j ∙ some-here 64 (holdsBack j) i h (and-both _ _ (not-of-false _ n) a)) (false-of-not _ (w .0)),
+                clash (waiting-bit elements j ∙ some-here elements (holdsBack j) i h (and-both _ _ (not-of-false _ n) a)) (false-of-not _ (w .0)),
           )
 
       back : (bit done j ≡ false) × AllDone j → bit (readyOf rows done) j ≡ true
       back d =
           ready-bit j l
           ∙ and-both _ _
-          (not-of-false _ (fails (bit (waitingFor 64 rows done) j) λ e.
-          let w = some-found 64 (holdsBack j) (sym (waiting-bit 64 j) ∙ e) in
+          (not-of-false _ (fails (bit (waitingFor elements rows done) j) λ e.
+          let w = some-found elements (holdsBack j) (sym (waiting-bit elements j) ∙ e) in
           let v = and-says (not (bit done (w .0))) (after rows (w .0) j) .0 (w .2) in
           clash (d .1 (w .0) (w .1) (v .1)) (false-of-not _ (v .0))))
           (not-of-false _ (d .0))
 
-  ready-fit : readyOf rows done < 2 ^ 64
+  ready-fit : readyOf rows done < bound
   unfolding readyOf
-  ready-fit = less (2 ^ 64) (2 ^ 64 - 1) (waitingFor 64 rows done) done (omega arith)
+  ready-fit = less bound everyone (waitingFor elements rows done) done everyone-fits
     where
       less : (n a b c : ℕ) → a < n → minus (minus a b) c < n
       less n a b c h = omega arith
@@ -112,7 +115,7 @@ module _ (g : Network) (s : Schedule) (i : ℕ) where
 
   placed-not : (l : List ℕ) (w : ℕ) → bit w i ≡ false → getD (placed g s l w) i 0 ≡ getD l i 0
   placed-not l w e =
-      each-keeps (λ t. getD t i 0 ≡ getD l i 0) 64 (place g s) w
+      each-keeps (λ t. getD t i 0 ≡ getD l i 0) elements (place g s) w
       (λ t b h d p. place-other t b (λ q. clash (bit-one w b d) (ap (bit w) (sym q) ∙ e)) ∙ p) l refl
 
   -- an element that has its start keeps it
@@ -121,29 +124,29 @@ module _ (g : Network) (s : Schedule) (i : ℕ) where
 
   stays : (l : List ℕ) (w : ℕ) → Stored l → Stored (placed g s l w)
   stays l w p =
-      each-keeps Stored 64 (place g s) w
+      each-keeps Stored elements (place g s) w
       (λ t b h d q. (omega (arith, q .0, length-set t b (asked g s b)), at-or-other (λ b. getD (place g s t b) i 0 ≡ asked g s i) i b (place-same t (q .0)) (λ ne. place-other t b (λ e. ne (sym e)) ∙ q .1)))
       l p
 
-  placed-in : (n : ℕ) (l : List ℕ) (w : ℕ) → w ≤ n → w < 2 ^ 64 → i < length l → digit w i ≡ 1 → getD (placed g s l w) i 0 ≡ asked g s i
+  placed-in : (n : ℕ) (l : List ℕ) (w : ℕ) → w ≤ n → w < bound → i < length l → digit w i ≡ 1 → getD (placed g s l w) i 0 ≡ asked g s i
   placed-in zero l w h f k d =
       let e : w ≡ 0 = omega arith in
       absurd (omega (arith, ap (λ (x : ℕ). digit x i) e, digit-none i))
   placed-in (suc n) l w h f k d =
       let ne : w ≡ 0 → ⊥ = λ e. omega (arith, ap (λ (x : ℕ). digit x i) e, digit-none i) in
-      let b = first 64 (bit w) in
+      let b = first elements (bit w) in
       let r = rest-lt w ne in
-      ap (λ (t : List ℕ). getD t i 0) (each-more 64 (place g s) l w (omega arith) f)
+      ap (λ (t : List ℕ). getD t i 0) (each-more elements (place g s) l w (omega arith) (in-bound f))
       ∙ ⊎-elim
       (λ m. placed-in n (place g s l b) (rest w) (omega arith) (omega arith) (omega (arith, length-set l b (asked g s b))) m)
       (λ e. stays (place g s l b) (rest w) (omega (arith, length-set l b (asked g s b)), ap (λ (x : ℕ). getD (place g s l x) i 0) (sym e) ∙ place-same l k) .1)
-      (digit-rest 64 w i f d)
+      (digit-rest elements w i (in-bound f) d)
 
-  placed-ready : (l : List ℕ) (w : ℕ) → w < 2 ^ 64 → i < length l → bit w i ≡ true → getD (placed g s l w) i 0 ≡ asked g s i
+  placed-ready : (l : List ℕ) (w : ℕ) → w < bound → i < length l → bit w i ≡ true → getD (placed g s l w) i 0 ≡ asked g s i
   placed-ready l w f k e = placed-in w l w (omega arith) f k (digit-one w i e)
 
 placed-long : (g : Network) (s : Schedule) (l : List ℕ) (w : ℕ) → length (placed g s l w) ≡ length l
-placed-long g s l w = each-keeps (λ t. length t ≡ length l) 64 (place g s) w (λ t b h d p. length-set t b (asked g s b) ∙ p) l refl
+placed-long g s l w = each-keeps (λ t. length t ≡ length l) elements (place g s) w (λ t b h d p. length-set t b (asked g s b) ∙ p) l refl
 
 -- ---- the starts of those that are done
 
@@ -152,19 +155,19 @@ or-none true = refl
 or-none false = refl
 
 module _ (g : Network) (done : ℕ) where
-  by-at : (i : ℕ) → i < 64 → at (startsBy g done) i ≡ cond (bit done i) (earliestOf g i) 0
+  by-at : (i : ℕ) → i < elements → at (startsBy g done) i ≡ cond (bit done i) (earliestOf g i) 0
   unfolding startsBy
-  by-at i l = getD-table 64 (λ i. cond (bit done i) (earliestOf g i) 0) i 0 l
+  by-at i l = getD-table elements (λ i. cond (bit done i) (earliestOf g i) 0) i 0 l
 
-  by-long : length (startsBy g done) ≡ 64
+  by-long : length (startsBy g done) ≡ elements
   unfolding startsBy
-  by-long = length-table 64 (λ i. cond (bit done i) (earliestOf g i) 0)
+  by-long = length-table elements (λ i. cond (bit done i) (earliestOf g i) 0)
 
 -- at first none is done
-pub by-none : (g : Network) → replicate 64 0 ≡ startsBy g 0
+pub by-none : (g : Network) → replicate elements 0 ≡ startsBy g 0
 unfolding startsBy
 by-none g =
-    is-table 64 (λ i. cond (bit 0 i) (earliestOf g i) 0) (replicate 64 0) 0 refl λ i l. getD-replicate 64 i 0 0 l ∙ sym (cond-false (earliestOf g i) 0 (bit-zero i))
+    is-table elements (λ i. cond (bit 0 i) (earliestOf g i) 0) (replicate elements 0) 0 refl λ i l. getD-replicate elements i 0 0 l ∙ sym (cond-false (earliestOf g i) 0 (bit-zero i))
 
 module _ (rows : List ℕ) (weight : ℕ → ℕ → ℕ) where
   -- no finish passes 32 bits
@@ -173,12 +176,12 @@ module _ (rows : List ℕ) (weight : ℕ → ℕ → ℕ) where
       omega (
         arith,
         by-at (netOf rows weight) done i l,
-        cond-least (bit done i) (earliestOf (netOf rows weight) i) (64 * 65535) (λ e. earliest-bound (netOf rows weight) 65535 (λ k m x. a k m) i l),
+        cond-least (bit done i) (earliestOf (netOf rows weight) i) (elements * 65535) (λ e. earliest-bound (netOf rows weight) 65535 (λ k m x. a k m) i l),
         a i j,
       )
 
   level-ready :
-      (R : Ranked (netOf rows weight)) (done i : ℕ) → i < 64 → bit (readyOf rows done) i ≡ true
+      (R : Ranked (netOf rows weight)) (done i : ℕ) → i < elements → bit (readyOf rows done) i ≡ true
       → at (placed (netOf rows weight) (at (startsBy (netOf rows weight) done)) (startsBy (netOf rows weight) done) (readyOf rows done)) i
       ≡ cond (bit (bitOr done (readyOf rows done)) i) (earliestOf (netOf rows weight) i) 0
   level-ready R done i l e =
@@ -191,7 +194,7 @@ module _ (rows : List ℕ) (weight : ℕ → ℕ → ℕ) where
       ∙ sym (cond-true (earliestOf g i) 0 (bit-or done (readyOf rows done) i ∙ or-right (bit done i) _ e))
 
   level-not :
-      (done i : ℕ) → i < 64 → bit (readyOf rows done) i ≡ false
+      (done i : ℕ) → i < elements → bit (readyOf rows done) i ≡ false
       → at (placed (netOf rows weight) (at (startsBy (netOf rows weight) done)) (startsBy (netOf rows weight) done) (readyOf rows done)) i
       ≡ cond (bit (bitOr done (readyOf rows done)) i) (earliestOf (netOf rows weight) i) 0
   level-not done i l e =
@@ -209,7 +212,7 @@ module _ (rows : List ℕ) (weight : ℕ → ℕ → ℕ) where
       let g = netOf rows weight in
       let s = startsBy g done in
       let w = readyOf rows done in
-      is-table 64 (λ i. cond (bit (bitOr done w) i) (earliestOf g i) 0) (placed g (at s) s w) 0 (placed-long g (at s) s w ∙ by-long g done)
+      is-table elements (λ i. cond (bit (bitOr done w) i) (earliestOf g i) 0) (placed g (at s) s w) 0 (placed-long g (at s) s w ∙ by-long g done)
       λ i l. by-test (bit w i) (level-ready R done i l) (level-not done i l)
 
   -- A LEVEL GIVES THE READY ELEMENTS THEIR EARLIEST STARTS
@@ -241,8 +244,8 @@ module _ (rows : List ℕ) (weight : ℕ → ℕ → ℕ) where
       (ap (λ (w : ℕ). bit w j) e ∙ bit-zero j)
 
   -- once all are done, the starts are the earliest ones
-  pub by-all : (done r : ℕ) → Ranked (netOf rows weight) → RanksDone rows weight done r → 64 ≤ r → startsBy (netOf rows weight) done ≡ startsOf rows weight
+  pub by-all : (done r : ℕ) → Ranked (netOf rows weight) → RanksDone rows weight done r → elements ≤ r → startsBy (netOf rows weight) done ≡ startsOf rows weight
   unfolding startsOf
   by-all done r R D l =
-      is-table 64 (earliestOf (netOf rows weight)) (startsBy (netOf rows weight) done) 0 (by-long (netOf rows weight) done)
+      is-table elements (earliestOf (netOf rows weight)) (startsBy (netOf rows weight) done) 0 (by-long (netOf rows weight) done)
       λ i h. by-at (netOf rows weight) done i h ∙ cond-true _ 0 (D R i h (omega (arith, R .below i h)))

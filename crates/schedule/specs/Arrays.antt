@@ -8,6 +8,7 @@ use Rattle.order.specs.Rows.{after}
 use Rattle.schedule.specs.Network.{Network, Schedule}
 use Rattle.schedule.specs.Starts.{earliestOf}
 use Rattle.schedule.specs.Checks.{Work}
+use Rattle.order.specs.Stored.{elements}
 
 -- the numbers of a list, one for each element; 0 past its end
 abbrev pub at : List ℕ → Schedule
@@ -17,7 +18,7 @@ at xs i = getD xs i 0
 
 -- the network of 64 elements with an arc from i to each member of row i
 abbrev pub netOf : List ℕ → (ℕ → ℕ → ℕ) → Network
-netOf rows weight = record { elements = 64; arc = after rows; weight = weight }
+netOf rows weight = record { elements = elements; arc = after rows; weight = weight }
 
 -- the weight of an arc: the duration of the element that it comes from
 abbrev pub byDuration : List ℕ → ℕ → ℕ → ℕ
@@ -25,7 +26,7 @@ byDuration durations i j = at durations i
 
 -- the earliest starts of all elements
 unfoldable pub startsOf : List ℕ → (ℕ → ℕ → ℕ) → List ℕ
-startsOf rows weight = table 64 (earliestOf (netOf rows weight))
+startsOf rows weight = table elements (earliestOf (netOf rows weight))
 
 -- each of the numbers is at most b (a file's durations are at most 65,535)
 abbrev pub AllAtMost : ℕ → List ℕ → Type 0
@@ -33,13 +34,13 @@ AllAtMost b xs = (i : ℕ) → at xs i ≤ b
 
 -- no start and weight together pass 32 bits
 abbrev pub FinishesFit : List ℕ → (ℕ → ℕ → ℕ) → Type 0
-FinishesFit starts weight = (i j : ℕ) → i < 64 → at starts i + weight i j < 2 ^ 32
+FinishesFit starts weight = (i j : ℕ) → i < elements → at starts i + weight i j < 2 ^ 32
 
 -- ---- for the crew check: "Given m starts and m worked durations"
 
 -- a start and a worked duration for each of at most 64 activities
 pub record Listed (starts worked : List ℕ) : Type 0 where
-  pub few : length starts ≤ 64
+  pub few : length starts ≤ elements
   pub paired : length worked ≡ length starts
 
 -- the network of m elements, with the worked durations as weights
@@ -54,6 +55,6 @@ workOf demands available starts worked =
       start = at starts;
       worked = at worked;
       kinds = 8;
-      demand = λ k i. at demands (64 * k + i);
+      demand = λ k i. at demands (elements * k + i);
       available = at available;
     }

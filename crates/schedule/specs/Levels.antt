@@ -3,18 +3,19 @@
 use mathlib.Core.Path.{_≡_}
 use mathlib.Core.Bool.{Bool, true, cond}
 use mathlib.Core.List.{List}
-use Prim.Native.Nat.{ℕ, suc, _-_, _≤_, _<_, _^_}
+use Prim.Native.Nat.{ℕ, suc, _≤_, _<_}
 use lib.Bits.{bitOr}
 use lib.Dec.{eqb, ltb}
 use lib.ListN.{set}
 use Rattle.words.specs.Bits.{bit, minus}
 use Rattle.words.specs.Tables.{table}
 use Rattle.words.specs.Loops.{each, upto}
-use Rattle.order.specs.Rows.{row}
+use Rattle.order.specs.Stored.{row}
 use Rattle.schedule.specs.Network.{Network, Schedule, Ranked}
 use Rattle.schedule.specs.Starts.{asked, earliestOf}
 use Rattle.schedule.specs.Checks.{Work, overloaded}
 use Rattle.schedule.specs.Arrays.{netOf}
+use Rattle.order.specs.Stored.{elements, everyone}
 
 -- ---- earliest starts. `done` is the word of the elements that have their start.
 
@@ -28,22 +29,22 @@ waitingFor n rows done = upto (λ i w. bitOr w (openRow done i (row rows i))) n 
 
 -- the elements that are not done, and whose arcs all come from elements that are
 unfoldable pub readyOf : List ℕ → ℕ → ℕ
-readyOf rows done = minus (minus (2 ^ 64 - 1) (waitingFor 64 rows done)) done
+readyOf rows done = minus (minus (everyone) (waitingFor elements rows done)) done
 
 -- one level: each ready element gets what the arcs ask of it by the starts s, in the list l
 abbrev pub place : Network → Schedule → List ℕ → ℕ → List ℕ
 place g s l j = set l j (asked g s j)
 
 abbrev pub placed : Network → Schedule → List ℕ → ℕ → List ℕ
-placed g s l ready = each 64 (place g s) l ready
+placed g s l ready = each elements (place g s) l ready
 
 -- the starts of those that are done, and 0 for the others
 unfoldable pub startsBy : Network → ℕ → List ℕ
-startsBy g done = table 64 (λ i. cond (bit done i) (earliestOf g i) 0)
+startsBy g done = table elements (λ i. cond (bit done i) (earliestOf g i) 0)
 
 -- each element of rank below r is done, by whatever rank rises along every arc
 abbrev pub RanksDone : List ℕ → (ℕ → ℕ → ℕ) → ℕ → ℕ → Type 0
-RanksDone rows weight done r = (R : Ranked (netOf rows weight)) (j : ℕ) → j < 64 → R .rank j < r → bit done j ≡ true
+RanksDone rows weight done r = (R : Ranked (netOf rows weight)) (j : ℕ) → j < elements → R .rank j < r → bit done j ≡ true
 
 -- ---- the first period. What is occupied rises only after a start, so only the periods that follow one are tried.
 

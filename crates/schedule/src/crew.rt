@@ -9,14 +9,18 @@ ghost use Rattle.words.specs.Bits.{bit};
 ghost use Rattle.schedule.specs.Checks.{occupied, brokenTo, brokenFrom, lowestKind, firstPeriod, checkOf};
 ghost use Rattle.schedule.specs.Arrays.{at, crewNet, workOf, Listed};
 ghost use Rattle.schedule.specs.Levels.{soonerOf};
+ghost use Rattle.order.specs.Stored.{elements, numberOf};
 use crate::Checked;
+use order::ELEMENTS;
+use order::Rows;
+use order::Set;
 
 // Whether a row has an arc to the element j, which starts before the finish.
-fn breaks_at(row: u64, j: usize, finish: u64, next: u32) -> bool
-    requires { ⌜ j < 64 ⌝ }
-    ensures { λ r. ⌜ r ≡ (bit row j && ltb next finish) ⌝ }
+fn breaks_at(row: Set, j: usize, finish: u64, next: u32) -> bool
+    requires { ⌜ j < elements ⌝ }
+    ensures { λ r. ⌜ r ≡ (bit (numberOf row) j && ltb next finish) ⌝ }
 {
-    if words::has(row, j) {
+    if row.has(j) {
         words::wide(next) < finish
     } else {
         false
@@ -24,12 +28,12 @@ fn breaks_at(row: u64, j: usize, finish: u64, next: u32) -> bool
 }
 
 // The first element to which an arc from i is broken, or m.
-fn broken_to(rows: &[u64; 64], starts: &[u32], worked: &[u32], i: usize) -> usize
+fn broken_to(rows: &Rows, starts: &[u32], worked: &[u32], i: usize) -> usize
     requires { ⌜ Listed (now starts) (now worked) ⌝ }
     requires { ⌜ i < length (now starts) ⌝ }
     ensures { λ r. ⌜ r ≡ brokenTo (crewNet (now (rows .entry)) (now (starts .entry)) (now (worked .entry))) (at (now (starts .entry))) i ⌝ }
 {
-    let row = rows[i];
+    let row = order::row(rows, i);
     let finish = words::wide(starts[i]) + words::wide(worked[i]);
     let m = starts.len();
     for j in 0..m {
@@ -41,7 +45,7 @@ fn broken_to(rows: &[u64; 64], starts: &[u32], worked: &[u32], i: usize) -> usiz
 }
 
 // The first element from which an arc is broken, or m.
-fn broken_from(rows: &[u64; 64], starts: &[u32], worked: &[u32]) -> usize
+fn broken_from(rows: &Rows, starts: &[u32], worked: &[u32]) -> usize
     requires { ⌜ Listed (now starts) (now worked) ⌝ }
     ensures { λ r. ⌜ r ≡ brokenFrom (crewNet (now (rows .entry)) (now (starts .entry)) (now (worked .entry))) (at (now (starts .entry))) ⌝ }
 {
@@ -68,7 +72,13 @@ fn share(start: u32, worked: u32, t: u64, demand: u32) -> u64
 }
 
 // What is occupied of kind k in period t; what is available plays no part in it.
-fn occupied_at(demands: &[u32; 512], starts: &[u32], worked: &[u32], t: u64, k: usize) -> u64
+fn occupied_at(
+    demands: &[u32; 8 * ELEMENTS],
+    starts: &[u32],
+    worked: &[u32],
+    t: u64,
+    k: usize,
+) -> u64
     requires { ⌜ Listed (now starts) (now worked) ⌝ }
     requires { ⌜ k < 8 ⌝ }
     ensures { λ r. ⌜ r ≡ occupied (workOf (now (demands .entry)) [] (now (starts .entry)) (now (worked .entry))) t k ⌝ }
@@ -76,14 +86,14 @@ fn occupied_at(demands: &[u32; 512], starts: &[u32], worked: &[u32], t: u64, k: 
     let m = starts.len();
     let mut used: u64 = 0;
     for i in 0..m {
-        used = used + share(starts[i], worked[i], t, demands[64 * k + i]);
+        used = used + share(starts[i], worked[i], t, demands[ELEMENTS * k + i]);
     }
     used
 }
 
 // The lowest kind that is exceeded in period t, or 8.
 fn lowest_kind(
-    demands: &[u32; 512],
+    demands: &[u32; 8 * ELEMENTS],
     available: &[u32; 8],
     starts: &[u32],
     worked: &[u32],
@@ -116,7 +126,12 @@ fn sooner(over: bool, best: u64, t: u64) -> u64
 }
 
 // The first overloaded period, or 0. Only the periods that follow a start are tried.
-fn first_period(demands: &[u32; 512], available: &[u32; 8], starts: &[u32], worked: &[u32]) -> u64
+fn first_period(
+    demands: &[u32; 8 * ELEMENTS],
+    available: &[u32; 8],
+    starts: &[u32],
+    worked: &[u32],
+) -> u64
     requires { ⌜ Listed (now starts) (now worked) ⌝ }
     ensures { λ r. ⌜ r ≡ firstPeriod (workOf (now (demands .entry)) (now (available .entry)) (now (starts .entry)) (now (worked .entry))) ⌝ }
 {
@@ -132,8 +147,8 @@ fn first_period(demands: &[u32; 512], available: &[u32; 8], starts: &[u32], work
 
 // The crew check of m starts and m worked durations.
 pub fn crew_check(
-    rows: &[u64; 64],
-    demands: &[u32; 512],
+    rows: &Rows,
+    demands: &[u32; 8 * ELEMENTS],
     available: &[u32; 8],
     starts: &[u32],
     worked: &[u32],

@@ -5,96 +5,98 @@ ghost use Prim.Native.Nat.{_≤_, _<_};
 ghost use Rattle.words.specs.Bits.{bit};
 ghost use Rattle.order.specs.Before.{Acyclic};
 ghost use Rattle.order.specs.Orders.{Direct};
+ghost use Rattle.order.specs.Stored.{elements, numberOf};
 ghost use Rattle.schedule.specs.Starts.{asked, endOf};
 ghost use Rattle.schedule.specs.Arrays.{at, netOf, byDuration, startsOf, AllAtMost, FinishesFit};
 ghost use Rattle.schedule.specs.Levels.{waitingFor, readyOf, placed};
-
-const ALL: u64 = 18446744073709551615;
+use order::ELEMENTS;
+use order::Rows;
+use order::Set;
 
 // The elements that have an arc from one that is not done.
-fn waiting(rows: &[u64; 64], done: u64) -> u64
-    ensures { λ r. ⌜ r ≡ waitingFor 64 (now (rows .entry)) done ⌝ }
+fn waiting(rows: &Rows, done: Set) -> Set
+    ensures { λ r. ⌜ numberOf r ≡ waitingFor elements (now (rows .entry)) (numberOf done) ⌝ }
 {
-    let mut word: u64 = 0;
-    let mut left = words::without(ALL, done);
-    while left != 0 {
-        let i = words::lowest(left);
-        word = word | rows[i];
-        left = words::without_lowest(left);
+    let mut held = Set::EMPTY;
+    let mut left = Set::ALL.minus(done);
+    while !left.is_empty() {
+        let i = left.lowest();
+        held = held.union(order::row(rows, i));
+        left = left.without_lowest();
     }
-    word
+    held
 }
 
 // The elements that are not done and do not wait.
-fn ready(rows: &[u64; 64], done: u64) -> u64
-    ensures { λ r. ⌜ r ≡ readyOf (now (rows .entry)) done ⌝ }
+fn ready(rows: &Rows, done: Set) -> Set
+    ensures { λ r. ⌜ numberOf r ≡ readyOf (now (rows .entry)) (numberOf done) ⌝ }
 {
-    words::without(words::without(ALL, waiting(rows, done)), done)
+    Set::ALL.minus(waiting(rows, done)).minus(done)
 }
 
 // The finish, where the row has an arc to j; else 0.
-fn asks(row: u64, j: usize, finish: u32) -> u32
-    requires { ⌜ j < 64 ⌝ }
-    ensures { λ r. ⌜ r ≡ cond (bit row j) finish 0 ⌝ }
+fn asks(row: Set, j: usize, finish: u32) -> u32
+    requires { ⌜ j < elements ⌝ }
+    ensures { λ r. ⌜ r ≡ cond (bit (numberOf row) j) finish 0 ⌝ }
 {
-    if words::has(row, j) { finish } else { 0 }
+    if row.has(j) { finish } else { 0 }
 }
 
 // What the arcs into j ask of its start.
-fn latest(rows: &[u64; 64], durations: &[u32; 64], starts: &[u32; 64], j: usize) -> u32
-    requires { ⌜ j < 64 ⌝ }
+fn latest(rows: &Rows, durations: &[u32; ELEMENTS], starts: &[u32; ELEMENTS], j: usize) -> u32
+    requires { ⌜ j < elements ⌝ }
     requires { ⌜ FinishesFit (now starts) (byDuration (now durations)) ⌝ }
     ensures { λ r. ⌜ r ≡ asked (netOf (now (rows .entry)) (byDuration (now (durations .entry)))) (at (now (starts .entry))) j ⌝ }
 {
     let mut best: u32 = 0;
-    for i in 0..64usize {
-        best = words::larger(best, asks(rows[i], j, starts[i] + durations[i]));
+    for i in 0..ELEMENTS {
+        best = words::larger(best, asks(order::row(rows, i), j, starts[i] + durations[i]));
     }
     best
 }
 
 // One level: each element of `ready` gets what the arcs ask of it by the starts `before`.
 fn place(
-    rows: &[u64; 64],
-    durations: &[u32; 64],
-    before: &[u32; 64],
-    starts: &mut [u32; 64],
-    ready: u64,
+    rows: &Rows,
+    durations: &[u32; ELEMENTS],
+    before: &[u32; ELEMENTS],
+    starts: &mut [u32; ELEMENTS],
+    ready: Set,
 )
     requires { ⌜ FinishesFit (now before) (byDuration (now durations)) ⌝ }
-    ensures { λ _. ⌜ now (starts .exit) ≡ placed (netOf (now (rows .entry)) (byDuration (now (durations .entry)))) (at (now (before .entry))) (now (starts .entry)) ready ⌝ }
+    ensures { λ _. ⌜ now (starts .exit) ≡ placed (netOf (now (rows .entry)) (byDuration (now (durations .entry)))) (at (now (before .entry))) (now (starts .entry)) (numberOf ready) ⌝ }
 {
     let mut left = ready;
-    while left != 0 {
-        let j = words::lowest(left);
+    while !left.is_empty() {
+        let j = left.lowest();
         starts[j] = latest(rows, durations, before, j);
-        left = words::without_lowest(left);
+        left = left.without_lowest();
     }
 }
 
 // The earliest starts over arcs that make no circle, given as rows.
-pub fn earliest(rows: &[u64; 64], durations: &[u32; 64]) -> [u32; 64]
+pub fn earliest(rows: &Rows, durations: &[u32; ELEMENTS]) -> [u32; ELEMENTS]
     requires { ⌜ Acyclic (Direct (now rows)) ⌝ }
     requires { ⌜ AllAtMost 65535 (now durations) ⌝ }
     ensures { λ r. ⌜ r ≡ startsOf (now (rows .entry)) (byDuration (now (durations .entry))) ⌝ }
 {
-    let mut starts = [0u32; 64];
-    let mut done: u64 = 0;
-    for _level in 0..64usize {
+    let mut starts = [0u32; ELEMENTS];
+    let mut done = Set::EMPTY;
+    for _level in 0..ELEMENTS {
         let now_ready = ready(rows, done);
-        if now_ready == 0 {
+        if now_ready.is_empty() {
             return starts;
         }
         let before = starts;
         place(rows, durations, &before, &mut starts, now_ready);
-        done = done | now_ready;
+        done = done.union(now_ready);
     }
     starts
 }
 
 // The start of the end: the largest finish of the first m elements.
-pub fn end_start(starts: &[u32; 64], durations: &[u32; 64], m: usize) -> u32
-    requires { ⌜ m ≤ 64 ⌝ }
+pub fn end_start(starts: &[u32; ELEMENTS], durations: &[u32; ELEMENTS], m: usize) -> u32
+    requires { ⌜ m ≤ elements ⌝ }
     requires { ⌜ FinishesFit (now starts) (byDuration (now durations)) ⌝ }
     ensures { λ r. ⌜ r ≡ endOf m (at (now (starts .entry))) (at (now (durations .entry))) ⌝ }
 {

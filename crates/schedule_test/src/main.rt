@@ -1,8 +1,18 @@
-// Prints the earliest starts of plan A, and the crew check's cases of document 01, on arrays; and 64 activities in a line.
+// Prints the earliest starts of plan A, and the crew check's cases of document 01, on arrays; and as many activities in a line as a plan file may have.
 ghost use Prim.Native.Nat.{_≤_};
+ghost use Rattle.order.specs.Stored.{elements};
 ghost use Rattle.schedule.specs.Arrays.{AllAtMost};
+use order::CELLS;
+use order::ELEMENTS;
 use order::Order;
+use order::Rows;
+use order::Set;
 use schedule::Checked;
+
+const LAST: usize = ELEMENTS - 1;
+
+// How many activities a plan file may have (document 01, "m from 0 to 64"). There may be more elements.
+const MANY: usize = 64;
 
 fn print_number(x: u64) {
     io::write_all(1, b" ");
@@ -31,22 +41,22 @@ fn print_checked(c: Checked) {
 }
 
 // Arcs 1 to 2 and 2 to 4, as rows.
-fn arcs_a() -> [u64; 64] {
-    let mut rows = [0u64; 64];
-    rows[0] = 2;
-    rows[1] = 8;
+fn arcs_a() -> Rows {
+    let mut rows = [0; CELLS];
+    order::put_row(&mut rows, 0, Set::single(1));
+    order::put_row(&mut rows, 1, Set::single(3));
     rows
 }
 
 // The same duration for each.
-fn each(duration: u32) -> [u32; 64]
+fn each(duration: u32) -> [u32; ELEMENTS]
     requires { ⌜ duration ≤ 65535 ⌝ }
     ensures { λ r. ⌜ AllAtMost 65535 r ⌝ }
 {
-    [duration; 64]
+    [duration; ELEMENTS]
 }
 
-fn durations_a() -> [u32; 64]
+fn durations_a() -> [u32; ELEMENTS]
     ensures { λ r. ⌜ AllAtMost 65535 r ⌝ }
 {
     let mut durations = each(0);
@@ -58,20 +68,20 @@ fn durations_a() -> [u32; 64]
 }
 
 // The arcs from i to i + 1, as rows.
-fn line() -> [u64; 64] {
-    let mut rows = [0u64; 64];
-    for i in 0..63usize {
-        rows[i] = words::with_bit(0, i + 1);
+fn line() -> Rows {
+    let mut rows = [0; CELLS];
+    for i in 0..LAST {
+        order::put_row(&mut rows, i, Set::single(i + 1));
     }
     rows
 }
 
 // The earliest starts of the first m elements, and the start of the end.
-fn print_starts(rows: [u64; 64], durations: [u32; 64], m: usize)
-    requires { ⌜ m ≤ 64 ⌝ }
+fn print_starts(rows: Rows, durations: [u32; ELEMENTS], m: usize)
+    requires { ⌜ m ≤ elements ⌝ }
     requires { ⌜ AllAtMost 65535 durations ⌝ }
 {
-    if Order::of(rows).circle() < 64 {
+    if Order::of(rows).circle() < ELEMENTS {
         io::write_all(1, b"circle\n");
         return;
     }
@@ -86,8 +96,8 @@ fn print_starts(rows: [u64; 64], durations: [u32; 64], m: usize)
 }
 
 // The crew check of four activities that each demand 2 of the first kind, of which there are 4.
-fn print_check(rows: [u64; 64], starts: [u32; 4], worked: [u32; 4]) {
-    let mut demands = [0u32; 512];
+fn print_check(rows: Rows, starts: [u32; 4], worked: [u32; 4]) {
+    let mut demands = [0u32; 8 * ELEMENTS];
     for i in 0..4usize {
         demands[i] = 2;
     }
@@ -104,15 +114,15 @@ fn main() {
     io::write_all(1, b"A at 0 1 0 2: ");
     print_check(arcs_a(), [0, 1, 0, 2], [1, 2, 3, 1]);
     io::write_all(1, b"C at 0 0 0 0, durations 1 1 1 1: ");
-    print_check([0; 64], [0; 4], [1; 4]);
+    print_check([0; CELLS], [0; 4], [1; 4]);
     io::write_all(1, b"C at 0 0 1 1, durations 1 1 1 1: ");
-    print_check([0; 64], [0, 0, 1, 1], [1; 4]);
+    print_check([0; CELLS], [0, 0, 1, 1], [1; 4]);
     io::write_all(1, b"C at 0 0 1 1, durations 2 2 1 1: ");
-    print_check([0; 64], [0, 0, 1, 1], [2, 2, 1, 1]);
+    print_check([0; CELLS], [0, 0, 1, 1], [2, 2, 1, 1]);
     io::write_all(1, b"C at 4294967295, durations 1 1 1 1: ");
-    print_check([0; 64], [4294967295; 4], [1; 4]);
+    print_check([0; CELLS], [4294967295; 4], [1; 4]);
     io::write_all(1, b"no activity: ");
-    print_starts([0; 64], each(0), 0);
+    print_starts([0; CELLS], each(0), 0);
     io::write_all(1, b"64 in a line, each 65535 long: ");
-    print_starts(line(), each(65535), 64);
+    print_starts(line(), each(65535), MANY);
 }

@@ -4,6 +4,10 @@ use Prim.Native.Nat.{ℕ, _-_, _/_, _%_, _^_}
 use lib.Bits.{bitAnd, bitOr}
 use lib.Dec.{eqb}
 
+-- how many bits a word of the machine has (`words::Word`)
+abbrev pub wordBits : ℕ
+wordBits = 64
+
 -- the binary digit of w at the place i: 0 or 1
 unfoldable pub digit : ℕ → ℕ → ℕ
 digit w i = w / 2 ^ i % 2

@@ -1,7 +1,7 @@
 -- `bench_c::yaffledesk_bench_orders` meets its contract: each order is that of its arcs. Assumes nothing.
 use mathlib.Core.Path.{ap, _∙_}
 use borrow.Author.Needs.{needs}
-use Rattle.order.specs.Orders.{afterWords, orderIn}
+use Rattle.order.specs.Orders.{afterRows, orderIn}
 use Rattle.bench_c.proofs.yaffledesk_bench_orders.Statement.{statement}
 use Rattle.bench_c.proofs.yaffledesk_bench_orders.Tie as tie
 
@@ -9,7 +9,7 @@ returns : tie.Need-returns
 returns c =
     let j = c .before .before .before .before .of .ensures in
     let p = c .before .of2 .ensures ∙ ap orderIn (c .before .before .joined .ensures) in
-    (c .before .before .before .after-words .ensures ∙ ap afterWords j, c .after-words2 .ensures ∙ ap afterWords p)
+    (c .before .before .before .after-rows .ensures ∙ ap afterRows j, c .after-rows2 .ensures ∙ ap afterRows p)
 
 pub yaffledesk-bench-orders-spec : {M : Type 1} → statement M
 yaffledesk-bench-orders-spec =

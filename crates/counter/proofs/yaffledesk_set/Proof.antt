@@ -1,12 +1,22 @@
--- `counter::yaffledesk_set` meets its contract: it is the word in the desk's answer. Assumes nothing.
+-- `counter::yaffledesk_set` meets its contract: it is the set in the desk's answer, which is one word. Assumes nothing.
 use mathlib.Core.Path.{ap, _∙_}
+use Prim.Native.Nat.{_%_, _^_}
+use native.Mathlib.Nat.{mod-eq-of-lt}
+use native.Mathlib.Omega.{arith}
+use Rattle.desk.specs.declared.Decision.{Decision}
 use Rattle.counter.specs.Codes.{shownWord}
+use Rattle.counter.proofs.SetWord.{word-small}
 use borrow.Author.Needs.{needs}
 use Rattle.counter.proofs.yaffledesk_set.Statement.{statement}
 use Rattle.counter.proofs.yaffledesk_set.Tie as tie
 
 returns : tie.Need-returns
-returns c = c .shown-word .ensures ∙ ap shownWord (c .before .verdict .ensures)
+returns c =
+    let v = c .before in
+    let s = v .before .before .args .plan .now in
+    c .shown-word .ensures
+    ∙ ap (λ (x : Decision). shownWord x % 2 ^ 64) (v .verdict .ensures)
+    ∙ mod-eq-of-lt (word-small s (λ i. omega (arith, v .before .shared-slice-known .given i)))
 
 pub yaffledesk-set-spec : {M : Type 1} → statement M
 yaffledesk-set-spec = tie.close (tie.spec (λ c κs. search needs) (λ c κs. search needs) returns)

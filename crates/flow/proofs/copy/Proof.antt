@@ -11,21 +11,21 @@ use Rattle.flow.proofs.copy.Statement.{statement}
 use Rattle.flow.proofs.copy.Tie as tie
 
 abbrev Inv-loop : tie.InvT-loop
-Inv-loop a b₀ i₀ b i = (b ≡ upto (copying a) i (blanks 0)) × (i ≤ 64)
+Inv-loop a m b₀ i₀ b i = (b ≡ upto (copying a) i (blanks 0)) × (i ≤ m)
 
 abbrev μ-loop : tie.MeasureT-loop
-μ-loop a b₀ i₀ b i = 64 - i
+μ-loop a m b₀ i₀ b i = m - i
 
 loop-holds : tie.Need-loop-holds Inv-loop μ-loop
 unfolding blanks
 loop-holds c = (up-none _ _, omega arith)
 
 loop-again : tie.Need-loop-again Inv-loop μ-loop
-loop-again c = up-again _ 64 _ _ (c .before .loop-test .taken) (c .before .before .loop .inv) refl
+loop-again c = up-again _ _ _ _ (c .before .loop-test .taken) (c .before .before .loop .inv) refl
 
 returns : tie.Need-returns Inv-loop μ-loop
 unfolding copied
-returns c = up-end _ 64 _ _ (c .loop-test .left) (c .before .loop .inv)
+returns c = up-end _ _ _ _ (c .loop-test .left) (c .before .loop .inv)
 
 pub copy-spec : {M : Type 1} → statement M
 copy-spec =

@@ -1,30 +1,27 @@
--- `quote` meets its contract, by `quotes`. Assumes nothing.
+-- `quote` meets its contract, by that of `quote_ranked`. Assumes nothing.
+use mathlib.Core.Path.{ap, _∙_}
+use mathlib.Core.List.{List}
+use Prim.Native.Nat.{ℕ}
+use denote.Ref.{now}
 use borrow.Author.Needs.{needs}
-use Rattle.flow.proofs.Steps.{quotes}
+use Rattle.flow.specs.Quote.{quoteIn, flowIn}
 use Rattle.flow.proofs.quote.Statement.{statement}
 use Rattle.flow.proofs.quote.Tie as tie
 
+quote-ranked-requires : tie.Need-quote-ranked-requires
+quote-ranked-requires c κs =
+    let r = c .before .before .before in
+    let pre = r .before .before .before .pre in
+    (pre .0, r .ranks .ensures, pre .1)
+
 returns : tie.Need-returns
 returns c =
-    let wanted = c .before in
-    let need = wanted .before in
-    let end = need .before .before in
-    let left = end .before .before .before .before .before .before in
-    let givers = left .before in
-    let flow = givers .before in
-    quotes _ _ (flow .before .before .after-words .ensures) (flow .clear .ensures) (givers .blank-words .ensures) (left .copy .ensures)
-    (end .solve .ensures) (need .total .ensures) (wanted .word-of .ensures) (c .without .ensures)
+    let rows = c .before .before .before .before .before .before in
+    let a = rows .before .args in
+    let e = c .quote-ranked .ensures in (
+      e .0 ∙ ap (λ (x : List ℕ). quoteIn (a .m) x (now (a .demand))) (rows .after-rows .ensures),
+      e .1 ∙ ap (λ (x : List ℕ). flowIn (a .m) x (now (a .demand))) (rows .after-rows .ensures),
+    )
 
 pub quote-spec : {M : Type 1} → statement M
-quote-spec =
-    tie.close
-    (tie.spec
-    (λ c κs. search needs)
-    (λ c κs. search needs)
-    (λ c κs. search needs)
-    (λ c κs. search needs)
-    (λ c κs. search needs)
-    (λ c κs. search needs)
-    (λ c κs. search needs)
-    (λ c κs. search needs)
-    returns)
+quote-spec = tie.close (tie.spec (λ c κs. search needs) (λ c κs. search needs) quote-ranked-requires returns)

@@ -10,10 +10,10 @@ use Rattle.flow.proofs.total.Statement.{statement}
 use Rattle.flow.proofs.total.Tie as tie
 
 abbrev Inv-loop : tie.InvT-loop
-Inv-loop a t₀ i₀ t i = (t ≡ amount i a) × (i ≤ 64)
+Inv-loop a m t₀ i₀ t i = (t ≡ amount i a) × (i ≤ m)
 
 abbrev μ-loop : tie.MeasureT-loop
-μ-loop a t₀ i₀ t i = 64 - i
+μ-loop a m t₀ i₀ t i = m - i
 
 loop-holds : tie.Need-loop-holds Inv-loop μ-loop
 loop-holds c = (amount-none _, omega arith)

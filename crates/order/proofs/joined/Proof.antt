@@ -1,57 +1,47 @@
 -- `order::joined` meets its contract. The invariant: the rows are what the steps done make of those at the start. Assumes nothing.
-use mathlib.Core.Path.{_≡_, refl, _∙_}
+use mathlib.Core.Path.{_≡_, ap, _∙_}
 use mathlib.Core.List.{List}
 use Prim.Native.Nat.{ℕ, _≤_, _-_}
 use native.Mathlib.Omega.{arith}
-use lib.Bits.{bitOr}
-use lib.ListN.{length, getD, length-set}
 use borrow.Author.Needs.{needs}
-use Rattle.words.specs.Loops.{upto, update}
+use Rattle.words.specs.Loops.{upto}
 use Rattle.words.proofs.Loops.{up-none, up-again, up-end}
-use Rattle.words.proofs.Tables.{updated}
+use lib.Bits.{bitOr}
+use Rattle.order.specs.Stored.{elements, numberOf, row, cells}
+use Rattle.order.specs.Rows.{updateRow}
 use Rattle.order.specs.Orders.{joinedRows}
+use Rattle.order.proofs.Stored.{number-of, put-turn, rows-updated}
 use Rattle.order.proofs.joined.Statement.{statement}
 use Rattle.order.proofs.joined.Tie as tie
 
 abbrev step : List ℕ → ℕ → ℕ → ℕ
-step b i w = bitOr w (getD b i 0)
+step b i w = bitOr w (row b i)
 
 abbrev Inv-loop : tie.InvT-loop
-Inv-loop b rows₀ i₀ rows i = (length rows ≡ 64) × ((rows ≡ upto (update (step b)) i rows₀) × (i ≤ 64))
+Inv-loop b rows₀ i₀ rows i = (rows ≡ upto (updateRow (step b)) i rows₀) × (i ≤ elements)
 
 abbrev μ-loop : tie.MeasureT-loop
-μ-loop b rows₀ i₀ rows i = 64 - i
+μ-loop b rows₀ i₀ rows i = elements - i
 
 loop-holds : tie.Need-loop-holds Inv-loop μ-loop
-loop-holds c = (search needs, (up-none _ _, omega arith))
+loop-holds c = (up-none _ _, omega arith)
 
 loop-again : tie.Need-loop-again Inv-loop μ-loop
 loop-again c =
-    let at = c .before in
-    let e = at .before .args in (
-      length-set (at .loop .rows) (at .loop .i) _ ∙ at .loop .inv .0,
-      up-again (update (step (e .t2))) 64 (at .loop .i) (e .a) (omega arith) (at .loop .inv .1) refl,
-    )
+    let u = c .before .before in
+    let r = u .before .before .before in
+    let at = r .before .before .before in
+    let e = at .before .args in
+    up-again (updateRow (step (e .t2))) elements (at .loop .i) (e .a) (omega arith) (at .loop .inv)
+    (put-turn (step (e .t2)) (at .loop .rows) (at .loop .i) (r .row .result) (u .union .result) (r .row .ensures)
+    (number-of _ (u .union .ensures) ∙ ap (bitOr (numberOf (r .row .result))) (number-of _ (u .before .row2 .ensures)))
+    (c .put-row .ensures))
 
 returns : tie.Need-returns Inv-loop μ-loop
-unfolding joinedRows
+unfolding joinedRows cells
 returns c = let at = c .before in
     let e = at .before .args in
-    up-end (update (step (e .t2))) 64 (at .loop .i) (e .a) (omega arith) (at .loop .inv .1) ∙ updated (step (e .t2)) 64 (e .a) (search needs)
+    up-end (updateRow (step (e .t2))) elements (at .loop .i) (e .a) (omega arith) (at .loop .inv) ∙ rows-updated (step (e .t2)) elements (e .a) (search needs)
 
 pub joined-spec : {M : Type 1} → statement M
-joined-spec =
-    tie.close
-    (tie.spec
-    Inv-loop
-    μ-loop
-    loop-holds
-    (λ c. search needs)
-    (λ c. search needs)
-    (λ c. search needs)
-    (λ c. search needs)
-    (λ c. search needs)
-    (λ c. search needs)
-    (λ c. search needs)
-    loop-again
-    returns)
+joined-spec = tie.close (tie.spec Inv-loop μ-loop loop-holds (λ c κs. search needs) (λ c κs. search needs) (λ c κs. search needs) (λ c κs. search needs) (λ c. search needs) (λ c. search needs) loop-again returns)

@@ -4,6 +4,7 @@ use mathlib.Core.Path.{_≡_, sym, ap, subst}
 use Prim.Native.Nat.{ℕ, _≤_, _-_}
 use native.Mathlib.Omega.{arith}
 use borrow.Author.Needs.{needs}
+use Rattle.order.specs.Stored.{elements}
 use Rattle.order.specs.Orders.{circleOf, orderIn}
 use Rattle.order.proofs.Orders.{direct-order, circle-le, circle-none}
 use Rattle.schedule.specs.Arrays.{byDuration, FinishesFit}
@@ -21,7 +22,7 @@ earliest-requires : tie.Need-earliest-requires Inv-loop μ-loop
 earliest-requires c κs =
     let o = c .before .before .before .before in
     let rows = o .before .args .t1 in
-    let e : circleOf (orderIn rows) ≡ 64 =
+    let e : circleOf (orderIn rows) ≡ elements =
     omega (arith, c .before .before .before .circle .ensures, ap circleOf (o .of .ensures), circle-le (direct-order rows)) in
     (circle-none (direct-order rows) .0 e, o .before .pre .1)
 

@@ -1,5 +1,6 @@
 -- `desk::excess::write_excess` meets its contract, from what was opened and what the kinds need. Assumes nothing.
 use native.Mathlib.Omega.{arith}
+use Rattle.desk.proofs.Opening.{opened-few}
 use Rattle.desk.proofs.Judging.{opened-kinds}
 use Rattle.desk.proofs.Exceeding.{kept, room, written}
 use borrow.Author.Needs.{needs}
@@ -15,7 +16,8 @@ returns c =
 lowest-overload-requires : tie.Need-lowest-overload-requires
 lowest-overload-requires c κs =
     let o = c .before .before .before .before .before .before .before .before .before in
-    opened-kinds (o .before .before .before .args .s .now) (o .open-plan .ensures)
+    let s = o .before .before .before .args .s .now in
+    (opened-few s (o .open-plan .ensures), opened-kinds s (o .open-plan .ensures))
 
 put-overload-requires : tie.Need-put-overload-requires
 put-overload-requires c κs =

@@ -1,5 +1,6 @@
 -- `desk::handover::flow_length` meets its contract, by whether there are activities. Assumes nothing.
 use native.Mathlib.Omega.{arith}
+use Rattle.order.specs.Stored.{elements}
 use Rattle.desk.specs.Flow.{flowLength}
 use Rattle.desk.proofs.Handing.{length-none}
 use Rattle.desk.proofs.Passing.{pairs-few}
@@ -11,16 +12,16 @@ returns : tie.Need-returns
 returns c = length-none (c .before .args .m) (omega arith)
 
 mul-result : tie.Need-mul-result
-mul-result c = record { fits = omega (arith, pairs-few (c .before .args .m) (omega arith)) }
+mul-result c = record { fits = omega (arith, pairs-few elements (c .before .args .m) (omega arith)) }
 
 add-result : tie.Need-add-result
-add-result c = record { fits = omega (arith, pairs-few (c .before .args .m) (omega arith)) }
+add-result c = record { fits = omega (arith, pairs-few elements (c .before .args .m) (omega arith)) }
 
 add-result-2 : tie.Need-add-result-2
-add-result-2 c = record { fits = omega (arith, pairs-few (c .before .args .m) (omega arith)) }
+add-result-2 c = record { fits = omega (arith, pairs-few elements (c .before .args .m) (omega arith)) }
 
 mul-result-3 : tie.Need-mul-result-3
-mul-result-3 c = record { fits = omega (arith, pairs-few (c .before .args .m) (omega arith)) }
+mul-result-3 c = record { fits = omega (arith, pairs-few elements (c .before .args .m) (omega arith)) }
 
 returns-2 : tie.Need-returns-2
 unfolding flowLength

@@ -15,7 +15,8 @@ flow-length-requires c κs =
 or-overloaded-requires : tie.Need-or-overloaded-requires
 or-overloaded-requires c κs =
     let o = c .before .before .before .before .before .before .before .before .before .before in
-    opened-kinds (o .before .before .before .args .s .now) (o .open-plan .ensures)
+    let s = o .before .before .before .args .s .now in
+    (opened-few s (o .open-plan .ensures), opened-kinds s (o .open-plan .ensures))
 
 returns : tie.Need-returns
 returns t =

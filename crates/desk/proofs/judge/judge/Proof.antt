@@ -1,5 +1,6 @@
 -- `desk::judge::judge` meets its contract, from what was opened and what the kinds need. Assumes nothing.
 use native.Mathlib.Omega.{arith}
+use Rattle.desk.proofs.Opening.{opened-few}
 use Rattle.desk.proofs.Judging.{opened-kinds, judged}
 use borrow.Author.Needs.{needs}
 use Rattle.desk.proofs.judge.judge.Statement.{statement}
@@ -8,7 +9,8 @@ use Rattle.desk.proofs.judge.judge.Tie as tie
 or-overloaded-requires : tie.Need-or-overloaded-requires
 or-overloaded-requires c κs =
     let o = c .before .before .before .before .before .before in
-    opened-kinds (o .before .before .args .s .now) (o .open-plan .ensures)
+    let s = o .before .before .args .s .now in
+    (opened-few s (o .open-plan .ensures), opened-kinds s (o .open-plan .ensures))
 
 returns : tie.Need-returns
 returns c =

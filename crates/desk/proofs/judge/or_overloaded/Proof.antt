@@ -15,15 +15,15 @@ returns : tie.Need-returns
 returns c =
     let t = c .before in
     let a = t .before .args in
-    not-weighed (a .fault) (lowestOverload (a .order) (a .demand .now) (a .available .now) (a .n)) (a .n)
+    not-weighed (a .fault) (lowestOverload (a .m) (a .order) (a .demand .now) (a .available .now) (a .n)) (a .n)
     (sym (t .is-fine .ensures) ∙ not-true _ (c .if1 .taken))
 
-add-t11 : tie.Need-add-t11
-add-t11 c =
-    let v = c .before .before in
+add-kind : tie.Need-add-kind
+add-kind c =
+    let v = c .before in
     let a = v .before .before .before .args in
     let e = ap (λ (x : Overload). x .kind) (v .lowest-overload .ensures) in
-    record { fits = omega (arith, e, lowest-le (a .order) (a .demand .now) (a .available .now) (a .n)) }
+    record { fits = omega (arith, e, lowest-le (a .m) (a .order) (a .demand .now) (a .available .now) (a .n)) }
 
 returns-2 : tie.Need-returns-2
 returns-2 c =
@@ -32,4 +32,4 @@ returns-2 c =
     c .or-cause .ensures ∙ ap (λ (x : Overload). orOverload (a .fault) x (a .n)) (v .lowest-overload .ensures)
 
 pub or-overloaded-spec : {M : Type 1} → statement M
-or-overloaded-spec = tie.close (tie.spec (λ c κs. search needs) returns (λ c κs. search needs) add-t11 (λ c κs. search needs) returns-2)
+or-overloaded-spec = tie.close (tie.spec (λ c κs. search needs) returns (λ c κs. search needs) add-kind (λ c κs. search needs) returns-2)

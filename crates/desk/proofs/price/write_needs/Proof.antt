@@ -1,5 +1,6 @@
 -- `desk::price::write_needs` meets its contract, from what was opened and what the kinds need. Assumes nothing.
 use native.Mathlib.Omega.{arith}
+use Rattle.desk.proofs.Opening.{opened-few}
 use Rattle.desk.proofs.Judging.{opened-kinds}
 use Rattle.desk.proofs.Pricing.{kept, room, written}
 use borrow.Author.Needs.{needs}
@@ -17,6 +18,7 @@ put-needs-requires c κs =
     let t = c .before .before .before .before in
     let o = t .before .before .before .before in
     let a = o .before .before .before .args in (
+      opened-few (a .s .now) (o .open-plan .ensures),
       opened-kinds (a .s .now) (o .open-plan .ensures),
       room (a .s .now) (a .out .now) (o .open-plan .ensures) (t .before .before .or-cause .ensures) (t .before .is-fine .ensures) (t .if1 .left),
     )

@@ -7,6 +7,7 @@ use denote.Ref.{now}
 use borrow.Author.Needs.{needs}
 use borrow.Author.Tests.{le-leb, lt-leb}
 use Rattle.words.proofs.Loops.{run-again, run-stop, run-end}
+use Rattle.order.specs.Stored.{elements}
 use Rattle.flow.specs.Network.{network, walk, augmented}
 use Rattle.flow.proofs.Digits.{masked}
 use Rattle.flow.proofs.Steps.{walks}
@@ -15,11 +16,11 @@ use Rattle.flow.proofs.moves.augment.Tie as tie
 
 abbrev Inv-loop : tie.InvT-loop
 Inv-loop flow₀ givers₀ left₀ right₀ lefts rights at j₀ k₀ flow givers left right j k =
-    ((augmented (64 - k) lefts rights (walk (network flow givers left right) j)
-    ≡ augmented 64 lefts rights (walk (network flow₀ givers₀ left₀ right₀) j₀)) × (k ≤ 64)) × (j < 64)
+    ((augmented (elements - k) lefts rights (walk (network flow givers left right) j)
+    ≡ augmented elements lefts rights (walk (network flow₀ givers₀ left₀ right₀) j₀)) × (k ≤ elements)) × (j < elements)
 
 abbrev μ-loop : tie.MeasureT-loop
-μ-loop flow₀ givers₀ left₀ right₀ lefts rights at j₀ k₀ flow givers left right j k = 64 - k
+μ-loop flow₀ givers₀ left₀ right₀ lefts rights at j₀ k₀ flow givers left right j k = elements - k
 
 mul-p : tie.Need-mul-p Inv-loop μ-loop
 mul-p c = omega (arith, masked (getD (now (c .before .before .before .args .rights)) (c .before .before .loop .j) 0))
@@ -36,7 +37,7 @@ returns : tie.Need-returns Inv-loop μ-loop
 returns c =
     let test = c .before .before .before .before .before in
     let at = test .before .before .before in
-    c .join .ensures ∙ run-stop _ _ _ _ 64 _ _ (at .loop-test .taken) (le-leb _ _ (test .if1 .taken)) (at .before .loop .inv .0)
+    c .join .ensures ∙ run-stop _ _ _ _ elements _ _ (at .loop-test .taken) (le-leb _ _ (test .if1 .taken)) (at .before .loop .inv .0)
 
 shift-requires : tie.Need-shift-requires Inv-loop μ-loop
 shift-requires c κs =
@@ -48,10 +49,10 @@ loop-again : tie.Need-loop-again Inv-loop μ-loop
 loop-again c =
     let test = c .before .before .before .before in
     let at = test .before .before .before in
-    (run-again _ _ _ _ 64 _ _ (at .loop-test .taken) (lt-leb _ _ (test .if1 .left)) (at .before .loop .inv .0) (walks _ (c .shift .ensures _)), test .if1 .left)
+    (run-again _ _ _ _ elements _ _ (at .loop-test .taken) (lt-leb _ _ (test .if1 .left)) (at .before .loop .inv .0) (walks _ (c .shift .ensures _)), test .if1 .left)
 
 returns-2 : tie.Need-returns-2 Inv-loop μ-loop
-returns-2 c = run-end _ _ _ _ 64 _ _ (c .loop-test .left) (c .before .loop .inv .0)
+returns-2 c = run-end _ _ _ _ elements _ _ (c .loop-test .left) (c .before .loop .inv .0)
 
 pub augment-spec : {M : Type 1} → statement M
 augment-spec =

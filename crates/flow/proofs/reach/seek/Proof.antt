@@ -1,42 +1,55 @@
--- `seek` meets its contract. The invariant: what is left of the 64 turns from here comes to what all of them come to from the start. Assumes nothing.
-use mathlib.Core.Path.{_≡_}
-use Prim.Native.Nat.{_-_, _≤_}
+-- `reach::seek` meets its contract. The invariant: the turns left make of the search what all of them make of that at the start. Assumes nothing.
+use denote.Ref.{now}
+use mathlib.Core.List.{List}
+use mathlib.Core.Path.{_≡_, ap, _∙_, sym}
+use Prim.Native.Nat.{ℕ, _-_, _≤_}
+use native.Mathlib.Omega.{arith}
 use borrow.Author.Needs.{needs}
-use borrow.Author.Tests.{eq-eqb, ne-eqb}
 use Rattle.words.proofs.Loops.{run-again, run-stop, run-end}
-use Rattle.flow.specs.Search.{reached, reach}
+use Rattle.order.specs.Stored.{elements, numberOf, noSet}
+use Rattle.order.proofs.Stored.{number-none}
+use Rattle.order.proofs.Listing.{is-some}
+use Rattle.flow.specs.Search.{Look, looked, reached, reach, begun}
+use Rattle.flow.proofs.Steps.{begins}
 use Rattle.flow.proofs.reach.seek.Statement.{statement}
 use Rattle.flow.proofs.reach.seek.Tie as tie
 
 abbrev Inv-loop : tie.InvT-loop
-Inv-loop rows givers roots slack lefts₀ rights₀ s₀ k₀ lefts rights s k =
-    (reach (64 - k) rows givers slack (reached s lefts rights) ≡ reach 64 rows givers slack (reached s₀ lefts₀ rights₀)) × (k ≤ 64)
+Inv-loop rows givers slack lefts₀ rights₀ s₀ k₀ lefts rights s k =
+    (reach (elements - k) rows givers (numberOf slack) (reached (looked s) lefts rights) ≡ reach elements rows givers (numberOf slack) (reached (looked s₀) lefts₀ rights₀)) × (k ≤ elements)
 
 abbrev μ-loop : tie.MeasureT-loop
-μ-loop rows givers roots slack lefts₀ rights₀ s₀ k₀ lefts rights s k = 64 - k
+μ-loop rows givers slack lefts₀ rights₀ s₀ k₀ lefts rights s k = elements - k
+
+-- the search begins with the roots alone
+from-roots : (rows givers : List ℕ) (slack : ℕ) (lefts rights : List ℕ) (roots : ℕ)
+    → reach elements rows givers slack (reached (record { frontier = roots; next = numberOf noSet; left = roots; right = numberOf noSet; at = elements }) lefts rights)
+    ≡ reach elements rows givers slack (reached (begun roots) lefts rights)
+from-roots rows givers slack lefts rights roots = ap (λ (x : Look). reach elements rows givers slack (reached x lefts rights)) (begins roots number-none)
 
 returns : tie.Need-returns Inv-loop μ-loop
-returns c = run-stop _ _ _ _ 64 _ _ (c .before .before .loop-test .taken) (eq-eqb _ _ (c .if1 .taken)) (c .before .before .before .loop .inv)
+returns c =
+    let at = c .before .before .before in
+    run-stop _ _ _ _ elements _ _ (at .loop-test .taken) (sym (c .before .is-empty .ensures .0) ∙ c .if1 .taken) (at .before .loop .inv)
+    ∙ (let a = at .before .before .args in from-roots (now (a .rows)) (now (a .givers)) (numberOf (a .slack)) (now (a .lefts)) (now (a .rights)) (numberOf (a .roots)))
+
+turn-requires : tie.Need-turn-requires Inv-loop μ-loop
+turn-requires c κs =
+    let test = c .before .before in
+    let some = is-some _ _ (test .before .is-empty .ensures) (test .if1 .left) in
+    (omega (arith, some), test .before .is-empty .ensures .1)
 
 loop-again : tie.Need-loop-again Inv-loop μ-loop
 loop-again c =
     let test = c .before .before .before in
-    let at = test .before .before in
-    run-again _ _ _ _ 64 _ _ (at .loop-test .taken) (ne-eqb _ _ (test .if1 .left)) (at .before .loop .inv) (c .turn .ensures)
+    let at = test .before .before .before in
+    run-again _ _ _ _ elements _ _ (at .loop-test .taken) (sym (test .before .is-empty .ensures .0) ∙ test .if1 .left) (at .before .loop .inv) (c .turn .ensures)
 
 returns-2 : tie.Need-returns-2 Inv-loop μ-loop
-returns-2 c = run-end _ _ _ _ 64 _ _ (c .loop-test .left) (c .before .loop .inv)
+returns-2 c =
+    let a = c .before .before .args in
+    run-end _ _ _ _ elements _ _ (c .loop-test .left) (c .before .loop .inv)
+    ∙ from-roots (now (a .rows)) (now (a .givers)) (numberOf (a .slack)) (now (a .lefts)) (now (a .rights)) (numberOf (a .roots))
 
 pub seek-spec : {M : Type 1} → statement M
-seek-spec =
-    tie.close
-    (tie.spec
-    Inv-loop
-    μ-loop
-    (λ c. search needs)
-    returns
-    (λ c κs. search needs)
-    (λ c. search needs)
-    (λ c. search needs)
-    loop-again
-    returns-2)
+seek-spec = tie.close (tie.spec Inv-loop μ-loop (λ c. search needs) (λ c κs. search needs) returns turn-requires (λ c. search needs) (λ c. search needs) loop-again returns-2)

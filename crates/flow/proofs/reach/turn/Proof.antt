@@ -1,58 +1,63 @@
--- `turn` meets its contract: each way out is one of `advance`. Assumes nothing.
+-- `reach::turn` meets its contract, by the two tests. Assumes nothing.
+use denote.Ref.{now}
 use native.Mathlib.Omega.{arith}
 use borrow.Author.Needs.{needs}
 use Rattle.words.proofs.Members.{low-place}
-use Rattle.flow.proofs.Steps.{turn-hit, turn-last, turn-on}
+use Rattle.order.specs.Stored.{elements, numberOf}
+use Rattle.order.proofs.Stored.{number-of, number-none, in-bound}
+use Rattle.order.proofs.Listing.{is-none, is-some, some-left, none-left}
+use Rattle.flow.specs.Search.{looked}
+use Rattle.flow.proofs.Steps.{look-hit, look-last, look-on}
 use Rattle.flow.proofs.reach.turn.Statement.{statement}
 use Rattle.flow.proofs.reach.turn.Tie as tie
 
-mul-without : tie.Need-mul-without
-mul-without c =
-    let p = low-place 64 _ (λ z. omega arith) (omega arith) (c .before .lowest .ensures) in
-    omega arith
-
-element-copy-out-without : tie.Need-element-copy-out-without
-element-copy-out-without c = low-place 64 _ (λ z. omega arith) (omega arith) (c .before .lowest .ensures)
+row-requires : tie.Need-row-requires
+row-requires c κs =
+    let start = c .before .before .before .before .before .before in
+    let p = start .pre in
+    low-place elements (numberOf (start .args .s .frontier)) (λ z. omega (arith, p .0)) (in-bound (p .1)) (c .before .lowest .ensures)
 
 returns : tie.Need-returns
 returns c =
-    let mark = c .before .before .before in
+    let test = c .before in
+    let hit = test .before .before in
+    let mark = hit .before .before in
     let new = mark .before .before in
-    turn-hit _ _ _ _ _ _ _ (new .before .before .before .lowest .ensures) _ (new .without .ensures) _ (mark .mark .ensures) (c .before .if1 .taken)
-    (c .lowest2 .ensures)
+    let low = new .before .before .before in
+    let a = low .before .before .before .before .before .args in
+    look-hit (now (a .rows)) (now (a .givers)) (numberOf (a .slack)) (looked (a .s)) (now (a .lefts)) (now (a .rights)) _ (low .lowest .ensures) _ _
+    (number-of _ (new .before .row .ensures)) (number-of _ (new .minus .ensures)) _ (mark .mark .ensures) _ _ (number-of _ (hit .before .union .ensures))
+    (number-of _ (hit .meet .ensures)) number-none (some-left _ _ (test .before .is-empty .ensures) (test .if1 .taken)) (c .lowest2 .ensures)
 
 returns-2 : tie.Need-returns-2
 returns-2 c =
-    let seen = c .before .before .before in
+    let seen = c .before .before .before .before in
     let test = seen .before .before in
-    let mark = test .before .before in
+    let hit = test .before .before in
+    let mark = hit .before .before in
     let new = mark .before .before in
-    let left = new .before .before in
-    turn-last _ _ _ _ _ _ _ (left .before .lowest .ensures) _ (new .without .ensures) _ (mark .mark .ensures) (left .without-lowest .ensures)
-    (seen .spread .ensures) (test .if1 .left) (c .if2 .taken)
+    let low = new .before .before .before in
+    let a = low .before .before .before .before .before .args in
+    look-last (now (a .rows)) (now (a .givers)) (numberOf (a .slack)) (looked (a .s)) (now (a .lefts)) (now (a .rights)) _ (low .lowest .ensures) _ _
+    (number-of _ (new .before .row .ensures)) (number-of _ (new .minus .ensures)) _ (mark .mark .ensures) _ _ (number-of _ (hit .before .union .ensures))
+    (number-of _ (hit .meet .ensures)) (number-of _ (new .before .before .without-lowest .ensures)) (seen .spread .ensures)
+    (none-left _ _ (test .before .is-empty .ensures) (test .if1 .left)) (number-of _ (c .before .before .before .minus2 .ensures)) (number-of _ (c .before .before .union2 .ensures)) number-none
+    (is-none _ _ (c .before .is-empty2 .ensures) (c .if2 .taken))
 
 returns-3 : tie.Need-returns-3
 returns-3 c =
-    let seen = c .before .before .before in
+    let seen = c .before .before .before .before in
     let test = seen .before .before in
-    let mark = test .before .before in
+    let hit = test .before .before in
+    let mark = hit .before .before in
     let new = mark .before .before in
-    let left = new .before .before in
-    turn-on _ _ _ _ _ _ _ (left .before .lowest .ensures) _ (new .without .ensures) _ (mark .mark .ensures) (left .without-lowest .ensures)
-    (seen .spread .ensures) (test .if1 .left) (c .if2 .left)
+    let low = new .before .before .before in
+    let a = low .before .before .before .before .before .args in
+    look-on (now (a .rows)) (now (a .givers)) (numberOf (a .slack)) (looked (a .s)) (now (a .lefts)) (now (a .rights)) _ (low .lowest .ensures) _ _
+    (number-of _ (new .before .row .ensures)) (number-of _ (new .minus .ensures)) _ (mark .mark .ensures) _ _ (number-of _ (hit .before .union .ensures))
+    (number-of _ (hit .meet .ensures)) (number-of _ (new .before .before .without-lowest .ensures)) (seen .spread .ensures)
+    (none-left _ _ (test .before .is-empty .ensures) (test .if1 .left)) (number-of _ (c .before .before .before .minus2 .ensures)) (number-of _ (c .before .before .union2 .ensures))
+    (is-some _ _ (c .before .is-empty2 .ensures) (c .if2 .left))
 
 pub turn-spec : {M : Type 1} → statement M
-turn-spec =
-    tie.close
-    (tie.spec
-    (λ c κs. search needs)
-    (λ c κs. search needs)
-    mul-without
-    element-copy-out-without
-    (λ c κs. search needs)
-    (λ c κs. search needs)
-    (λ c κs. search needs)
-    returns
-    (λ c κs. search needs)
-    returns-2
-    returns-3)
+turn-spec = tie.close (tie.spec (λ c κs. search needs) (λ c κs. search needs) row-requires (λ c κs. search needs) (λ c κs. search needs) (λ c κs. search needs) (λ c κs. search needs) (λ c κs. search needs) (λ c κs. search needs) returns (λ c κs. search needs) (λ c κs. search needs) (λ c κs. search needs) (λ c κs. search needs) returns-2 returns-3)

@@ -1,8 +1,9 @@
 -- `kinds::flows::write_flow` meets its contract: what is written are the units of the kind, as the solver hands over. Assumes nothing.
-use mathlib.Core.Path.{sym, subst, _∙_}
+use mathlib.Core.Path.{refl, sym, subst, _∙_}
 use Prim.Native.Nat.{ℕ, _+_}
 use native.Mathlib.Omega.{arith}
 use borrow.Author.Needs.{needs}
+use Rattle.flow.specs.Quote.{unused}
 use Rattle.kinds.specs.Flows.{markOf, pairsOf}
 use Rattle.kinds.specs.Writing.{Room, lent}
 use Rattle.kinds.proofs.Sending.{solved-need, solved-bounded, solved-units}
@@ -10,13 +11,17 @@ use Rattle.kinds.proofs.Counting.{units-written}
 use Rattle.kinds.proofs.flows.write_flow.Statement.{statement}
 use Rattle.kinds.proofs.flows.write_flow.Tie as tie
 
+quote-requires : tie.Need-quote-requires
+unfolding unused
+quote-requires c κs = (search needs, refl)
+
 sub-spare : tie.Need-sub-spare
 sub-spare c =
     let q = c in
     let own = q .before .before .before in
     let s = own .before .before in
     let a = s .args in
-    let e = solved-need (a .order) (a .demand .now) (a .k) _ _ (q .quote .result) (own .demands-for .ensures) (q .quote .ensures .0) (q .quote .ensures .1) in
+    let e = solved-need (a .m) (a .order) (a .demand .now) (a .k) _ _ (q .quote .result) (own .demands-for .ensures) (q .quote .ensures .0) (q .quote .ensures .1) in
     omega (arith, e, s .pre .3)
 
 put-flow-requires : tie.Need-put-flow-requires
@@ -26,12 +31,12 @@ put-flow-requires c κs =
     let s = own .before .before in
     let a = s .args in (
       s .pre .1,
-      solved-bounded (a .order) (a .demand .now) (a .k) _ _ (q .quote .result) (own .demands-for .ensures) (q .quote .ensures .0) (q .quote .ensures .1)
-          (a .m) (s .pre .2),
+      solved-bounded (a .m) (a .order) (a .demand .now) (a .k) _ _ (q .quote .result) (own .demands-for .ensures) (q .quote .ensures .0) (q .quote .ensures .1)
+          (s .pre .2),
       subst (λ (g : ℕ → ℕ → ℕ). Room (pairsOf g (a .m + 2)) (a .out .now))
           (sym
-          (solved-units (a .order) (a .demand .now) (a .k) _ _ (q .quote .result) (own .demands-for .ensures) (q .quote .ensures .0) (q .quote .ensures .1)
-          (a .m) (a .available)))
+          (solved-units (a .m) (a .order) (a .demand .now) (a .k) _ _ (q .quote .result) (own .demands-for .ensures) (q .quote .ensures .0) (q .quote .ensures .1)
+          (a .available)))
           (s .pre .4),
     )
 
@@ -44,15 +49,15 @@ returns c =
     let a = own .before .before .args in
     w .put-flow .ensures
     ∙ units-written (markOf (a .job .now) (a .m)) (a .m) (lent 0 (a .out .now)) (b .byte .ensures)
-    (solved-units (a .order) (a .demand .now) (a .k) _ _ (q .quote .result) (own .demands-for .ensures) (q .quote .ensures .0) (q .quote .ensures .1)
-    (a .m) (a .available))
+    (solved-units (a .m) (a .order) (a .demand .now) (a .k) _ _ (q .quote .result) (own .demands-for .ensures) (q .quote .ensures .0) (q .quote .ensures .1)
+    (a .available))
 
 pub write-flow-spec : {M : Type 1} → statement M
 write-flow-spec =
     tie.close
     (tie.spec
     (λ c κs. search needs)
-    (λ c κs. search needs)
+    quote-requires
     sub-spare
     (λ c. search needs)
     (λ c κs. search needs)

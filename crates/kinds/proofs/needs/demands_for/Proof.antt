@@ -6,16 +6,17 @@ use lib.ListN.{length, getD, length-set}
 use borrow.Author.Count.{below-none}
 use borrow.Author.Needs.{needs}
 use Rattle.words.proofs.Tables.{stored-next}
+use Rattle.order.specs.Stored.{elements}
 use Rattle.kinds.specs.Needs.{demandAt}
 use Rattle.kinds.proofs.Quoting.{demands-made}
 use Rattle.kinds.proofs.needs.demands_for.Statement.{statement}
 use Rattle.kinds.proofs.needs.demands_for.Tie as tie
 
 abbrev Inv-loop : tie.InvT-loop
-Inv-loop demand k own₀ i₀ own i = (i ≤ 64) × (length own ≡ 64) × ((j : ℕ) → j < i → getD own j 0 ≡ demandAt demand k j)
+Inv-loop demand k own₀ i₀ own i = (i ≤ elements) × (length own ≡ elements) × ((j : ℕ) → j < i → getD own j 0 ≡ demandAt demand k j)
 
 abbrev μ-loop : tie.MeasureT-loop
-μ-loop demand k own₀ i₀ own i = 64 - i
+μ-loop demand k own₀ i₀ own i = elements - i
 
 loop-holds : tie.Need-loop-holds Inv-loop μ-loop
 loop-holds c = (omega arith, search needs, below-none _)

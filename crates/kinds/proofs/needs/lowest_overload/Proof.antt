@@ -1,46 +1,65 @@
--- `kinds::needs::lowest_overload` meets its contract. The invariant: no kind passed needs more than there is. Assumes nothing.
+-- `kinds::needs::lowest_overload` meets its contract. The invariant: no kind passed needs more than there is, and nothing is handed over any more.
+-- (It does not see the order itself: it speaks of every order that has the rows.) Assumes nothing.
+use mathlib.Core.Path.{_≡_, refl}
 use Prim.Native.Nat.{_≤_, _-_}
 use native.Mathlib.Omega.{arith}
 use borrow.Author.Count.{below-none}
 use borrow.Author.Needs.{needs}
+use Rattle.order.specs.Orders.{afterRows}
+use Rattle.order.specs.declared.Order.{Order}
+use Rattle.flow.specs.Quote.{unused}
 use Rattle.kinds.proofs.Quoting.{NoneBelow, quoted-for, lowest-found, lowest-next, lowest-none}
 use Rattle.kinds.proofs.needs.lowest_overload.Statement.{statement}
 use Rattle.kinds.proofs.needs.lowest_overload.Tie as tie
 
 abbrev Inv-loop : tie.InvT-loop
-Inv-loop order demand available n flow₀ k₀ flow k = (k ≤ n) × NoneBelow order demand available n k
+Inv-loop m demand available n rows ranks flow₀ k₀ flow k =
+    (k ≤ n) × ((o : Order) → rows ≡ afterRows o → NoneBelow m o demand available n k) × (flow ≡ unused)
 
 abbrev μ-loop : tie.MeasureT-loop
-μ-loop order demand available n flow₀ k₀ flow k = n - k
+μ-loop m demand available n rows ranks flow₀ k₀ flow k = n - k
 
 loop-holds : tie.Need-loop-holds Inv-loop μ-loop
-loop-holds c = (omega arith, below-none _)
+unfolding unused
+loop-holds c = (omega arith, λ o e. below-none _, refl)
+
+weigh-ranked-requires : tie.Need-weigh-ranked-requires Inv-loop μ-loop
+weigh-ranked-requires c κs =
+    let at = c .before .before .before .before .before .before in
+    let r = at .before in
+    (r .before .before .before .pre .0, r .ranks .ensures, at .loop .inv .2)
 
 returns : tie.Need-returns Inv-loop μ-loop
 returns c =
     let q = c .before .before .before in
-    let own = q .before .before .before in
+    let own = q .before .before .before .before .before in
     let at = own .before .before in
-    let a = at .before .args in
-    lowest-found (a .order) (a .demand .now) (a .available .now) (a .n) (at .loop .k) (q .quote .result) (at .loop .inv .1) (omega arith)
-    (quoted-for (a .order) (a .demand .now) (at .loop .k) _ (q .quote .result) (own .demands-for .ensures) (q .quote .ensures .0)) (omega arith)
+    let rows = at .before .before .before in
+    let a = rows .before .args in
+    lowest-found (a .m) (a .order) (a .demand .now) (a .available .now) (a .n) (at .loop .k) (q .weigh-ranked .result)
+    (at .loop .inv .1 (a .order) (rows .after-rows .ensures)) (omega arith)
+    (quoted-for (a .m) (a .order) (a .demand .now) (at .loop .k) (rows .after-rows .ensures) (own .demands-for .ensures) (q .weigh-ranked .ensures .0))
+    (omega arith)
 
 loop-again : tie.Need-loop-again Inv-loop μ-loop
 loop-again c =
     let q = c .before .before .before in
-    let own = q .before .before .before in
+    let own = q .before .before .before .before .before in
     let at = own .before .before in
-    let a = at .before .args in (
+    let a = at .before .before .before .before .args in (
       omega arith,
-      lowest-next (a .order) (a .demand .now) (a .available .now) (a .n) (at .loop .k) (q .quote .result) (at .loop .inv .1)
-          (quoted-for (a .order) (a .demand .now) (at .loop .k) _ (q .quote .result) (own .demands-for .ensures) (q .quote .ensures .0)) (omega arith),
+      λ o e. lowest-next (a .m) o (a .demand .now) (a .available .now) (a .n) (at .loop .k) (q .weigh-ranked .result) (at .loop .inv .1 o e)
+          (quoted-for (a .m) o (a .demand .now) (at .loop .k) e (own .demands-for .ensures) (q .weigh-ranked .ensures .0)) (omega arith),
+      q .weigh-ranked .ensures .1,
     )
 
 returns-2 : tie.Need-returns-2 Inv-loop μ-loop
 returns-2 c =
     let at = c .before in
-    let a = at .before .args in
-    lowest-none (a .order) (a .demand .now) (a .available .now) (a .n) (at .loop .k) (at .loop .inv .1) (omega arith)
+    let rows = at .before .before .before in
+    let a = rows .before .args in
+    lowest-none (a .m) (a .order) (a .demand .now) (a .available .now) (a .n) (at .loop .k) (at .loop .inv .1 (a .order) (rows .after-rows .ensures))
+    (omega arith)
 
 pub lowest-overload-spec : {M : Type 1} → statement M
 lowest-overload-spec =
@@ -48,9 +67,11 @@ lowest-overload-spec =
     (tie.spec
     Inv-loop
     μ-loop
+    (λ c κs. search needs)
+    (λ c κs. search needs)
     loop-holds
     (λ c κs. search needs)
-    (λ c κs. search needs)
+    weigh-ranked-requires
     (λ c. search needs)
     (λ c. search needs)
     returns

@@ -17,11 +17,13 @@ byte-requires-2 c κs = omega (arith, c .size .ensures, size-le (c .before .befo
 returns-2 : tie.Need-returns-2
 returns-2 c =
     let w = c .before .before in
-    let size = w .before .before in
+    let word = w .before in
+    let bytes = word .before in
+    let size = bytes .before in
     let kind = size .before in
     let a = kind .before .before .before .before .before .args in
-    shown-one (a .over) (a .n) (a .out .now) (kind .byte .result) (w .before .byte2 .result) _ (omega arith) (kind .byte .ensures)
-    (w .before .byte2 .ensures ∙ size .size .ensures) (w .write-overload .ensures)
+    shown-one (a .over) (a .n) (a .out .now) (kind .byte .result) (bytes .byte2 .result) (word .first-word .result) _ (omega arith) (kind .byte .ensures)
+    (bytes .byte2 .ensures ∙ size .size .ensures) (word .first-word .ensures) (w .write-overload .ensures)
 
 pub put-overload-spec : {M : Type 1} → statement M
 put-overload-spec =
@@ -32,6 +34,7 @@ put-overload-spec =
     (λ c κs. search needs)
     (λ c κs. search needs)
     byte-requires-2
+    (λ c κs. search needs)
     (λ c κs. search needs)
     (λ c. search needs)
     returns-2)

@@ -3,18 +3,17 @@ use mathlib.Core.Path.{sym, ap, _∙_}
 use Prim.Native.Nat.{ℕ}
 use borrow.Author.Needs.{needs}
 use Rattle.words.specs.Bits.{rest}
-use Rattle.order.specs.declared.Set.{Set}
+use Rattle.order.specs.Stored.{numberOf, setOf}
 use Rattle.order.proofs.Set.without_lowest.Statement.{statement}
 use Rattle.order.proofs.Set.without_lowest.Tie as tie
 
-abbrev ofWord : ℕ → Set
-ofWord w = record { word = w }
-
 returns : tie.Need-returns
-returns c = ap ofWord (c .if1 .taken) ∙ sym (ap (λ (w : ℕ). ofWord (rest w)) (c .if1 .taken))
+unfolding numberOf setOf
+returns c = ap setOf (c .if1 .taken) ∙ sym (ap (λ (w : ℕ). setOf (rest w)) (c .if1 .taken))
 
 returns-2 : tie.Need-returns-2
-returns-2 c = ap ofWord (c .without-lowest .ensures)
+unfolding numberOf setOf
+returns-2 c = ap setOf (c .without-lowest .ensures)
 
 pub without-lowest-spec : {M : Type 1} → statement M
 without-lowest-spec = tie.close (tie.spec returns (λ c κs. search needs) returns-2)

@@ -2,26 +2,26 @@
 use native.Mathlib.Omega.{arith}
 use borrow.Author.Tests.{lt-ltb, le-ltb, eq-eqb, ne-eqb}
 use borrow.Author.Needs.{needs}
-use Rattle.plan.specs.Records.{activityFields}
+use Rattle.plan.specs.Records.{activityFields, activities}
 use Rattle.plan.proofs.activity.activity_fields.Statement.{statement}
 use Rattle.plan.proofs.activity.activity_fields.Tie as tie
 
 returns : tie.Need-returns
 unfolding activityFields
-returns c = rw (le-ltb (c .before .before .args .place) 64 (omega arith))
+returns c = rw (le-ltb (c .before .before .args .place) activities (omega arith))
 
 cast-number : tie.Need-cast-number
 cast-number c = omega (arith, c .shared-slice-known2 .given 1)
 
 returns-2 : tie.Need-returns-2
 unfolding activityFields
-returns-2 c = rw (lt-ltb (c .before .before .before .before .args .place) 64 (omega arith), ne-eqb _ _ (c .if2 .taken))
+returns-2 c = rw (lt-ltb (c .before .before .before .before .args .place) activities (omega arith), ne-eqb _ _ (c .if2 .taken))
 
 returns-3 : tie.Need-returns-3
 unfolding activityFields
 returns-3 c =
     let place = c .before .before .before .before .before .args .place in
-    rw (lt-ltb place 64 (omega arith), eq-eqb _ _ (c .before .if2 .left), c .half .ensures .0)
+    rw (lt-ltb place activities (omega arith), eq-eqb _ _ (c .before .if2 .left), c .half .ensures .0)
 
 pub activity-fields-spec : {M : Type 1} → statement M
 activity-fields-spec =

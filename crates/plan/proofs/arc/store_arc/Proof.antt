@@ -2,6 +2,8 @@
 use native.Mathlib.Omega.{arith}
 use lib.ListN.{getD}
 use borrow.Author.Needs.{needs}
+use Rattle.order.specs.Stored.{elements}
+use Rattle.order.proofs.Stored.{number-of}
 use Rattle.plan.specs.Plans.{withArc}
 use Rattle.plan.proofs.Facts.{end-low, end-high}
 use Rattle.plan.proofs.Turns.{arc-from, arc-to}
@@ -12,40 +14,45 @@ sub-i : tie.Need-sub-i
 sub-i c =
     let start = c .before .before .before in
     let r = start .args .r .now in
-    let l = end-low 64 (getD r 1 0) (arc-from 64 r (start .pre .1)) in
+    let l = end-low elements (getD r 1 0) (arc-from elements r (start .pre .1)) in
     omega arith
 
 sub-j : tie.Need-sub-j
 sub-j c =
     let start = c .before .before .before .before .before in
     let r = start .args .r .now in
-    let l = end-low 64 (getD r 2 0) (arc-to 64 r (start .pre .1)) in
+    let l = end-low elements (getD r 2 0) (arc-to elements r (start .pre .1)) in
     omega arith
 
-element-copy-out-with-bit : tie.Need-element-copy-out-with-bit
-element-copy-out-with-bit c =
-    let start = c .before .before .before .before .before in
-    let r = start .args .r .now in
-    let l = end-high 64 (getD r 1 0) (arc-from 64 r (start .pre .1)) in
-    omega arith
-
-with-bit-requires : tie.Need-with-bit-requires
-with-bit-requires c κs =
+row-requires : tie.Need-row-requires
+row-requires c κs =
     let start = c .before .before .before .before .before .before in
     let r = start .args .r .now in
-    let l = end-high 64 (getD r 2 0) (arc-to 64 r (start .pre .1)) in
+    let l = end-high elements (getD r 1 0) (arc-from elements r (start .pre .1)) in
     omega arith
 
-element-write-rows : tie.Need-element-write-rows
-element-write-rows c =
+with-requires : tie.Need-with-requires
+with-requires c κs =
     let start = c .before .before .before .before .before .before .before in
     let r = start .args .r .now in
-    let l = end-high 64 (getD r 1 0) (arc-from 64 r (start .pre .1)) in
+    let l = end-high elements (getD r 2 0) (arc-to elements r (start .pre .1)) in
+    omega arith
+
+put-row-requires : tie.Need-put-row-requires
+put-row-requires c κs =
+    let start = c .before .before .before .before .before .before .before .before .before in
+    let r = start .args .r .now in
+    let l = end-high elements (getD r 1 0) (arc-from elements r (start .pre .1)) in
     omega arith
 
 returns : tie.Need-returns
 unfolding withArc
-returns c = simp (c .with-bit .ensures, c .before .before .index2 .ensures .0, c .before .before .before .before .index .ensures .0)
+returns c =
+    let new = c .before .before in
+    let old = new .before in
+    let to = old .before .before in
+    let from = to .before .before in
+    simp (c .put-row .ensures, number-of (new .with .result) (new .with .ensures), number-of (old .row .result) (old .row .ensures), to .index2 .ensures .0, from .index .ensures .0)
 
 pub store-arc-spec : {M : Type 1} → statement M
 store-arc-spec =
@@ -57,9 +64,7 @@ store-arc-spec =
     (λ c. search needs)
     (λ c κs. search needs)
     sub-j
-    (λ c. search needs)
-    element-copy-out-with-bit
-    with-bit-requires
-    (λ c. search needs)
-    element-write-rows
+    row-requires
+    with-requires
+    put-row-requires
     returns)

@@ -1,11 +1,12 @@
 -- `plan::file::empty_plan` meets its contract: the result computes to the definition. Assumes nothing.
 use mathlib.Core.Path.{refl}
+use Rattle.order.specs.Stored.{cells}
 use Rattle.plan.specs.Plans.{emptyPlan}
 use Rattle.plan.proofs.file.empty_plan.Statement.{statement}
 use Rattle.plan.proofs.file.empty_plan.Tie as tie
 
 returns : tie.Need-returns
-unfolding emptyPlan
+unfolding emptyPlan cells
 returns c = refl
 
 pub empty-plan-spec : {M : Type 1} → statement M

@@ -3,6 +3,7 @@ use mathlib.Core.Path.{_≡_}
 use Prim.Native.Nat.{suc, _+_, _-_}
 use native.Mathlib.Omega.{arith}
 use borrow.Author.Needs.{needs}
+use Rattle.order.specs.Stored.{cells}
 use Rattle.plan.specs.Phases.{restOf}
 use Rattle.records.proofs.Steps.{rest-of}
 use Rattle.plan.proofs.Turns.{length-rest, arcs-kept, accepted, then-on, then-refused}
@@ -73,7 +74,7 @@ store-arcs-requires-2 c κs =
     (rw (length-rest, length-rest) (omega arith), omega arith, arcs-kept 4 (a .m + 1 + j) (a .m) (a .n - 1 - j) _ (omega arith) kept)
 
 returns-5 : tie.Need-returns-5
-unfolding restOf
+unfolding restOf cells
 returns-5 c =
     let job = c .before .before .before .before .before .before in
     let extras = job .before .before .before in

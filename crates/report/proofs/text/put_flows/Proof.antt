@@ -5,14 +5,14 @@ use native.Mathlib.Omega.{arith}
 use borrow.Author.Needs.{needs}
 use Rattle.lines.specs.Text.{text, more}
 use Rattle.desk.specs.Open.{planIn}
-use Rattle.report.specs.Report.{kindLines}
+use Rattle.report.specs.Report.{flowRoom, kindLines}
 use Rattle.lines.proofs.Texts.{grown-by}
 use Rattle.lines.proofs.Putting.{Putting, putting-none, putting-length, putting-next, putting-end}
 use Rattle.report.proofs.text.put_flows.Statement.{statement}
 use Rattle.report.proofs.text.put_flows.Tie as tie
 
 abbrev Inv-loop : tie.InvT-loop
-Inv-loop out₀ at s n end₀ k₀ out end k = Putting (kindLines (planIn s)) 68640 n at out₀ k end out
+Inv-loop out₀ at s n end₀ k₀ out end k = Putting (kindLines (planIn s)) flowRoom n at out₀ k end out
 
 abbrev μ-loop : tie.MeasureT-loop
 μ-loop out₀ at s n end₀ k₀ out end k = n - k

@@ -1,57 +1,94 @@
 -- `report_lines::refusal::put_members` meets its contract: each turn writes a member more (`Listed`). Assumes nothing.
 use native.Mathlib.Omega.{arith}
 use borrow.Author.Needs.{needs}
-use Rattle.words.proofs.Members.{low-place, rest-less}
+use Rattle.order.specs.Stored.{numberOf}
+use Rattle.order.proofs.Stored.{number-of}
+use Rattle.order.proofs.Listing.{some-left, none-left, listed-below, listing-less}
 use Rattle.report_lines.proofs.Refusing.{Listed, listed-none, listed-room, listed-next, listed-end}
 use Rattle.report_lines.proofs.refusal.put_members.Statement.{statement}
 use Rattle.report_lines.proofs.refusal.put_members.Tie as tie
 
 abbrev Inv-loop : tie.InvT-loop
-Inv-loop numbers₀ set n₀ left₀ numbers n left = Listed set numbers₀ n left numbers
+Inv-loop numbers₀ n₀ left₀ numbers n left = Listed (numberOf left₀) numbers₀ n (numberOf left) numbers
 
 abbrev μ-loop : tie.MeasureT-loop
-μ-loop numbers₀ set n₀ left₀ numbers n left = left
+μ-loop numbers₀ n₀ left₀ numbers n left = numberOf left
 
 loop-holds : tie.Need-loop-holds Inv-loop μ-loop
-loop-holds c = listed-none (c .before .args .set) (c .before .args .numbers .now) (omega arith)
+loop-holds c = listed-none (numberOf (c .before .args .set)) (c .before .args .numbers .now)
 
 add-numbers : tie.Need-add-numbers Inv-loop μ-loop
 add-numbers c =
-    record { fits = omega (arith, low-place 64 (c .before .before .loop .left) (omega arith) (c .before .before .loop .inv .below) (c .lowest .ensures)) }
+    let e = c .before .before in
+    let t = e .before in
+    record { fits = omega (arith, listed-below (t .loop .left) (e .is-empty .result) (e .is-empty .ensures) (c .before .if1 .taken) (c .lowest .ensures)) }
 
 slice-write-numbers : tie.Need-slice-write-numbers Inv-loop μ-loop
 slice-write-numbers c =
-    let t = c .before .before in
-    let s = t .before .before in
-    let a = s .args in
-    omega (arith, t .loop .inv .long, listed-room (a .set) (a .numbers .now) (t .loop .n) (t .loop .left) (t .loop .numbers) (t .loop .inv) (omega arith))
+    let e = c .before .before in
+    let t = e .before in
+    let a = t .before .before .args in
+    let some = some-left (t .loop .left) (e .is-empty .result) (e .is-empty .ensures) (c .before .if1 .taken) in
+    omega (
+      arith,
+      t .loop .inv .long,
+      listed-room (numberOf (a .set)) (a .numbers .now) (t .loop .n) (numberOf (t .loop .left)) (t .loop .numbers) (t .loop .inv) some (e .is-empty .ensures .1),
+    )
+
+mul-numbers : tie.Need-mul-numbers Inv-loop μ-loop
+mul-numbers c =
+    let e = c .before .before in
+    let t = e .before in
+    let a = t .before .before .args in
+    let some = some-left (t .loop .left) (e .is-empty .result) (e .is-empty .ensures) (c .before .if1 .taken) in
+    record {
+      fits = omega (
+        arith,
+        listed-room (numberOf (a .set)) (a .numbers .now) (t .loop .n) (numberOf (t .loop .left)) (t .loop .numbers) (t .loop .inv) some
+            (e .is-empty .ensures .1),
+      );
+    }
 
 add-n : tie.Need-add-n Inv-loop μ-loop
 add-n c =
-    let t = c .before .before .before in
+    let e = c .before .before .before in
+    let t = e .before in
     let a = t .before .before .args in
-    record { fits = omega (arith, listed-room (a .set) (a .numbers .now) (t .loop .n) (t .loop .left) (t .loop .numbers) (t .loop .inv) (omega arith)) }
+    let some = some-left (t .loop .left) (e .is-empty .result) (e .is-empty .ensures) (c .before .before .if1 .taken) in
+    record {
+      fits = omega (
+        arith,
+        listed-room (numberOf (a .set)) (a .numbers .now) (t .loop .n) (numberOf (t .loop .left)) (t .loop .numbers) (t .loop .inv) some
+            (e .is-empty .ensures .1),
+      );
+    }
 
 loop-less : tie.Need-loop-less Inv-loop μ-loop
 loop-less c =
-    rest-less (c .before .before .before .loop .left) (omega arith) (c .without-lowest .ensures)
+    let e = c .before .before .before in
+    listing-less (e .before .loop .left) (e .is-empty .result) (e .is-empty .ensures) (c .without-lowest .result) (c .before .before .if1 .taken)
+    (c .without-lowest .ensures)
 
 loop-again : tie.Need-loop-again Inv-loop μ-loop
 loop-again c =
-    let t = c .before .before .before in
+    let e = c .before .before .before in
+    let t = e .before in
     let s = t .before .before in
     let a = s .args in
-    listed-next (a .set) (a .numbers .now) (t .loop .n) (t .loop .left) (t .loop .numbers) (t .loop .inv) (omega arith) (s .pre)
-    (c .before .lowest .ensures) (c .without-lowest .ensures)
+    let some = some-left (t .loop .left) (e .is-empty .result) (e .is-empty .ensures) (c .before .before .if1 .taken) in
+    listed-next (numberOf (a .set)) (a .numbers .now) (t .loop .n) (numberOf (t .loop .left)) (t .loop .numbers) (t .loop .inv) some (e .is-empty .ensures .1)
+    (s .pre) (c .before .lowest .ensures) (number-of (c .without-lowest .result) (c .without-lowest .ensures))
 
 same-length : tie.Need-same-length Inv-loop μ-loop
-same-length c = c .before .loop .inv .long
+same-length c = c .before .before .loop .inv .long
 
 returns : tie.Need-returns Inv-loop μ-loop
 returns c =
-    let t = c .before in
+    let e = c .before in
+    let t = e .before in
     let a = t .before .before .args in
-    listed-end (a .set) (a .numbers .now) (t .loop .n) (t .loop .left) (t .loop .numbers) (t .loop .inv) (omega arith)
+    listed-end (numberOf (a .set)) (a .numbers .now) (t .loop .n) (numberOf (t .loop .left)) (t .loop .numbers) (t .loop .inv)
+    (none-left (t .loop .left) (e .is-empty .result) (e .is-empty .ensures) (c .if1 .left))
 
 pub put-members-spec : {M : Type 1} → statement M
 put-members-spec =
@@ -61,8 +98,9 @@ put-members-spec =
     μ-loop
     loop-holds
     (λ c κs. search needs)
+    (λ c κs. search needs)
     add-numbers
-    (λ c. search needs)
+    mul-numbers
     slice-write-numbers
     (λ c κs. search needs)
     add-n

@@ -3,7 +3,7 @@ use mathlib.Core.Path.{_≡_, sym}
 use native.Mathlib.Omega.{arith}
 use lib.ListN.{length}
 use borrow.Author.Needs.{needs}
-use Rattle.report_lines.specs.Lines.{refusedNumbers, refusedLine}
+use Rattle.report_lines.specs.Lines.{refusedNumbers, refusedLine, slots}
 use Rattle.report_lines.proofs.Refusing.{numbers-few, refused-end, refused-within}
 use Rattle.report_lines.proofs.refusal.refused_text.Statement.{statement}
 use Rattle.report_lines.proofs.refusal.refused_text.Tie as tie
@@ -11,7 +11,7 @@ use Rattle.report_lines.proofs.refusal.refused_text.Tie as tie
 slice-aggregate-put-line-2 : tie.Need-slice-aggregate-put-line-2
 slice-aggregate-put-line-2 c =
     let x = c .before .before .before .before .put-cause in
-    let e : length (x .last .0) ≡ 67 = search needs in
+    let e : length (x .last .0) ≡ slots = search needs in
     let s = c .before .before .before .before .before .before .before in
     let a = s .args in
     let few = numbers-few (x .result) (x .last .0) (refusedNumbers (a .c)) (a .out .now) (x .ensures) e (s .pre) in
@@ -20,7 +20,7 @@ slice-aggregate-put-line-2 c =
 put-line-requires : tie.Need-put-line-requires
 put-line-requires c κs =
     let x = c .before .before .before .before .put-cause in
-    let e : length (x .last .0) ≡ 67 = search needs in
+    let e : length (x .last .0) ≡ slots = search needs in
     let s = c .before .before .before .before .before .before .before in
     let a = s .args in
     let few = numbers-few (x .result) (x .last .0) (refusedNumbers (a .c)) (a .out .now) (x .ensures) e (s .pre) in
@@ -29,7 +29,7 @@ put-line-requires c κs =
 same-length : tie.Need-same-length
 same-length c =
     let x = c .before .before .before .before .before .before .before .put-cause in
-    let e : length (x .last .0) ≡ 67 = search needs in
+    let e : length (x .last .0) ≡ slots = search needs in
     let s = c .before .before .before .before .before .before .before .before .before .before in
     let a = s .args in
     let few = numbers-few (x .result) (x .last .0) (refusedNumbers (a .c)) (a .out .now) (x .ensures) e (s .pre) in
@@ -41,7 +41,7 @@ returns : tie.Need-returns
 unfolding refusedLine
 returns c =
     let x = c .before .before .before .before .before .before .before .put-cause in
-    let e : length (x .last .0) ≡ 67 = search needs in
+    let e : length (x .last .0) ≡ slots = search needs in
     let s = c .before .before .before .before .before .before .before .before .before .before in
     let a = s .args in
     let few = numbers-few (x .result) (x .last .0) (refusedNumbers (a .c)) (a .out .now) (x .ensures) e (s .pre) in

@@ -1,11 +1,14 @@
 -- `schedule::broken_to` meets its contract. The invariant: no arc to an element passed is broken. Assumes nothing.
-use mathlib.Core.Bool.{false}
-use mathlib.Core.Path.{_≡_, _∙_}
+use mathlib.Core.Bool.{false, _&&_}
+use mathlib.Core.Path.{_≡_, ap, _∙_}
 use Prim.Native.Nat.{ℕ, _≤_, _<_, _-_, _+_}
 use native.Mathlib.Omega.{arith}
+use lib.Dec.{ltb}
 use lib.ListN.{length}
 use borrow.Author.Count.{below-none, below-more}
 use borrow.Author.Needs.{needs}
+use Rattle.words.specs.Bits.{bit}
+use Rattle.order.proofs.Stored.{number-of}
 use Rattle.words.proofs.Firsts.{first-stop, first-end}
 use Rattle.schedule.specs.Checks.{breaks, brokenTo}
 use Rattle.schedule.specs.Arrays.{at, crewNet}
@@ -31,7 +34,8 @@ returns c =
     let R = s .rows .now in
     let S = s .starts .now in
     let D = s .worked .now in
-    let e = breaks-by R S D (s .i) (a .loop .j) _ (a .loop .inv .1) (c .before .breaks-at .ensures) in
+    let f = c .before .breaks-at .ensures ∙ ap (λ (w : ℕ). bit w (a .loop .j) && ltb (at S (a .loop .j)) (a .before .before .before .wide .result + a .before .wide2 .result)) (number-of _ (a .before .before .before .before .before .row .ensures)) in
+    let e = breaks-by R S D (s .i) (a .loop .j) _ (a .loop .inv .1) f in
     first-stop (length S) (breaks (crewNet R S D) (at S) (s .i)) (a .loop .j) (a .loop .inv .2) (omega arith) (e ∙ c .if1 .taken)
 
 loop-again : tie.Need-loop-again Inv-loop μ-loop
@@ -41,7 +45,8 @@ loop-again c =
     let R = s .rows .now in
     let S = s .starts .now in
     let D = s .worked .now in
-    let e = breaks-by R S D (s .i) (a .loop .j) _ (a .loop .inv .1) (c .before .breaks-at .ensures) in
+    let f = c .before .breaks-at .ensures ∙ ap (λ (w : ℕ). bit w (a .loop .j) && ltb (at S (a .loop .j)) (a .before .before .before .wide .result + a .before .wide2 .result)) (number-of _ (a .before .before .before .before .before .row .ensures)) in
+    let e = breaks-by R S D (s .i) (a .loop .j) _ (a .loop .inv .1) f in
     (omega arith, a .loop .inv .1, below-more (λ k. breaks (crewNet R S D) (at S) (s .i) k ≡ false) (a .loop .j) (a .loop .inv .2) (e ∙ c .if1 .left))
 
 returns-2 : tie.Need-returns-2 Inv-loop μ-loop
@@ -57,8 +62,7 @@ broken-to-spec =
     (tie.spec
     Inv-loop
     μ-loop
-    (λ c. search needs)
-    (λ c. search needs)
+    (λ c κs. search needs)
     (λ c. search needs)
     (λ c. search needs)
     (λ c κs. search needs)

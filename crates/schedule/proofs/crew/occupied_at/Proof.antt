@@ -12,10 +12,11 @@ use Rattle.schedule.specs.Checks.{occupied, atWork}
 use Rattle.schedule.specs.Arrays.{workOf}
 use Rattle.schedule.proofs.crew.occupied_at.Statement.{statement}
 use Rattle.schedule.proofs.crew.occupied_at.Tie as tie
+use Rattle.order.specs.Stored.{elements}
 
 abbrev Inv-loop : tie.InvT-loop
 Inv-loop demands starts worked t k m used₀ i₀ used i =
-    (i ≤ length starts) × (used ≤ i * 4294967296) × (used ≡ sum i (λ x. cond (atWork (workOf demands [] starts worked) t x) (getD demands (64 * k + x) 0) 0))
+    (i ≤ length starts) × (used ≤ i * 4294967296) × (used ≡ sum i (λ x. cond (atWork (workOf demands [] starts worked) t x) (getD demands (elements * k + x) 0) 0))
 
 abbrev μ-loop : tie.MeasureT-loop
 μ-loop demands starts worked t k m used₀ i₀ used i = m - i

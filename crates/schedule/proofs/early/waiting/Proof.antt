@@ -1,15 +1,15 @@
 -- `schedule::waiting` meets its contract. The invariant: going on from here comes to what going on from the start comes to. Assumes nothing.
+use denote.Ref.{now}
 use mathlib.Core.List.{List}
-use mathlib.Core.Path.{_≡_, refl, ap, _∙_}
-use Prim.Native.Nat.{ℕ, _<_, _^_}
-use native.Mathlib.Nat.{pos-of-ne-zero}
-use native.Mathlib.Omega.{arith}
+use mathlib.Core.Path.{_≡_, ap, ap₂, _∙_}
+use Prim.Native.Nat.{ℕ}
 use lib.Bits.{bitOr}
 use borrow.Author.Needs.{needs}
+use Rattle.words.specs.Bits.{minus}
 use Rattle.words.specs.Loops.{each}
-use Rattle.words.proofs.Loops.{each-again, each-end}
-use Rattle.words.proofs.Members.{low-place, rest-less}
-use Rattle.order.specs.Rows.{row}
+use Rattle.order.specs.Stored.{elements, numberOf, row}
+use Rattle.order.proofs.Stored.{number-of, number-none, number-all}
+use Rattle.order.proofs.Listing.{listed-below, listing-less, listing-again, listing-end}
 use Rattle.schedule.proofs.Levels.{waiting-members}
 use Rattle.schedule.proofs.early.waiting.Statement.{statement}
 use Rattle.schedule.proofs.early.waiting.Tie as tie
@@ -18,59 +18,36 @@ abbrev step : List ℕ → ℕ → ℕ → ℕ
 step rows w i = bitOr w (row rows i)
 
 abbrev Inv-loop : tie.InvT-loop
-Inv-loop rows done word₀ left₀ word left = (each 64 (step rows) word left ≡ each 64 (step rows) word₀ left₀) × (left < 2 ^ 64)
+Inv-loop rows held₀ left₀ held left = each elements (step rows) (numberOf held) (numberOf left) ≡ each elements (step rows) (numberOf held₀) (numberOf left₀)
 
 abbrev μ-loop : tie.MeasureT-loop
-μ-loop rows done word₀ left₀ word left = left
+μ-loop rows held₀ left₀ held left = numberOf left
 
-loop-holds : tie.Need-loop-holds Inv-loop μ-loop
-loop-holds c = (refl, search needs)
-
-mul-word : tie.Need-mul-word Inv-loop μ-loop
-mul-word c =
-    let a = c .before .before in
-    let p = low-place 64 (a .loop .left) (c .before .loop-test .taken) (a .loop .inv .1) (c .lowest .ensures) in
-    omega arith
-
-element-copy-out-word : tie.Need-element-copy-out-word Inv-loop μ-loop
-element-copy-out-word c =
-    let a = c .before .before in
-    low-place 64 (a .loop .left) (c .before .loop-test .taken) (a .loop .inv .1) (c .lowest .ensures)
-
-without-lowest-requires : tie.Need-without-lowest-requires Inv-loop μ-loop
-without-lowest-requires c κs = pos-of-ne-zero (c .before .before .loop-test .taken)
+row-requires : tie.Need-row-requires Inv-loop μ-loop
+row-requires c κs = listed-below _ _ (c .before .before .is-empty .ensures) (c .before .if1 .taken) (c .lowest .ensures)
 
 loop-less : tie.Need-loop-less Inv-loop μ-loop
 loop-less c =
-    let a = c .before .before .before .before in
-    rest-less (a .loop .left) (c .before .before .before .loop-test .taken) (c .without-lowest .ensures)
+    let at = c .before .before .before .before in
+    listing-less _ _ (at .before .is-empty .ensures) _ (at .if1 .taken) (c .without-lowest .ensures)
 
 loop-again : tie.Need-loop-again Inv-loop μ-loop
 loop-again c =
-    let a = c .before .before .before .before in
-    each-again 64 (step (a .before .before .args .rows .now)) (a .loop .word) (a .loop .left) (c .before .before .lowest .result)
-    (c .before .before .before .loop-test .taken) (a .loop .inv) (c .before .before .lowest .ensures) refl (c .without-lowest .ensures)
+    let low = c .before .before .before in
+    let at = low .before in
+    let l = at .before .before .loop in
+    listing-again _ _ (at .before .is-empty .ensures) (step (now (at .before .before .before .before .args .rows))) _ (l .inv) _ _ (at .if1 .taken) (low .lowest .ensures)
+    (number-of _ (c .before .union .ensures) ∙ ap (bitOr (numberOf (l .held))) (number-of _ (c .before .before .row .ensures)))
+    (c .without-lowest .ensures)
 
 returns : tie.Need-returns Inv-loop μ-loop
 returns c =
-    let a = c .before in
-    let rows = a .before .before .args .rows .now in
-    each-end 64 (step rows) (a .loop .word) (a .loop .left) (c .loop-test .left) (a .loop .inv)
-    ∙ ap (each 64 (step rows) 0) (a .before .without .ensures)
-    ∙ waiting-members rows (a .before .before .args .done)
+    let at = c .before in
+    let m = at .before .before in
+    let a = m .before .args in
+    listing-end _ _ (at .is-empty .ensures) _ _ (at .before .loop .inv) (c .if1 .left)
+    ∙ ap₂ (each elements (step (now (a .rows)))) number-none (number-of _ (m .minus .ensures) ∙ ap (λ (w : ℕ). minus w (numberOf (a .done))) number-all)
+    ∙ waiting-members (now (a .rows)) (numberOf (a .done))
 
 pub waiting-spec : {M : Type 1} → statement M
-waiting-spec =
-    tie.close
-    (tie.spec
-    Inv-loop
-    μ-loop
-    (λ c κs. search needs)
-    loop-holds
-    (λ c κs. search needs)
-    mul-word
-    element-copy-out-word
-    without-lowest-requires
-    loop-less
-    loop-again
-    returns)
+waiting-spec = tie.close (tie.spec Inv-loop μ-loop (λ c κs. search needs) (λ c. search needs) (λ c κs. search needs) (λ c κs. search needs) row-requires (λ c κs. search needs) (λ c κs. search needs) loop-less loop-again returns)
