@@ -15,8 +15,8 @@ HEAD = re.compile(r"\bfn (\w+)")
 class Replacement:
     """One `old:` and `new:` pair, with the names of its `refuses:` line and the text of its `wrong:` line."""
 
-    def __init__(self, names, wrong, file, old):
-        self.names, self.wrong, self.file, self.old = names, wrong, file, old
+    def __init__(self, names, wrong, file, old, new):
+        self.names, self.wrong, self.file, self.old, self.new = names, wrong, file, old, new
 
 
 def replacements(edit):
@@ -37,20 +37,24 @@ def replacements(edit):
         elif line.startswith("new:"):
             if not names or not wrong:
                 return found, f"the replacement of '{old}' has no 'refuses:' line, or no 'wrong:' line that says what the wrong answer is"
-            found.append(Replacement(names, wrong, file, old))
+            found.append(Replacement(names, wrong, file, old, line.removeprefix("new:").removeprefix(" ")))
             names = wrong = old = None
     return found, None if found else "it has no replacement"
 
 
-def place(crate, replacement):
-    """What is wrong with where a replacement of code stands: it belongs into the function that it names."""
-    if not replacement.file.startswith("src/"):
-        return f"'{replacement.old}' is not code"
-    text = (crate / replacement.file).read_text()
-    heads = HEAD.findall(text[: text.find(replacement.old)])
-    if len(replacement.names) != 1 or not heads or heads[-1] != replacement.names[0].split("::")[-1]:
-        return f"'{replacement.old}' is not in the function {', '.join(replacement.names)}"
-    return None
+def places(crate, found):
+    """What is wrong with where each replacement of code stands, or None: it belongs into the function that it names."""
+    texts = {}
+    for one in found:
+        text = texts.get(one.file) or (crate / one.file).read_text()
+        heads = HEAD.findall(text[: text.find(one.old)])
+        texts[one.file] = text.replace(one.old, one.new, 1)
+        if not one.file.startswith("src/"):
+            yield f"'{one.old}' is not code"
+        elif len(one.names) != 1 or not heads or heads[-1] != one.names[0].split("::")[-1]:
+            yield f"'{one.old}' is not in the function {', '.join(one.names)}"
+        else:
+            yield None
 
 
 def field_at(lines):
@@ -125,9 +129,9 @@ def faults(crate, edit, log_folder):
         return [("the file", "it has no log: was it tried?")]
     log = Log(log_folder)
     checks, named = [], {name for one in found for name in one.names}
-    for one in found:
+    for one, misplaced in zip(found, places(crate, found)):
         for name in one.names:
-            fault = (place(crate, one) or log.function(name)) if log.states else log.law(name)
+            fault = (misplaced or log.function(name)) if log.states else log.law(name)
             checks.append((name, fault))
     for name, said in log.others(named):
         checks.append((name, f"it is not proved, and no line names it: {said}"))
