@@ -62,7 +62,8 @@ uint32_t boost_need(const Plan &plan) {
     using Traits = adjacency_list_traits<vecS, vecS, directedS>;
     using Graph = adjacency_list<vecS, vecS, directedS, no_property,
                                  property<edge_capacity_t, int, property<edge_residual_capacity_t, int, property<edge_reverse_t, Traits::edge_descriptor>>>>;
-    Graph graph(NODES);
+    const int right = right_of(N), sink = sink_of(N);
+    Graph graph(sink + 1);
     const auto capacity = get(edge_capacity, graph);
     const auto reverse = get(edge_reverse, graph);
     const auto arc = [&](int from, int to, uint32_t units) {
@@ -75,10 +76,10 @@ uint32_t boost_need(const Plan &plan) {
     const uint32_t all = sum(plan.demand);
     for (int i = 0; i < N; i++) {
         arc(SOURCE, LEFT + i, plan.demand[i]);
-        for (uint64_t row = plan.rows[i]; row != 0; row &= row - 1) arc(LEFT + i, RIGHT + __builtin_ctzll(row), all);
-        arc(RIGHT + i, SINK, plan.demand[i]);
+        for (uint64_t row = plan.rows[i]; row != 0; row &= row - 1) arc(LEFT + i, right + __builtin_ctzll(row), all);
+        arc(right + i, sink, plan.demand[i]);
     }
-    return all - uint32_t(push_relabel_max_flow(graph, SOURCE, SINK));
+    return all - uint32_t(push_relabel_max_flow(graph, SOURCE, sink));
 }
 
 // ---- The checks ----

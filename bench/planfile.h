@@ -1,4 +1,4 @@
-// Plan files of the families: 64 activities, a crew record with 8 kinds, and the arcs of an order.
+// Plan files of the families: up to 64 activities, a crew record with 8 kinds, and the arcs of an order.
 #ifndef PLANFILE_H
 #define PLANFILE_H
 #include "families.h"
@@ -19,6 +19,7 @@ using Crew = std::array<uint32_t, KINDS>;
 
 struct PlanFile {
     uint64_t seed;
+    int count; // of activities
     Rows rows; // the plan order, closed
     std::array<Demand, KINDS> demand;
     Crew need, available;
@@ -38,8 +39,9 @@ inline std::vector<Arc> pairs_of(const Rows &rows) {
 
 // The arcs that a file states: those that were drawn, and of the pairs that follow from them a share that is drawn for each file, from none to all, as
 // far as there is room. The order is the same whatever the share. Full: then any of them again, up to the 2,048 records of the longest file.
-inline std::vector<Arc> stated_arcs(const Family &family, bool full, Random &random) {
-    const Rows drawn = arcs_of(family, random);
+inline std::vector<Arc> stated_arcs(const Family &family, int count, bool full, Random &random) {
+    Rows drawn = arcs_of(family, random);
+    for (int i = 0; i < N; i++) drawn[i] = i < count ? drawn[i] & ~uint64_t(0) >> (N - count) : 0;
     Rows rest = drawn;
     close_order(rest);
     for (int i = 0; i < N; i++) rest[i] &= ~drawn[i];
@@ -57,13 +59,13 @@ inline void put_half(uint8_t *at, uint32_t value) { at[0] = uint8_t(value), at[1
 
 // The crew record, in its place: once the needs are known, and again where they change.
 inline void put_crew(PlanFile &file) {
-    uint8_t *record = &file.bytes[N * RECORD];
+    uint8_t *record = &file.bytes[file.count * RECORD];
     record[0] = 2, record[1] = KINDS;
     for (int k = 0; k < KINDS; k++) put_half(record + 4 + 2 * k, file.available[k]);
 }
 
 inline void put_activities(PlanFile &file, Random &random) {
-    for (int i = 0; i < N; i++) {
+    for (int i = 0; i < file.count; i++) {
         uint8_t *record = &file.bytes[i * RECORD];
         record[0] = 1, record[1] = uint8_t(i + 1);
         put_half(record + 2, 1 + random.below(65535));
@@ -74,7 +76,7 @@ inline void put_activities(PlanFile &file, Random &random) {
 // About half of the arcs are job arcs, which stand before the extra ones.
 inline void put_arcs(PlanFile &file, std::vector<Arc> arcs, Random &random) {
     const auto extra = std::partition(arcs.begin(), arcs.end(), [&](const Arc &) { return random.below(2) == 0; });
-    uint8_t *record = &file.bytes[(N + 1) * RECORD];
+    uint8_t *record = &file.bytes[(file.count + 1) * RECORD];
     for (auto arc = arcs.begin(); arc != arcs.end(); ++arc, record += RECORD)
         record[0] = arc < extra ? 3 : 4, record[1] = uint8_t(arc->first + 1), record[2] = uint8_t(arc->second + 1);
 }
@@ -88,17 +90,19 @@ inline Crew available_for(const Crew &need, Random &random) {
     return available;
 }
 
-// The order is that of flow.cpp's plan with the same seed. need_of finds the need of a kind: it gets the closed rows and the demands.
-template <class NeedOf> PlanFile file_of(const Family &family, uint64_t seed, bool full, NeedOf need_of) {
+// The order is that of flow.cpp's plan with the same seed, or where there are fewer activities its first ones. need_of finds the need of a kind: it gets the
+// closed rows, the demands and the number of activities.
+template <class NeedOf> PlanFile file_of(const Family &family, uint64_t seed, int count, bool full, NeedOf need_of) {
     Random random{seed};
-    PlanFile file{seed, {}, {}, {}, {}, {}};
-    const std::vector<Arc> arcs = stated_arcs(family, full, random);
+    PlanFile file{seed, count, {}, {}, {}, {}, {}};
+    const std::vector<Arc> arcs = stated_arcs(family, count, full, random);
     for (const Arc &arc : arcs) file.rows[arc.first] |= uint64_t(1) << arc.second;
     close_order(file.rows);
-    file.bytes.resize((N + 1 + arcs.size()) * RECORD);
+    file.bytes.resize((count + 1 + arcs.size()) * RECORD);
     for (int k = 0; k < KINDS; k++) {
         file.demand[k] = demand_of(demands(family), random);
-        file.need[k] = need_of(file.rows.data(), file.demand[k].data());
+        std::fill(file.demand[k].begin() + count, file.demand[k].end(), 0);
+        file.need[k] = need_of(file.rows.data(), file.demand[k].data(), count);
     }
     file.available = available_for(file.need, random);
     put_activities(file, random);
@@ -110,11 +114,11 @@ template <class NeedOf> PlanFile file_of(const Family &family, uint64_t seed, bo
 // A damaged copy: one byte of any value, an arc turned around, or the end cut off.
 inline std::vector<uint8_t> damaged(const PlanFile &file, Random &random) {
     std::vector<uint8_t> bytes = file.bytes;
-    const uint32_t length = uint32_t(bytes.size()), arcs = length / RECORD - N - 1;
+    const uint32_t length = uint32_t(bytes.size()), arcs = length / RECORD - file.count - 1;
     const uint32_t how = random.below(3);
     if (how == 0) bytes[random.below(length)] = uint8_t(random.below(256));
     if (how == 1 && arcs > 0) {
-        uint8_t *record = &bytes[(N + 1 + random.below(arcs)) * RECORD];
+        uint8_t *record = &bytes[(file.count + 1 + random.below(arcs)) * RECORD];
         std::swap(record[1], record[2]);
     }
     if (how == 2) bytes.resize(random.below(2) == 0 ? random.below(length) : random.below(length / RECORD) * RECORD);

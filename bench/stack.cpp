@@ -108,13 +108,13 @@ void run_file(PlanFile &file, uint32_t available) {
     run_all();
 }
 
-uint32_t no_need(const uint64_t *, const uint32_t *) { return 0; }
+uint32_t no_need(const uint64_t *, const uint32_t *, int) { return 0; }
 
 // Each file with all that a crew can be, which is enough for every need, and with nothing, which is not; and a damaged copy. Half are full files.
 void run_family(int family) {
     Random seeds{SEED + uint64_t(family)};
     for (int k = 0; k < FILES; k++) {
-        PlanFile file = file_of(FAMILIES[family], seeds.next(), k % 2 == 0, no_need);
+        PlanFile file = file_of(FAMILIES[family], seeds.next(), N, k % 2 == 0, no_need);
         run_file(file, 65535);
         run_file(file, 0);
         Random random{file.seed};

@@ -1,5 +1,6 @@
 // How fast the proved code decides on a whole plan file, next to a pipeline in C++ with LEMON's maximum flow. README.md says what is measured.
 //   verdict           all families, checked and timed: a table and the verdict; exit status 1 on a mismatch or a ratio that is not reached
+//   verdict --sizes   plans of 8, 16, 32 and 64 activities: our time must fall with their number; exit status 1 where it does not
 //   verdict --full    the same on files that repeat their arcs up to 2,048 records, the most that there is to read; nothing is wanted of these
 //   verdict --ours F K   only the proved function, 1,000 times on each of the first K files of the family F (0 to 13): for perf
 //   verdict --plan F S   only checks the file with the seed S of the family F: for a seed that a mismatch has printed
@@ -17,7 +18,8 @@ extern "C" {
 #include "plain.h"
 }
 
-constexpr double WANTED = 3;
+// At least so many times as fast as LEMON made anew for each kind, and as LEMON kept from kind to kind.
+constexpr double WANTED = 5, WANTED_KEPT = 3.5;
 
 // The file under test, where both contestants read it: by where the bytes happen to lie, a reader takes half as long again (base.c).
 alignas(4096) uint8_t bytes[RECORDS * RECORD];
@@ -28,13 +30,13 @@ void lay_out(const std::vector<uint8_t> &file) {
     std::memcpy(bytes, file.data(), length);
 }
 
-PlanFile file_with(int family, uint64_t seed, bool full) { return file_of(FAMILIES[family], seed, full, lemon_need<false>); }
+PlanFile file_with(int family, uint64_t seed, bool full, int count) { return file_of(FAMILIES[family], seed, count, full, lemon_need<false>); }
 
 // The files of a family have seeds of their own, those of flow.cpp, so that one of them can be made again without the others.
-std::vector<PlanFile> files_of(int family, int count, bool full) {
+std::vector<PlanFile> files_of(int family, int files_wanted, bool full, int count = N) {
     Random seeds{SEED + uint64_t(family)};
     std::vector<PlanFile> files;
-    for (int k = 0; k < count; k++) files.push_back(file_with(family, seeds.next(), full));
+    for (int k = 0; k < files_wanted; k++) files.push_back(file_with(family, seeds.next(), full, count));
     return files;
 }
 
@@ -49,28 +51,29 @@ uint64_t overloaded(int kind, uint32_t need) { return packed(YAFFLEDESK_OVERLOAD
 // LEMON as in flow.cpp: graph, capacities and Preflow are made anew for each kind.
 class Anew {
     const uint64_t *rows;
+    const int n;
 
 public:
-    explicit Anew(const uint64_t *order) : rows(order) {}
-    uint32_t need(const uint32_t *demand) { return lemon_need<false>(rows, demand); }
+    Anew(const uint64_t *order, size_t count) : rows(order), n(int(count)) {}
+    uint32_t need(const uint32_t *demand) { return lemon_need<false>(rows, demand, n); }
 };
 
 // All kinds of a plan have the same order, so that LEMON's graph and memory can be kept from kind to kind. Only the capacities at the source and the
 // sink change; "infinite" is more than any sum of demands.
 class Kept {
     Graph graph;
-    const int size;
+    const int n, size;
     Capacities capacity;
     lemon::Preflow<Graph, Capacities> preflow;
 
 public:
-    explicit Kept(const uint64_t *rows)
-        : size(network(rows, graph)), capacity(graph, N * 65535), preflow(graph, capacity, Graph::node(SOURCE), Graph::node(SINK)) {}
+    Kept(const uint64_t *rows, size_t count)
+        : n(int(count)), size(network(rows, graph, n)), capacity(graph, N * 65535), preflow(graph, capacity, Graph::node(SOURCE), Graph::node(sink_of(n))) {}
     uint32_t need(const uint32_t *demand) {
         uint32_t all = 0;
-        for (int i = 0; i < N; i++) {
+        for (int i = 0; i < n; i++) {
             capacity[Graph::arc(i)] = int(demand[i]);
-            capacity[Graph::arc(size - N + i)] = int(demand[i]);
+            capacity[Graph::arc(size - n + i)] = int(demand[i]);
             all += demand[i];
         }
         preflow.runMinCut();
@@ -95,7 +98,7 @@ template <class Lemon> uint64_t theirs() {
     for (int i = 0; i < N; i++) joined[i] = plan.job[i] | plan.extra[i];
     plain_order(joined, order);
     if (const int i = circle(order)) return packed(YAFFLEDESK_PLAN_CIRCLE, i);
-    Lemon lemon(order);
+    Lemon lemon(order, plan.count);
     for (size_t k = 0; k < plan.kinds; k++) {
         const uint32_t need = lemon.need(plan.demand + N * k);
         if (need > plan.available[k]) return overloaded(int(k), need);
@@ -112,7 +115,7 @@ uint64_t sizeless(uint64_t answer) { return YAFFLEDESK_NUMBER(answer) == YAFFLED
 uint64_t expected(const PlanFile &file) {
     for (int k = 0; k < KINDS; k++)
         if (file.need[k] > file.available[k]) return overloaded(k, file.need[k]);
-    return accepted(N, KINDS);
+    return accepted(file.count, KINDS);
 }
 
 // What is wrong with the set that belongs to an overload, or nothing.
@@ -192,7 +195,7 @@ Measured measure(int family, const std::vector<PlanFile> &files) {
 
 double median_arcs(const std::vector<PlanFile> &files) {
     std::vector<double> arcs;
-    for (const PlanFile &file : files) arcs.push_back(double(file.bytes.size() / RECORD - N - 1));
+    for (const PlanFile &file : files) arcs.push_back(double(file.bytes.size() / RECORD - file.count - 1));
     return median(arcs);
 }
 
@@ -232,17 +235,43 @@ int bench(bool full) {
     std::printf("%d files accepted, %d overloaded: the answers of all repetitions, all needs and all sets as they should be\n", given[0], given[7]);
     std::printf("damaged copies, answered alike: %d accepted; refused for causes 1 to 7:", given_damaged[0]);
     for (int cause = 1; cause < 8; cause++) std::printf(" %d", given_damaged[cause]);
-    std::printf("\nto LEMON with its graph kept from kind to kind, least ratio %.2f; nothing is wanted of that\n", outcome.least_kept);
-    std::printf("%d families, least ratio %.2f", COUNT, outcome.least);
+    std::printf("\n%d families, least ratio to LEMON made anew %.2f, to LEMON kept %.2f", COUNT, outcome.least, outcome.least_kept);
     if (full) return std::printf("\n"), 0;
-    std::printf(", wanted %g: %s\n", WANTED, outcome.least >= WANTED ? "met" : "not met");
-    return outcome.least >= WANTED ? 0 : 1;
+    const bool met = outcome.least >= WANTED && outcome.least_kept >= WANTED_KEPT;
+    std::printf(", wanted %g and %g: %s\n", WANTED, WANTED_KEPT, met ? "met" : "not met");
+    return met ? 0 : 1;
+}
+
+// One line for each family: our time for 8, 16, 32 and 64 activities, each with the ratios to LEMON made anew and kept.
+int bench_sizes() {
+    std::printf("seed %llu, %d files to a number of activities; microseconds, and the ratios to LEMON made anew and kept\n\n", (unsigned long long)SEED, PLANS);
+    std::printf("| order            | demands |      8 activities |     16 activities |     32 activities |     64 activities |\n");
+    std::printf("|------------------|---------|------------------:|------------------:|------------------:|------------------:|\n");
+    bool falls = true;
+    for (int f = 0; f < COUNT; f++) {
+        std::printf("| %-16s | 0..%-4u |", FAMILIES[f].name, demands(FAMILIES[f]) - 1);
+        double before = 0;
+        for (int count = 8; count <= N; count *= 2) {
+            int tries;
+            const auto files = files_of(f, PLANS, false, count);
+            const Measured m = calmest([&] { return measure(f, files); }, tries);
+            const double a = median(m.time[OURS]);
+            std::printf(" %5.2f %5.1f %5.1f |", a, median(m.time[ANEW]) / a, median(m.time[KEPT]) / a);
+            std::fflush(stdout);
+            falls = falls && before < a;
+            before = a;
+        }
+        std::printf("\n");
+    }
+    std::printf("\nour time falls with the number of activities in every family: %s\n", falls ? "met" : "not met");
+    return falls ? 0 : 1;
 }
 
 int main(int argc, char **argv) {
     keep_memory();
     const std::string mode = argc > 1 ? argv[1] : "";
     if (argc == 1 || (argc == 2 && mode == "--full")) return bench(argc == 2);
+    if (argc == 2 && mode == "--sizes") return bench_sizes();
     const int family = argc == 4 ? std::atoi(argv[2]) : -1;
     if (family >= 0 && family < COUNT && mode == "--ours") {
         for (const PlanFile &file : files_of(family, std::atoi(argv[3]), false)) {
@@ -252,7 +281,7 @@ int main(int argc, char **argv) {
         return 0;
     }
     if (family >= 0 && family < COUNT && mode == "--plan") {
-        const PlanFile file = file_with(family, std::strtoull(argv[3], nullptr, 10), false);
+        const PlanFile file = file_with(family, std::strtoull(argv[3], nullptr, 10), false, N);
         Tally given{};
         compare_damaged(family, file, given);
         lay_out(file.bytes);
@@ -260,6 +289,6 @@ int main(int argc, char **argv) {
         std::printf("number %d, checked\n", YAFFLEDESK_NUMBER(ours()));
         return 0;
     }
-    std::fprintf(stderr, "usage: verdict [--full | --ours FAMILY FILES | --plan FAMILY SEED]\n");
+    std::fprintf(stderr, "usage: verdict [--sizes | --full | --ours FAMILY FILES | --plan FAMILY SEED]\n");
     return 2;
 }

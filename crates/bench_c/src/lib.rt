@@ -92,16 +92,17 @@ pub extern "C" fn yaffledesk_bench_read(
     q.count
 }
 
-// The job order and the plan order of two tables of arcs.
+// The job order and the plan order of two tables of arcs, as opening a plan finds them.
 #[no_mangle]
 pub extern "C" fn yaffledesk_bench_orders(job: &Rows, extra: &Rows, jobs: &mut Rows, all: &mut Rows)
     ensures { λ _. ⌜ (now (jobs .exit) ≡ afterRows (orderIn (now (job .entry)))) × (now (all .exit) ≡ afterRows (orderIn (joinedRows (now (job .entry)) (now (extra .entry))))) ⌝ }
 {
     let a = *job;
     let b = *extra;
-    let j = Order::of(a).after_rows();
+    let first = Order::of(a);
+    let j = first.after_rows();
     *jobs = j;
-    let p = Order::of(order::joined(a, b)).after_rows();
+    let p = first.with_arcs(b).after_rows();
     *all = p;
 }
 

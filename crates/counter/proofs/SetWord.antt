@@ -10,7 +10,7 @@ use Rattle.records.specs.Bytes.{AreBytes}
 use Rattle.order.specs.Stored.{elements}
 use Rattle.order.specs.Orders.{circleOf}
 use Rattle.order.specs.declared.Order.{Order}
-use Rattle.plan.specs.Reads.{answerOf}
+use Rattle.plan.specs.Causes.{answerOf}
 use Rattle.plan.specs.declared.Answer.{Answer}
 use Rattle.plan.specs.declared.Answer.the-variants as answer
 use Rattle.desk.specs.Open.{planIn, jobOrder, planOrder, isFine, circlesOf, orUnreadable, faultOf, orCause, Opens}

@@ -18,7 +18,7 @@ use Rattle.order.specs.Sets.{member, sizeOf}
 use Rattle.order.specs.Orders.{circleOf}
 use Rattle.order.specs.declared.Order.{Order}
 use Rattle.order.specs.declared.Set.{Set}
-use Rattle.plan.specs.Reads.{isLength, answerOf}
+use Rattle.plan.specs.Causes.{isLength, answerOf}
 use Rattle.plan.specs.Records.{recordCount}
 use Rattle.plan.specs.declared.Answer.{Answer}
 use Rattle.plan.specs.declared.Answer.the-variants as answer
@@ -40,7 +40,8 @@ use Rattle.desk.specs.Need.{overKind, isOverloaded, shownSet, overCause}
 use Rattle.desk.specs.Verdict.{verdictFault, verdictOf, verdictAnswer}
 use Rattle.desk.specs.Needs.{needsFault, needsAnswer}
 use Rattle.desk.specs.Starts.{needed, startsFault, startsAnswer}
-use Rattle.desk.specs.Flow.{isKind, flowLength, flowFault, flowCount, flowAnswer}
+use Rattle.desk.specs.File.{flowLength}
+use Rattle.desk.specs.Flow.{isKind, flowFault, flowCount, flowAnswer}
 use Rattle.desk.specs.Overload.{overloadFault, overCount, overloadAnswer}
 use Rattle.desk.specs.Crew.{badLists, crewFault, crewWork, crewFound, checkedOf, crewAnswer}
 use Rattle.desk.specs.declared.Cause.{Cause}

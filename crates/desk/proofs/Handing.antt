@@ -22,7 +22,8 @@ use Rattle.desk.specs.Open.{planIn, isFine, faultOf, orCause, openedOf, 
 use Rattle.desk.specs.Output.{outputOf}
 use Rattle.desk.specs.Need.{availableFor, needFor, overKind, isOverloaded, overCause}
 use Rattle.desk.specs.Verdict.{orOverload}
-use Rattle.desk.specs.Flow.{isKind, flowLength, flowFault, flowCount, recordBytes, flowCounted, flowAnswer, flowOut}
+use Rattle.desk.specs.Flow.{isKind, flowFault, flowCount, recordBytes, flowCounted, flowAnswer, flowOut}
+use Rattle.desk.specs.File.{flowLength}
 use Rattle.desk.specs.declared.Cause.the-variants.{NoKind, Short}
 use Rattle.desk.specs.declared.Fault.{Fault}
 use Rattle.desk.specs.declared.Fault.the-variants.{Fine}

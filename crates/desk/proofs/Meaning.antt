@@ -7,19 +7,21 @@ use native.Mathlib.Omega.{arith}
 use lib.ListN.{getD}
 use Rattle.words.proofs.Tests.{⊎-iff}
 use Rattle.order.specs.Stored.{elements}
-use Rattle.order.specs.Before.{Before, Acyclic, StrictOrder, Within}
+use Rattle.order.specs.Before.{Before, Acyclic}
+use Rattle.order.specs.Arcs.{StrictOrder, Within}
 use Rattle.order.specs.Orders.{Direct, OrderOf, isBefore}
 use Rattle.order.proofs.Before.{before-same, before-within}
 use Rattle.order.proofs.Represents.{represents-same}
 use Rattle.order.proofs.Orders.{direct-order, direct-joined, order-strict}
 use Rattle.schedule.specs.Network.{Keeps}
-use Rattle.schedule.specs.Starts.{LargestOr0}
-use Rattle.schedule.specs.Arrays.{at, netOf, byDuration}
+use Rattle.schedule.specs.Lists.{LargestOr0, at}
+use Rattle.schedule.specs.Arrays.{netOf, byDuration}
 use Rattle.schedule.proofs.Arrays as arrays
 use Rattle.plan.specs.Meaning.{Readable, Names}
 use Rattle.desk.specs.Open.{planIn, rowsOf, jobOrder, planOrder, Opens}
 use Rattle.desk.specs.Starts.{firstStarts, endStart, startNumbers}
-use Rattle.desk.specs.File.{FileArc, KeepsFile, FinishesBefore, FinishesOf, fileDuration}
+use Rattle.desk.specs.File.{FileArc}
+use Rattle.desk.specs.Times.{KeepsFile, FinishesBefore, FinishesOf, fileDuration}
 use Rattle.desk.proofs.Opening.{said-in, opens-readable, opens-plan}
 use Rattle.desk.proofs.Starting.{before-end, at-end}
 

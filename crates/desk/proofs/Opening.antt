@@ -11,14 +11,15 @@ use Rattle.words.proofs.Tests.{by-test, cond-true, cond-false}
 use Rattle.records.specs.Bytes.{AreBytes}
 use Rattle.order.specs.Stored.{elements}
 use Rattle.order.specs.Before.{Acyclic}
-use Rattle.order.specs.Orders.{Direct, orderIn, joinedRows, circleOf}
+use Rattle.order.specs.Orders.{Direct, orderIn, extendedBy, joinedRows, circleOf}
 use Rattle.order.specs.declared.Order.{Order}
-use Rattle.order.proofs.Orders.{direct-order, circle-none, circle-le}
+use Rattle.order.proofs.Orders.{direct-order, order-begun, circle-none, circle-le}
 use Rattle.plan.specs.Records.{activities}
-use Rattle.plan.specs.Causes.{isReadable}
-use Rattle.plan.specs.Reads.{answerOf, readOf}
+use Rattle.plan.specs.Causes.{isReadable, answerOf}
+use Rattle.plan.specs.Reads.{readOf}
 use Rattle.plan.specs.Plans.{planOf, emptyPlan}
-use Rattle.plan.specs.Meaning.{Readable, Said}
+use Rattle.plan.specs.Meaning.{Readable}
+use Rattle.plan.specs.Said.{Said}
 use Rattle.plan.proofs.Said.{said, durations-small}
 use Rattle.plan.specs.declared.Answer.{Answer}
 use Rattle.plan.specs.declared.Answer.the-variants as answer
@@ -129,10 +130,10 @@ answered s = refl
 
 pub opened-as :
     (s : List ℕ) {r : Reading} {rows : List ℕ} {job whole : Order} {found fault : Fault} → r ≡ readOf s → rows ≡ joinedRows (r .plan .job) (r .plan .extra)
-    → job ≡ orderIn (r .plan .job) → whole ≡ orderIn rows → found ≡ circlesOf job whole → fault ≡ orUnreadable (r .answer) found
+    → job ≡ orderIn (r .plan .job) → whole ≡ extendedBy job (r .plan .extra) → found ≡ circlesOf job whole → fault ≡ orUnreadable (r .answer) found
     → record { plan = r .plan; rows = rows; order = whole; fault = fault } ≡ openedOf s
 unfolding faultOf
-opened-as s read joined j w c f = rw (f, c, w, j, joined, read, answered s)
+opened-as s read joined j w c f = rw (f, c, w, j, joined, read, answered s, order-begun (planIn s .job) (planIn s .extra))
 
 -- the plan that the code holds has no more activities than there are elements
 pub opened-few : (s : List ℕ) {o : Opened} → o ≡ openedOf s → o .plan .count ≤ elements

@@ -11,7 +11,7 @@ use lib.ListN.{length, getD}
 use Rattle.records.specs.Bytes.{AreBytes}
 use Rattle.records.specs.Records.{startingWith}
 use Rattle.order.specs.Stored.{elements}
-use Rattle.order.specs.Before.{StrictOrder}
+use Rattle.order.specs.Arcs.{StrictOrder}
 use Rattle.order.proofs.Before.{strict-first}
 use Rattle.order.specs.Orders.{isBefore}
 use Rattle.plan.specs.Records.{activities}
@@ -32,7 +32,8 @@ use Rattle.kinds.proofs.Written.{length-flow, flow-written, flow-same, pairs-sa
 use Rattle.kinds.proofs.Read.{flow-read, flow-read-none}
 use Rattle.desk.specs.Open.{planIn, planOrder, Opens}
 use Rattle.desk.specs.Need.{demandFor, availableFor, needFor}
-use Rattle.desk.specs.Flow.{flowLength, mostRecords, flowUnits, flowCount, recordBytes}
+use Rattle.desk.specs.Flow.{mostRecords, flowUnits, flowCount, recordBytes}
+use Rattle.desk.specs.File.{flowLength}
 use Rattle.desk.proofs.Opening.{plan-in, opens-readable, count-few, count-within}
 use Rattle.desk.proofs.Meaning.{opens-strict}
 use Rattle.desk.proofs.Weighing.{sound-in, need-quoted, demand-small}

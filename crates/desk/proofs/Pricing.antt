@@ -5,10 +5,10 @@ use mathlib.Core.List.{List}
 use Prim.Native.Nat.{ℕ, _≤_}
 use native.Mathlib.Omega.{arith}
 use lib.Dec.{ltb}
-use lib.ListN.{length}
+use lib.ListN.{length, replicate}
 use borrow.Author.Tests.{ltb-false, not-true, not-false}
 use Rattle.words.specs.Tables.{over}
-use Rattle.words.proofs.Tables.{length-table, is-table}
+use Rattle.words.proofs.Tables.{length-table, is-table, over-again}
 use Rattle.records.specs.Bytes.{AreBytes}
 use Rattle.kinds.specs.Needs.{needsFor}
 use Rattle.kinds.proofs.Quoting.{length-needs, need-at}
@@ -76,10 +76,17 @@ module _ (s out : List ℕ) {o : Opened} {f : Fault} {b : Bool}
     pub room : o .plan .kinds ≤ length out
     room = rw held (goes-on .1)
 
-    pub written : AreBytes s → {out′ : List ℕ} → out′ ≡ over (o .plan .kinds) (needsFor (o .plan .count) (o .order) (o .plan .demand) (o .plan .kinds)) out
+    pub written : AreBytes s → {found out′ : List ℕ}
+        → found ≡ over (o .plan .kinds) (needsFor (o .plan .count) (o .order) (o .plan .demand) (o .plan .kinds)) (replicate 8 0) → out′ ≡ over (o .plan .kinds) found out
         → (record { fault = f; value = o .plan .kinds } ≡ needsCounted s (length out)) × (out′ ≡ needsOut s out)
-    written bytes w = (counted-is, w ∙ numbers ∙ out-written s out (said-is (not-false b h)))
+    written bytes {found} w e = (counted-is, e ∙ once ∙ numbers ∙ out-written s out (said-is (not-false b h)))
       where
+        once : over (o .plan .kinds) found out ≡ over (o .plan .kinds) (needsFor (o .plan .count) (o .order) (o .plan .demand) (o .plan .kinds)) out
+        once =
+            ap (λ (l : List ℕ). over (o .plan .kinds) l out) w
+            ∙ over-again (o .plan .kinds) (needsFor (o .plan .count) (o .order) (o .plan .demand) (o .plan .kinds)) (replicate 8 0) out
+            (omega (arith, length-needs (o .plan .count) (o .order) (o .plan .demand) (o .plan .kinds)))
+
         numbers : over (o .plan .kinds) (needsFor (o .plan .count) (o .order) (o .plan .demand) (o .plan .kinds)) out ≡ over (planIn s .kinds) (needNumbers s) out
         numbers =
             ap (λ (x : Opened). over (x .plan .kinds) (needsFor (x .plan .count) (x .order) (x .plan .demand) (x .plan .kinds)) out) held

@@ -14,7 +14,8 @@ use Rattle.records.specs.Bytes.{AreBytes}
 use Rattle.order.specs.Before.{Acyclic}
 use Rattle.order.specs.Orders.{Direct}
 use Rattle.schedule.specs.Starts.{endOf}
-use Rattle.schedule.specs.Arrays.{at, byDuration, startsOf, AllAtMost, FinishesFit}
+use Rattle.schedule.specs.Arrays.{byDuration, startsOf, AllAtMost, FinishesFit}
+use Rattle.schedule.specs.Lists.{at}
 use Rattle.schedule.proofs.Arrays.{starts-fit}
 use Rattle.desk.specs.Open.{planIn, isFine, faultOf, orCause, openedOf, Opens}
 use Rattle.desk.specs.Starts.{needed, startsFault, startsCounted, withEnd, firstStarts, endStart, startNumbers, startsOut}

@@ -19,10 +19,10 @@ use Rattle.order.specs.Stored.{elements, numberOf}
 use Rattle.order.proofs.Stored.{in-bound}
 use Rattle.order.specs.Orders.{isBefore}
 use Rattle.order.specs.Sets.{member}
-use Rattle.plan.specs.Causes.{isReadable}
-use Rattle.plan.specs.Meaning.{Readable, Said}
+use Rattle.plan.specs.Causes.{isReadable, answerOf}
+use Rattle.plan.specs.Meaning.{Readable}
+use Rattle.plan.specs.Said.{Said}
 use Rattle.plan.specs.Plans.{planOf, emptyPlan}
-use Rattle.plan.specs.Reads.{answerOf}
 use Rattle.plan.specs.Records.{activities, activityCount, recordAt}
 use Rattle.plan.specs.declared.Plan.{Plan}
 use Rattle.plan.proofs.Said.{demands-small}

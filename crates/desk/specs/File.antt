@@ -1,27 +1,20 @@
--- Sets, crews, flows and schedules of a file, in the file's own terms: its arcs are the pairs that its arc records name, and its durations, demands and
--- availabilities are fields of its records. Element i is activity i + 1, at place i; kind k is kind k + 1. Assumes nothing.
+-- Arcs, sets, crews and flows of a file, in the file's own terms: its arcs are the pairs that its arc records name, and its durations, demands and
+-- availabilities are fields of its records. No operation is named here. Element i is activity i + 1, at place i; kind k is kind k + 1. Assumes nothing.
 use mathlib.Core.Path.{_≡_}
-use mathlib.Core.Bool.{Bool, true}
+use mathlib.Core.Bool.{Bool, true, cond}
 use mathlib.Core.List.{List}
 use mathlib.Core.Logic.{_⊎_}
-use Prim.Native.Nat.{ℕ, zero, suc, _+_, _*_, _≤_, _<_}
-use lib.ListN.{getD}
+use Prim.Native.Nat.{ℕ, zero, suc, _+_, _-_, _*_, _/_, _≤_, _<_}
 use Rattle.order.specs.Before.{Before, Joined}
 use Rattle.words.specs.Sums.{sum}
 use Rattle.records.specs.Bytes.{byte, field}
 use Rattle.plan.specs.Records.{recordAt, activityCount}
 use Rattle.plan.specs.Meaning.{Names}
-use Rattle.flow_math.specs.Need.{weight}
 use Rattle.flow_math.specs.Crew.{occupied}
 
 -- a job arc record or an extra arc record names the pair
 abbrev pub FileArc : List ℕ → ℕ → ℕ → Type 0
 FileArc s = Joined (Names s 3) (Names s 4)
-
--- i is before itself, and nothing below i is: "lowest activity before itself"
-pub record Lowest (A : ℕ → ℕ → Type 0) (i : ℕ) : Type 0 where
-  pub round : Before A i i
-  pub none : (x : ℕ) → x < i → Before A x x → ⊥
 
 -- ---- need: "Two activities are ordered when one is before the other in the plan order" (01, Need and overload)
 
@@ -41,7 +34,7 @@ Unrelated s S = (i j : ℕ) → S i ≡ true → S j ≡ true → Before (FileAr
 
 -- the sum of the demands of kind k over a set of activities
 abbrev pub demandSum : List ℕ → ℕ → (ℕ → Bool) → ℕ
-demandSum s k S = weight (activityCount s) (fileDemand s k) S
+demandSum s k S = sum (activityCount s) (λ i. cond (S i) (fileDemand s k i) 0)
 
 -- ---- "A crew in demand 3 is one start and one duration of 1 or more for each activity, in any whole numbers" (01, Crew check)
 
@@ -50,7 +43,8 @@ pub record FileCrew (s : List ℕ) (starts worked : ℕ → ℕ) : Type 0 where
   -- "It keeps every arc: for each arc i to j, job or extra, the start of i plus its duration is at most the start of j."
   pub keeps : (i j : ℕ) → FileArc s i j → starts i + worked i ≤ starts j
 
--- "What is occupied of a kind in a period .. is the sum of that kind's demands over the activities at work."
+-- "What is occupied of a kind in a period, here and in demand 3, is the sum of that kind's demands over the activities at work.": who is at work in a period, and the
+-- sum, are flow_math's Crew
 abbrev pub crewOccupies : List ℕ → ℕ → (ℕ → ℕ) → (ℕ → ℕ) → ℕ → ℕ
 crewOccupies s k starts worked t = occupied (activityCount s) (fileDemand s k) starts worked t
 
@@ -73,33 +67,6 @@ pub record FileFlow (s : List ℕ) (k : ℕ) (g : ℕ → ℕ → ℕ) : Type 0 
   -- "Positive units pass only where i is before j in the plan order, so none into 0, none out of m+1 and none from a node to itself."
   pub along : (u v : ℕ) → 0 < g u v → NodeBefore s u v
 
--- ---- starts
-
--- the duration that the file gives element i
-abbrev pub fileDuration : List ℕ → ℕ → ℕ
-fileDuration s i = field (recordAt s i) 2 2
-
--- "Every schedule that keeps the arcs with the file's durations" (01, Earliest starts): x is one
-abbrev pub KeepsFile : List ℕ → (ℕ → ℕ) → Type 0
-KeepsFile s x = (i j : ℕ) → FileArc s i j → x i + fileDuration s i ≤ x j
-
--- y is the finish, by the starts x and the file's durations, of one before j
-abbrev pub FinishesBefore : List ℕ → (ℕ → ℕ) → ℕ → ℕ → Type 0
-FinishesBefore s x j y = (i : ℕ) × Before (FileArc s) i j × (y ≡ x i + fileDuration s i)
-
--- y is the finish of one of m activities
-abbrev pub FinishesOf : List ℕ → ℕ → (ℕ → ℕ) → ℕ → Type 0
-FinishesOf s m x y = (i : ℕ) × (i < m) × (y ≡ x i + fileDuration s i)
-
--- ---- a crew's starts and worked durations
-
--- "It keeps every arc: for each arc i to j, job or extra, the start of i plus its duration is at most the start of j." (01, Crew check)
-abbrev pub KeepsWorked : List ℕ → List ℕ → List ℕ → Type 0
-KeepsWorked s starts worked = (i j : ℕ) → FileArc s i j → getD starts i 0 + getD worked i 0 ≤ getD starts j 0
-
--- "the first arc i to j, by from and then to, with start of i plus its duration greater than the start of j"
-pub record FirstBrokenArc (s starts worked : List ℕ) (i j : ℕ) : Type 0 where
-  pub there : FileArc s i j
-  pub late : getD starts j 0 < getD starts i 0 + getD worked i 0
-  pub kept : (x y : ℕ) → FileArc s x y → x < i → getD starts x 0 + getD worked x 0 ≤ getD starts y 0
-  pub rest : (y : ℕ) → FileArc s i y → y < j → getD starts i 0 + getD worked i 0 ≤ getD starts y 0
+-- "for Flow 24 × (m(m−1)/2 + 2m + 1) bytes" (01, Operations and causes): how much has to be lent for the flow of m activities
+unfoldable pub flowLength : ℕ → ℕ
+flowLength m = 24 * (m * (m - 1) / 2 + 2 * m + 1)

@@ -11,6 +11,7 @@ use Rattle.flow.specs.Network.{handed}
 use Rattle.flow.specs.Quote.{flowOf}
 use Rattle.kinds.specs.Needs.{demandsFor}
 use Rattle.kinds.specs.Flows.{markOf, flowBytes, pairsOf}
+use Rattle.desk.specs.File.{flowLength}
 use Rattle.desk.specs.Open.{planIn, orderFor, isFine, faultOf, orCause}
 use Rattle.desk.specs.Output.{outputOf, lentAfter}
 use Rattle.desk.specs.Need.{demandFor, availableFor, needFor, isOverloaded, overCause}
@@ -22,10 +23,6 @@ use Rattle.desk.specs.declared.answer.Counted.{Counted}
 -- "kind not 1 to K"
 abbrev pub isKind : ℕ → ℕ → Bool
 isKind kind n = ltb 0 kind && leb kind n
-
--- "for Flow 24 × (m(m−1)/2 + 2m + 1) bytes"
-unfoldable pub flowLength : ℕ → ℕ
-flowLength m = 24 * (m * (m - 1) / 2 + 2 * m + 1)
 
 -- no file's flow has more records
 abbrev pub mostRecords : ℕ

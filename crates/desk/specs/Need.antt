@@ -7,7 +7,7 @@ use Rattle.words.specs.Members.{first}
 use Rattle.order.specs.Orders.{isBefore}
 use Rattle.order.specs.declared.Set.{Set}
 use Rattle.plan.specs.declared.Plan.{Plan}
-use Rattle.flow_math.specs.Need.{needOf}
+use Rattle.flow_math.specs.Heaviest.{needOf}
 use Rattle.kinds.specs.Needs.{demandsFor, quoteFor}
 use Rattle.desk.specs.Open.{orderFor}
 use Rattle.desk.specs.declared.Cause.{Cause}

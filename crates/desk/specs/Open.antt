@@ -7,7 +7,8 @@ use lib.Dec.{ltb}
 use Rattle.order.specs.Stored.{elements}
 use Rattle.order.specs.Orders.{orderIn, joinedRows, circleOf}
 use Rattle.order.specs.declared.Order.{Order}
-use Rattle.plan.specs.Reads.{answerOf, readOf}
+use Rattle.plan.specs.Reads.{readOf}
+use Rattle.plan.specs.Causes.{answerOf}
 use Rattle.plan.specs.declared.Plan.{Plan}
 use Rattle.plan.specs.declared.Answer.{Answer}
 use Rattle.plan.specs.declared.Answer.the-variants as answer

@@ -6,7 +6,8 @@ use lib.Dec.{ltb}
 use lib.ListN.{length, getD}
 use Rattle.words.specs.Tables.{table}
 use Rattle.schedule.specs.Starts.{endOf}
-use Rattle.schedule.specs.Arrays.{at, byDuration, startsOf}
+use Rattle.schedule.specs.Arrays.{byDuration, startsOf}
+use Rattle.schedule.specs.Lists.{at}
 use Rattle.desk.specs.Open.{planIn, rowsOf, faultOf, orCause}
 use Rattle.desk.specs.Output.{outputOf, lentAfter}
 use Rattle.desk.specs.declared.Cause.the-variants.{Short}

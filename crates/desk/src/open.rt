@@ -71,7 +71,7 @@ pub fn open_plan(s: &[u8]) -> Opened
     let extra = q.extra;
     let rows = order::joined(arcs, extra);
     let job = order::Order::of(arcs);
-    let whole = order::Order::of(rows);
+    let whole = job.with_arcs(extra);
     let fault = or_unreadable(answer, circles(job, whole));
     Opened {
         plan: q,

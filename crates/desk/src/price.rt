@@ -1,6 +1,10 @@
 // Needs: the need of each kind, which the price list quotes.
 ghost use mathlib.Core.Path.{_≡_};
-ghost use lib.ListN.{length};
+ghost use Prim.Native.Nat.{_≤_};
+ghost use lib.ListN.{length, replicate};
+ghost use Rattle.words.specs.Tables.{over};
+ghost use Rattle.order.specs.Stored.{elements};
+ghost use Rattle.kinds.specs.Needs.{needsFor};
 ghost use Rattle.desk.specs.Needs.{needsCounted, needsAnswer, needsOut};
 use crate::Cause;
 use crate::Output;
@@ -9,6 +13,28 @@ use crate::answer::output_of;
 use crate::open::is_fine;
 use crate::open::open_plan;
 use crate::open::or_cause;
+use order::Order;
+
+// The needs of a plan's kinds, by its order, and zeros behind them.
+fn needs_of(order: Order, q: plan::Plan) -> [u32; 8]
+    requires { ⌜ (q .count ≤ elements) × (q .kinds ≤ 8) ⌝ }
+    ensures { λ r. ⌜ r ≡ over (q .kinds) (needsFor (q .count) order (q .demand) (q .kinds)) (replicate 8 0) ⌝ }
+{
+    let demand = q.demand;
+    let mut numbers = [0u32; 8];
+    kinds::put_needs(&mut numbers, order, q.count, &demand, q.kinds);
+    numbers
+}
+
+// Writes the first n of eight numbers to the front of the lent numbers.
+fn put_numbers(out: &mut [u32], numbers: [u32; 8], n: usize)
+    requires { ⌜ (n ≤ 8) × (n ≤ length (now out)) ⌝ }
+    ensures { λ _. ⌜ now (out .exit) ≡ over n numbers (now (out .entry)) ⌝ }
+{
+    for k in 0..n {
+        out[k] = numbers[k];
+    }
+}
 
 fn write_needs(s: &[u8], out: &mut [u32]) -> Counted
     ensures { λ r. ⌜ r ≡ needsCounted (now (s .entry)) (length (now (out .entry))) ⌝ }
@@ -23,8 +49,8 @@ fn write_needs(s: &[u8], out: &mut [u32]) -> Counted
         return Counted { fault, value: n };
     }
     let order = opened.order;
-    let demand = q.demand;
-    kinds::put_needs(out, order, q.count, &demand, n);
+    let numbers = needs_of(order, q);
+    put_numbers(out, numbers, n);
     Counted { fault, value: n }
 }
 

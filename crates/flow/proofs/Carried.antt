@@ -5,11 +5,12 @@ use Prim.Native.Nat.{ℕ, zero, suc, _<_}
 use lib.Dec.{eqb, ltb}
 use borrow.Author.Tests.{ltb-true}
 use Rattle.words.proofs.Tests.{by-test}
-use Rattle.order.specs.Before.{StrictOrder}
+use Rattle.order.specs.Arcs.{StrictOrder}
 use Rattle.order.specs.Nodes.{nodeBefore}
 use Rattle.flow_math.specs.Flow.{ResourceFlow}
 use Rattle.flow_math.specs.Handover.{Handover}
-use Rattle.flow_math.specs.Need.{Antichain, Need, needOf}
+use Rattle.flow_math.specs.Need.{Antichain, Need}
+use Rattle.flow_math.specs.Heaviest.{needOf}
 use Rattle.flow_math.proofs.Theorems.{need-only, needOf-need}
 use Rattle.flow.specs.Sound.{Sound}
 

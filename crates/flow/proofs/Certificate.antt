@@ -13,7 +13,7 @@ use borrow.Author.Tests.{eq-eqb, eqb-false, eqb-true}
 use Rattle.words.specs.Bits.{digit, minus, rest}
 use Rattle.words.specs.Loops.{each, fold}
 use Rattle.words.specs.Members.{members}
-use Rattle.words.proofs.Bits.{digit-and, digit-none, digit-minus, digit-or, zero-or-one}
+use Rattle.words.proofs.Bits.{digit-and, digit-lt, digit-none, digit-minus, digit-or, zero-or-one}
 use Rattle.words.proofs.Kept.{run-ends}
 use Rattle.words.proofs.Members.{Has, digit-rest, low-lt, member-has}
 use Rattle.words.proofs.Sizes.{ones-none, ones-or, ones-zero, ones-rest}
@@ -191,6 +191,21 @@ module _ (rows givers : List ℕ) (roots slack : ℕ) (s : Look) (c : Closing ro
 abbrev pub Going : List ℕ → List ℕ → ℕ → ℕ → Reached → Type 0
 Going rows givers roots slack q = ((q .search .frontier ≡ 0) × (q .search .at < elements)) ⊎ Closing rows givers roots slack (q .search)
 
+-- the roots that are not in `able` have none after them
+abbrev pub Leads : List ℕ → ℕ → ℕ → Type 0
+Leads rows able roots = (i : ℕ) → i < elements → digit roots i ≡ 1 → digit able i ≡ 0 → setAt rows i ≡ 0
+
+-- it begins with no more turns than elements
+pub begun-spare : (able roots : ℕ) → roots < bound → spare (begun able roots) ≤ elements
+begun-spare able roots l =
+    let k : bitAnd roots able < bound = omega (arith, and-le-l roots able) in
+    omega (
+      arith,
+      ones-zero,
+      ones-le elements roots (in-bound l),
+      ones-added roots (bitAnd roots able) l k (λ i h e. omega (arith, digit-and roots able i, digit-lt roots i)),
+    )
+
 module _ (rows givers : List ℕ) (roots slack : ℕ) (fit : Fit givers) (few : slack < bound) where
   -- a turn keeps that, and leaves fewer turns
   abbrev Turned : Reached → Reached → Type 0
@@ -222,25 +237,27 @@ module _ (rows givers : List ℕ) (roots slack : ℕ) (fit : Fit givers) (few : 
   bottom : (q : Reached) → Going rows givers roots slack q → spare (q .search) ≡ 0 → ended q ≡ true
   bottom q g z = ⊎-elim (λ h. eq-eqb (q .search .frontier) 0 (h .0)) (λ c. eq-eqb (q .search .frontier) 0 (ones-none elements (q .search .frontier) (in-bound (c .small-frontier)) (omega arith))) g
 
-  pub begins : roots < bound → Closing rows givers roots slack (begun roots)
-  begins l =
+  pub begins : (able : ℕ) → Leads rows able roots → roots < bound → Closing rows givers roots slack (begun able roots)
+  begins able o l =
       record {
-        small-frontier = l;
+        small-frontier = lt-of-le-of-lt (and-le-l roots able) l;
         small-next = omega arith;
         small-left = l;
         start = λ i h e. e;
-        onto = λ i h e f n. absurd (omega arith);
+        onto = λ i h e f n j k x.
+            absurd (omega (arith, ap (λ (y : ℕ). digit y j) (o i h e (omega (arith, digit-and roots able i))), digit-none j));
         back = λ j h e. absurd (omega (arith, digit-none j));
         tight = λ j h e. absurd (omega (arith, digit-none j));
         level = λ e. refl;
       }
 
   -- elements turns are enough
-  pub reach-ends : (ls rs : List ℕ) → roots < bound
-      → Going rows givers roots slack (reach elements rows givers slack (reached (begun roots) ls rs)) × (ended (reach elements rows givers slack (reached (begun roots) ls rs)) ≡ true)
-  reach-ends ls rs l =
-      run-ends (Going rows givers roots slack) (λ q. spare (q .search)) ended (advance rows givers slack) going-on bottom elements (reached (begun roots) ls rs) (inr (begins l))
-      (omega (arith, ones-zero, ones-le elements roots (in-bound l)))
+  pub reach-ends : (able : ℕ) → Leads rows able roots → (ls rs : List ℕ) → roots < bound
+      → Going rows givers roots slack (reach elements rows givers slack (reached (begun able roots) ls rs))
+      × (ended (reach elements rows givers slack (reached (begun able roots) ls rs)) ≡ true)
+  reach-ends able o ls rs l =
+      run-ends (Going rows givers roots slack) (λ q. spare (q .search)) ended (advance rows givers slack) going-on bottom elements (reached (begun able roots) ls rs)
+      (inr (begins able o l)) (begun-spare able roots l)
 
 -- ---- where it ends
 
@@ -261,8 +278,8 @@ closed z c =
     }
 
 -- a search that found nothing leaves such words
-pub certificate : (rows givers : List ℕ) (roots slack : ℕ) → Fit givers → slack < bound → (ls rs : List ℕ) (q : Reached)
-    → q ≡ reach elements rows givers slack (reached (begun roots) ls rs) → roots < bound → elements ≤ q .search .at → Shut rows givers roots slack (q .search .left) (q .search .right)
-certificate rows givers roots slack fit few ls rs q e l a =
-    let g : Going rows givers roots slack q × (ended q ≡ true) = rw e (reach-ends rows givers roots slack fit few ls rs l) in
+pub certificate : (rows givers : List ℕ) (able roots slack : ℕ) → Leads rows able roots → Fit givers → slack < bound → (ls rs : List ℕ) (q : Reached)
+    → q ≡ reach elements rows givers slack (reached (begun able roots) ls rs) → roots < bound → elements ≤ q .search .at → Shut rows givers roots slack (q .search .left) (q .search .right)
+certificate rows givers able roots slack o fit few ls rs q e l a =
+    let g : Going rows givers roots slack q × (ended q ≡ true) = rw e (reach-ends rows givers roots slack fit few able o ls rs l) in
     ⊎-elim (λ h. absurd (omega arith)) (λ c. closed (eqb-true (q .search .frontier) 0 (g .1)) c) (g .0)

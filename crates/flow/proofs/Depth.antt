@@ -6,7 +6,6 @@ use mathlib.Core.Logic.{_⊎_, inl, inr, ⊎-elim}
 use Prim.Native.Nat.{ℕ, suc, _+_, _≤_, _<_}
 use native.Mathlib.Omega.{arith}
 use lib.Bits.{bitAnd, bitOr}
-use lib.Count.{ones-le}
 use lib.Dec.{eqb}
 use lib.ListN.{getD, length}
 use borrow.Author.Tests.{eqb-false}
@@ -15,16 +14,15 @@ use Rattle.words.specs.Loops.{each}
 use Rattle.words.proofs.Bits.{bit-none, bit-one, digit-and, digit-lt, digit-minus, digit-none, digit-or, zero-or-one}
 use Rattle.words.proofs.Kept.{each-keeps, run-keeps}
 use Rattle.words.proofs.Members.{low-lt}
-use Rattle.words.proofs.Sizes.{ones-zero}
 use Rattle.words.proofs.Tests.{cond-false, cond-true}
 use Rattle.order.proofs.Stored.{in-bound}
 use Rattle.order.specs.Stored.{bound, elements, row as setAt}
 use Rattle.flow.specs.Search.{Reached, Seen, advance, begun, ended, found, fresh, low, marks, onward, reach, reached, seen, visit}
-use Rattle.flow.specs.Network.{Network, positive}
+use Rattle.flow.specs.Network.{Network, leaders, positive}
 use Rattle.flow.specs.Solve.{blanks, sought}
-use Rattle.flow.proofs.Positive.{positive-lt}
+use Rattle.flow.proofs.Positive.{leads, positive-lt}
 use Rattle.flow.proofs.Digits.{low-digit, or-sub}
-use Rattle.flow.proofs.Certificate.{Closing, Fit, Going, advanceBy, begins, going-on, onwardBy, sees, spare}
+use Rattle.flow.proofs.Certificate.{Closing, Fit, Going, Leads, advanceBy, begins, begun-spare, going-on, onwardBy, sees, spare}
 use Rattle.flow.proofs.Tree.{Tree, begun-tree, marks-in, marks-length, marks-out, tree-turn}
 
 -- what a turn does to the parent of the giver i: it keeps it where i was seen, and else it is a taker
@@ -264,12 +262,12 @@ module _ (rows givers : List ℕ) (roots slack : ℕ) (fit : Fit givers) (few : 
         ⊎-elim (λ h. absurd (n (h .0))) (λ c. depth-turn rows givers roots slack fit q c (b .1) (omega arith) (b .2) (g .1)) (b .0),
       )
 
-  begun-depth : roots < bound → Depth roots slack (reached (begun roots) (blanks elements) (blanks 0))
+  begun-depth : (able : ℕ) → roots < bound → Depth roots slack (reached (begun able roots) (blanks elements) (blanks 0))
   unfolding blanks
-  begun-depth l =
+  begun-depth able l =
       record {
         turns = 0;
-        fits = omega (arith, ones-zero, ones-le elements roots (in-bound l));
+        fits = omega (arith, begun-spare able roots l);
         of-left = λ i. 0;
         of-right = λ j. 0;
         left-le = λ i h e. omega arith;
@@ -281,16 +279,16 @@ module _ (rows givers : List ℕ) (roots slack : ℕ) (fit : Fit givers) (few : 
       }
 
   -- the parents that a search leaves, and when it discovered them
-  reach-depth : (n : ℕ) → roots < bound
-      → Tree rows givers (reach n rows givers slack (reached (begun roots) (blanks elements) (blanks 0)))
-      × Depth roots slack (reach n rows givers slack (reached (begun roots) (blanks elements) (blanks 0)))
-  reach-depth n l =
+  reach-depth : (able : ℕ) → Leads rows able roots → (n : ℕ) → roots < bound
+      → Tree rows givers (reach n rows givers slack (reached (begun able roots) (blanks elements) (blanks 0)))
+      × Depth roots slack (reach n rows givers slack (reached (begun able roots) (blanks elements) (blanks 0)))
+  reach-depth able o n l =
       run-keeps All (λ q. Tree rows givers q × Depth roots slack q) ended (λ x. x) (λ x. x) (advance rows givers slack) all-on (λ q e b. (b .1, b .2)) (λ q b. (b .1, b .2)) n
-      (reached (begun roots) (blanks elements) (blanks 0)) (inr (begins rows givers roots slack fit few l), begun-tree rows givers roots, begun-depth l)
+      (reached (begun able roots) (blanks elements) (blanks 0)) (inr (begins rows givers roots slack fit few able o l), begun-tree rows givers able roots, begun-depth able l)
 
 -- so for the search of a round
 pub sought-depth : (m : ℕ) → m ≤ elements → (rows : List ℕ) (s : Network) → Fit (s .givers)
     → Tree rows (s .givers) (sought m rows s) × Depth (positive m (s .left)) (positive m (s .right)) (sought m rows s)
 sought-depth m hm rows s fit =
-    reach-depth rows (s .givers) (positive m (s .left)) (positive m (s .right)) fit (positive-lt m hm (s .right)) elements
+    reach-depth rows (s .givers) (positive m (s .left)) (positive m (s .right)) fit (positive-lt m hm (s .right)) (leaders m rows) (λ i h. leads m rows (s .left) i) elements
     (positive-lt m hm (s .left))

@@ -15,7 +15,7 @@ use Rattle.words.proofs.Sums.{sum-extend}
 use Rattle.words.proofs.Tests.{clash}
 use Rattle.order.specs.Stored.{bound, elements, numberOf}
 use Rattle.order.proofs.Stored.{number-set, in-bound}
-use Rattle.order.specs.Before.{StrictOrder}
+use Rattle.order.specs.Arcs.{StrictOrder}
 use Rattle.order.specs.Orders.{afterRows, isBefore}
 use Rattle.order.specs.Sets.{member}
 use Rattle.order.specs.declared.Order.{Order}

@@ -16,12 +16,13 @@ use Rattle.words.specs.Bits.{bit}
 use Rattle.words.proofs.Sums.{sum-term}
 use Rattle.order.specs.Stored.{elements}
 use Rattle.order.proofs.Stored.{number-set}
-use Rattle.order.specs.Before.{StrictOrder}
+use Rattle.order.specs.Arcs.{StrictOrder}
 use Rattle.order.specs.Orders.{afterRows, isBefore}
 use Rattle.order.specs.Rows.{after}
 use Rattle.order.specs.declared.Order.{Order}
 use Rattle.order.proofs.Orders.{after-member, after-row}
-use Rattle.flow_math.specs.Crew.{Crew, Peak, occupied}
+use Rattle.flow_math.specs.Crew.{Crew, occupied}
+use Rattle.flow_math.specs.Peak.{Peak}
 use Rattle.flow_math.specs.Flow.{ResourceFlow}
 use Rattle.flow_math.specs.Handover.{row}
 use Rattle.flow_math.proofs.Theorems

@@ -13,9 +13,9 @@ use Rattle.words.proofs.Tests.{same-or-not}
 use Rattle.order.specs.Stored.{elements, row as setAt}
 use Rattle.order.specs.Rows.{after}
 use Rattle.flow_math.specs.Handover.{Closed, Handover}
-use Rattle.flow.specs.Network.{Network, handed, positive}
+use Rattle.flow.specs.Network.{Network, handed, leaders, positive}
 use Rattle.flow.specs.Solve.{Round, blanks, next, round, rounded, settled, solved, sought, started}
-use Rattle.flow.proofs.Positive.{positive-bit, positive-lt}
+use Rattle.flow.proofs.Positive.{leads, positive-bit, positive-lt}
 use Rattle.flow.proofs.Certificate.{Fit, Shut, certificate}
 use Rattle.flow.proofs.Consistent.{Consistent, round-consistent, start-consistent}
 use Rattle.flow.proofs.Ends.{round-stays}
@@ -64,7 +64,7 @@ pub record Last (m : ℕ) (d : ℕ → ℕ) (rows : List ℕ) (x : Round) : Type
 
 sought-shut : (m : ℕ) → m ≤ elements → (rows : List ℕ) (s : Network) → Fit (s .givers) → elements ≤ sought m rows s .search .at → ShutRound m rows (round s (sought m rows s .search))
 sought-shut m hm rows s fit h =
-    certificate rows (s .givers) (positive m (s .left)) (positive m (s .right)) fit (positive-lt m hm (s .right)) (blanks elements) (blanks 0)
+    certificate rows (s .givers) (leaders m rows) (positive m (s .left)) (positive m (s .right)) (λ i h. leads m rows (s .left) i) fit (positive-lt m hm (s .right)) (blanks elements) (blanks 0)
     (sought m rows s) refl (positive-lt m hm (s .left)) h
 
 rounded-shut : (m : ℕ) → m ≤ elements → (rows : List ℕ) (s : Network) → Fit (s .givers) → elements ≤ rounded m rows s .search .at → ShutRound m rows (rounded m rows s)

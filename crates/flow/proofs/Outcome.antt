@@ -16,10 +16,11 @@ use Rattle.words.proofs.Bits.{bit-and, bit-minus, bit-none, bit-one}
 use Rattle.words.proofs.Sums.{sum-add, sum-cong, sum-extend}
 use Rattle.words.proofs.Tests.{and-right, same-or-not}
 use Rattle.order.specs.Stored.{elements}
-use Rattle.order.specs.Before.{StrictOrder}
+use Rattle.order.specs.Arcs.{StrictOrder}
 use Rattle.order.specs.Rows.{after}
 use Rattle.flow_math.specs.Handover.{Closed, Handover, cut, row, total}
-use Rattle.flow_math.specs.Need.{needOf, weight}
+use Rattle.flow_math.specs.Need.{weight}
+use Rattle.flow_math.specs.Heaviest.{needOf}
 use Rattle.flow_math.proofs.Flow as Flows
 use Rattle.flow_math.proofs.Need.{weight-cong}
 use Rattle.flow_math.proofs.Strong.{cut-antichain, strong}

@@ -1,8 +1,9 @@
--- The word of a list has the members at which the list is not 0, and no others. Assumes nothing.
+-- The word of a list has the members at which the list is not 0, and no others; that of a table has those at which its set is not empty. Assumes nothing.
 use mathlib.Core.Path.{_≡_, sym, ap, _∙_}
 use mathlib.Core.List.{List}
-use mathlib.Core.Logic.{⊎-elim}
+use mathlib.Core.Logic.{⊎-elim, by-cases}
 use Prim.Native.Nat.{ℕ, zero, suc, _≤_, _<_}
+use native.Mathlib.Decide.{decLt}
 use native.Mathlib.Omega.{arith}
 use lib.ListN.{getD}
 use borrow.Author.Tests.{eq-eqb, ne-eqb}
@@ -10,8 +11,8 @@ use Rattle.words.specs.Bits.{digit, withBit}
 use Rattle.words.proofs.Bits.{digit-none, with-lt, with-there, with-other}
 use Rattle.words.proofs.Tests.{cond-false, cond-true, same-or-not}
 use Rattle.order.proofs.Stored.{in-bound, to-bound, bound-pos}
-use Rattle.order.specs.Stored.{bound, elements}
-use Rattle.flow.specs.Network.{noted, positive}
+use Rattle.order.specs.Stored.{bound, elements, row as setAt}
+use Rattle.flow.specs.Network.{leaders, noted, positive}
 
 module _ (w i n : ℕ) where
   pub noted-none : n ≡ 0 → noted w i n ≡ w
@@ -64,3 +65,23 @@ positive-none (suc k) a i z =
 
 pub positive-is : (k : ℕ) (a : List ℕ) (i : ℕ) → digit (positive k a) i ≡ 1 → 0 < getD a i 0
 positive-is k a i e = ⊎-elim (λ z. absurd (omega (arith, positive-none k a i z))) (λ n. omega arith) (same-or-not (getD a i 0) 0)
+
+pub leaders-bit : (k : ℕ) (rows : List ℕ) (i : ℕ) → i < k → (setAt rows i ≡ 0 → ⊥) → digit (leaders k rows) i ≡ 1
+unfolding leaders
+leaders-bit zero rows i l p = absurd (omega arith)
+leaders-bit (suc k) rows i l p =
+    ⊎-elim
+    (λ e. rw e (noted-there (leaders k rows) k (setAt rows k) (λ z. p (ap (setAt rows) e ∙ z))))
+    (λ n. noted-other (leaders k rows) k (setAt rows k) i n ∙ leaders-bit k rows i (omega arith) p)
+    (same-or-not i k)
+
+-- an element with units left leads on, or has none after it
+pub leads : (k : ℕ) (rows a : List ℕ) (i : ℕ) → digit (positive k a) i ≡ 1 → digit (leaders k rows) i ≡ 0 → setAt rows i ≡ 0
+leads k rows a i e z =
+    ⊎-elim
+    (λ n. n)
+    (λ n.
+    by-cases (decLt i k)
+    (λ l. absurd (omega (arith, leaders-bit k rows i l n)))
+    (λ g. absurd (omega (arith, positive-past k a i (omega arith)))))
+    (same-or-not (setAt rows i) 0)

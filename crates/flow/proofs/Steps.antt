@@ -11,12 +11,10 @@ use Rattle.words.specs.Bits.{minus, withBit, rest}
 use Rattle.words.specs.Loops.{each, upto}
 use Rattle.words.proofs.Tests.{cond-true, cond-false}
 use Rattle.order.specs.Stored.{elements, row as setAt, putRow, setOf}
-use Rattle.order.specs.declared.Order.{Order}
-use Rattle.order.specs.Orders.{afterRows}
 use Rattle.flow.specs.Search.{Look}
 use Rattle.flow.specs.declared.Quoted.{Quoted}
 use Rattle.flow.specs.Search.{low, marks, Seen, seen, visit, reached, fresh, found, onward, advance, begun, reach}
-use Rattle.flow.specs.Network.{Network, network, wrap, cell, giver, noted, positive, joined, shifted, walk, handing, augmented}
+use Rattle.flow.specs.Network.{Network, network, wrap, cell, giver, noted, positive, leaders, joined, shifted, walk, handing, augmented}
 use Rattle.flow.specs.Solve.{blanks, blankRows, Round, round, solved, rankOf, rankedAt, ranked, handRank, started, sought, rounded, next, settle}
 use Rattle.flow.specs.Quote.{unused, copied, outcome, amount, told, quoted, quoteIn, flowIn}
 
@@ -30,8 +28,9 @@ visits givers s j f n u m =
     ap₂ seen (u ∙ ap (bitOr (s .word)) e) (m ∙ ap (λ (x : ℕ). marks (s .parents) x j) e)
 
 -- where a search begins
-pub begins : {none : ℕ} (roots : ℕ) → none ≡ 0 → record { frontier = roots; next = none; left = roots; right = none; at = elements } ≡ begun roots
-begins roots z = ap (λ (x : ℕ). record { frontier = roots; next = x; left = roots; right = x; at = elements }) z
+pub begins : {none begin : ℕ} (able roots : ℕ) → none ≡ 0 → begin ≡ bitAnd roots able
+    → record { frontier = begin; next = none; left = roots; right = none; at = elements } ≡ begun able roots
+begins able roots z e = ap₂ (λ (x y : ℕ). record { frontier = y; next = x; left = roots; right = x; at = elements }) z e
 
 -- a turn at the giver i, which reaches the takers `new`
 
@@ -152,6 +151,16 @@ module _ (i : ℕ) (s : Network) where
   pub hands-spent : getD (s .left) i 0 ≡ 0 → (j : ℕ) → handing i s j ≡ s
   hands-spent z j = sym (hands-none j refl (omega arith))
 
+-- ---- the elements that have some after them
+
+pub leaders-none : (rows : List ℕ) → 0 ≡ leaders 0 rows
+unfolding leaders
+leaders-none rows = refl
+
+pub leaders-more : (rows : List ℕ) (i w v : ℕ) → w ≡ leaders i rows → v ≡ noted w i (setAt rows i) → v ≡ leaders (i + 1) rows
+unfolding leaders
+leaders-more rows i w v e q = q ∙ ap (λ (x : ℕ). noted x i (setAt rows i)) e ∙ ap (λ (x : ℕ). leaders x rows) (sym (add-one i))
+
 -- ---- the start
 
 pub rank-none : (row i : ℕ) (b : List ℕ) → row ≡ 0 → b ≡ rankedAt row i b
@@ -166,9 +175,9 @@ starts m rows b s e = e
 
 -- ---- rounds
 
-module _ (m : ℕ) (rows : List ℕ) (s : Network) (roots slack : ℕ) (lefts₀ rights₀ lefts rights : List ℕ) (q : Look)
-    (a : roots ≡ positive m (s .left)) (b : slack ≡ positive m (s .right)) (el : lefts₀ ≡ blanks elements) (er : rights₀ ≡ blanks 0)
-    (e : reached q lefts rights ≡ reach elements rows (s .givers) slack (reached (begun roots) lefts₀ rights₀)) where
+module _ (m : ℕ) (rows : List ℕ) (s : Network) (able roots slack : ℕ) (lefts₀ rights₀ lefts rights : List ℕ) (q : Look)
+    (o : able ≡ leaders m rows) (a : roots ≡ positive m (s .left)) (b : slack ≡ positive m (s .right)) (el : lefts₀ ≡ blanks elements) (er : rights₀ ≡ blanks 0)
+    (e : reached q lefts rights ≡ reach elements rows (s .givers) slack (reached (begun able roots) lefts₀ rights₀)) where
   seen-as : reached q lefts rights ≡ sought m rows s
   seen-as = cc
 

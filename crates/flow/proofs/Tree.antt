@@ -205,13 +205,13 @@ module _ (rows givers : List ℕ) (roots slack : ℕ) (fit : Fit givers) (q : Re
   unfolding advance
   tree-turn = tree-either (eqb (bitAnd new slack) 0)
 
-pub begun-tree : (rows givers : List ℕ) (roots : ℕ) → Tree rows givers (reached (begun roots) (blanks elements) (blanks 0))
+pub begun-tree : (rows givers : List ℕ) (able roots : ℕ) → Tree rows givers (reached (begun able roots) (blanks elements) (blanks 0))
 unfolding blanks
-begun-tree rows givers roots =
+begun-tree rows givers able roots =
     record {
       lefts-long = length-replicate {A = ℕ} elements elements;
       rights-long = length-replicate {A = ℕ} elements 0;
-      pending = λ i h e. e;
+      pending = λ i h e. omega (arith, digit-and roots able i, digit-lt roots i);
       waiting = none-sub roots;
       came = λ j h e. absurd (omega (arith, digit-none j));
       led = λ i h e. inl (getD-replicate elements i elements 0 h);

@@ -42,6 +42,11 @@ unfoldable pub positive : ℕ → List ℕ → ℕ
 positive zero a = 0
 positive (suc k) a = noted (positive k a) k (getD a k 0)
 
+-- the word of the places below k at which the table's set is not empty
+unfoldable pub leaders : ℕ → List ℕ → ℕ
+leaders zero rows = 0
+leaders (suc k) rows = noted (leaders k rows) k (setAt rows k)
+
 -- what i hands over to j becomes n
 abbrev pub move : Network → ℕ → ℕ → ℕ → Network
 move s i j n = network (set (s .flow) (cell i j) n) (putRow (s .givers) j (giver (setAt (s .givers) j) i n)) (s .left) (s .right)

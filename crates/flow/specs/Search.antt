@@ -84,9 +84,9 @@ advance rows givers slack q =
 abbrev pub ended : Reached → Bool
 ended q = eqb (q .search .frontier) 0
 
--- it begins with the givers that have units left
-abbrev pub begun : ℕ → Look
-begun roots = record { frontier = roots; next = 0; left = roots; right = 0; at = elements }
+-- it begins with the givers that have units left, and goes on from those of them that lead on
+abbrev pub begun : ℕ → ℕ → Look
+begun able roots = record { frontier = bitAnd roots able; next = 0; left = roots; right = 0; at = elements }
 
 -- at most n turns
 abbrev pub reach : ℕ → List ℕ → List ℕ → ℕ → Reached → Reached

@@ -10,7 +10,7 @@ use Rattle.words.specs.Members.{count}
 use Rattle.words.specs.Loops.{each, upto, run}
 use Rattle.order.specs.Stored.{elements, cells, row as setAt, putRow}
 use Rattle.flow.specs.Search.{Look, Reached, reached, begun, reach}
-use Rattle.flow.specs.Network.{Network, positive, walk, augmented, handing}
+use Rattle.flow.specs.Network.{Network, positive, leaders, walk, augmented, handing}
 
 unfoldable pub blanks : ℕ → List ℕ
 blanks v = replicate elements v
@@ -54,8 +54,9 @@ pub record Round : Type 0 where
 abbrev pub round : Network → Look → Round
 round s q = record { now = s; search = q }
 
+-- a search goes on from the elements with some after them
 abbrev pub sought : ℕ → List ℕ → Network → Reached
-sought m rows s = reach elements rows (s .givers) (positive m (s .right)) (reached (begun (positive m (s .left))) (blanks elements) (blanks 0))
+sought m rows s = reach elements rows (s .givers) (positive m (s .right)) (reached (begun (leaders m rows) (positive m (s .left))) (blanks elements) (blanks 0))
 
 unfoldable pub rounded : ℕ → List ℕ → Network → Round
 rounded m rows s =

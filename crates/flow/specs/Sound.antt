@@ -5,12 +5,13 @@ use mathlib.Core.List.{List}
 use Prim.Native.Nat.{ℕ, suc, _+_, _-_, _≤_, _<_}
 use lib.ListN.{getD}
 use Rattle.words.specs.Sums.{sum}
-use Rattle.order.specs.Before.{StrictOrder}
+use Rattle.order.specs.Arcs.{StrictOrder}
 use Rattle.order.specs.Stored.{elements}
 use Rattle.order.specs.Sets.{member}
 use Rattle.order.specs.Orders.{isBefore}
 use Rattle.order.specs.declared.Order.{Order}
-use Rattle.flow_math.specs.Need.{Antichain, weight, needOf}
+use Rattle.flow_math.specs.Need.{Antichain, weight}
+use Rattle.flow_math.specs.Heaviest.{needOf}
 use Rattle.flow_math.specs.Handover.{total, Handover}
 use Rattle.flow_math.specs.Flow.{nodeFlow, ResourceFlow}
 use Rattle.flow.specs.Network.{handed}

@@ -89,19 +89,21 @@ pub fn turn(
     }
 }
 
-// A search from the roots, level by level: it ends at a right copy with slack, or where nothing new is reached.
+// A search from the roots, of which only those in `able` lead on, level by level: it ends at a right copy with slack, or where nothing new is reached.
 pub fn seek(
     rows: &Rows,
     givers: &Rows,
+    able: Set,
     roots: Set,
     slack: Set,
     lefts: &mut [usize; ELEMENTS],
     rights: &mut [usize; ELEMENTS],
 ) -> Search
-    ensures { λ r. ⌜ reached (looked r) (now (lefts .exit)) (now (rights .exit)) ≡ reach elements (now (rows .entry)) (now (givers .entry)) (numberOf slack) (reached (begun (numberOf roots)) (now (lefts .entry)) (now (rights .entry))) ⌝ }
+    ensures { λ r. ⌜ reached (looked r) (now (lefts .exit)) (now (rights .exit)) ≡ reach elements (now (rows .entry)) (now (givers .entry)) (numberOf slack) (reached (begun (numberOf able) (numberOf roots)) (now (lefts .entry)) (now (rights .entry))) ⌝ }
 {
+    let begin = roots.meet(able);
     let mut s = Search {
-        frontier: roots,
+        frontier: begin,
         next: Set::EMPTY,
         left: roots,
         right: Set::EMPTY,

@@ -1,29 +1,50 @@
 -- No crew ever occupies more than the need, and one crew occupies it. Assumes nothing.
 use mathlib.Core.Path.{_≡_, refl, ap}
 use mathlib.Core.Bool.{Bool, true, false, _&&_, cond}
+use mathlib.Core.Logic.{_↔_}
 use Prim.Native.Nat.{ℕ, suc, _+_, _*_, _-_, _≤_, _<_}
 use native.Mathlib.Nat.{mul-le-mul-left, mul-suc}
 use native.Mathlib.Omega.{arith}
-use lib.Dec.{leb}
-use borrow.Author.Tests.{leb-true, le-leb}
+use lib.Dec.{ltb, leb}
+use borrow.Author.Tests.{ltb-true, leb-true, lt-ltb, le-leb}
 use Rattle.words.specs.Sums.{sum}
 use Rattle.words.proofs.Tests
 use Rattle.words.proofs.Firsts
 use Rattle.words.proofs.Sums
-use Rattle.order.specs.Before.{StrictOrder}
-use Rattle.flow_math.specs.Need.{Antichain, weight, Need, needOf}
-use Rattle.flow_math.specs.Crew.{Crew, active, occupied, rank, early, turn, startsAt, Peak}
+use Rattle.order.specs.Arcs.{StrictOrder}
+use Rattle.flow_math.specs.Need.{Antichain, weight, Need}
+use Rattle.flow_math.specs.Heaviest.{needOf}
+use Rattle.flow_math.specs.Crew.{Crew, active, occupied}
+use Rattle.flow_math.specs.Peak.{rank, early, turn, startsAt, Peak}
 use Rattle.flow_math.proofs.Need as Needs
+
+-- who is at work, as numbers: i has started before the end of the period, and ends no earlier
+pub active-says : (s w : ℕ → ℕ) (t i : ℕ) → (active s w t i ≡ true) ↔ ((s i < t) × (t ≤ s i + w i))
+active-says s w t i = (
+  (λ e.
+      let a = Tests.and-says (ltb (s i) t) (leb t (s i + w i)) .0 e in
+      (ltb-true (s i) t (a .0), leb-true t (s i + w i) (a .1))),
+  (λ a. Tests.and-both (ltb (s i) t) (leb t (s i + w i)) (lt-ltb (s i) t (a .0)) (le-leb t (s i + w i) (a .1))),
+)
+
+-- IN THE DOCUMENT'S WORDS: "its start is at most t−1 and its finish at least t", in every period t = 1, 2, ..
+pub active-reads : (s w : ℕ → ℕ) (t i : ℕ) → 1 ≤ t → active s w t i ≡ (leb (s i) (t - 1) && leb t (s i + w i))
+active-reads s w t i h =
+    ap (λ (b : Bool). b && leb t (s i + w i))
+    (Tests.test-same (ltb (s i) t) (leb (s i) (t - 1))
+    ((λ e. le-leb (s i) (t - 1) (omega (arith, ltb-true (s i) t e))), (λ e. lt-ltb (s i) t (omega (arith, leb-true (s i) (t - 1) e)))))
+
+-- nobody is at work in a period 0, so nothing is occupied in it
+pub none-active : (s w : ℕ → ℕ) (i : ℕ) → active s w 0 i ≡ false
+none-active s w i = Tests.fails (active s w 0 i) (λ e. omega (arith, active-says s w 0 i .0 e .0))
+
+pub none-occupied : (n : ℕ) (d s w : ℕ → ℕ) → occupied n d s w 0 ≡ 0
+unfolding occupied
+none-occupied n d s w = Sums.sum-zero n (λ i. cond (active s w 0 i) (d i) 0) (λ i l. Tests.cond-false (d i) 0 (none-active s w i))
 
 -- two elements that are at work in one period are not ordered
 pub active-antichain : (n : ℕ) (b : ℕ → ℕ → Bool) (s w : ℕ → ℕ) → Crew n b s w → (t : ℕ) → 1 ≤ t → Antichain n b (active s w t)
-active-antichain n b s w c t p i j l m x y h =
-    omega (
-      arith,
-      c .keeps i j l m h,
-      leb-true t (s i + w i) (Tests.and-right (leb (s i) (t - 1)) (leb t (s i + w i)) x),
-      leb-true (s j) (t - 1) (Tests.and-left (leb (s j) (t - 1)) (leb t (s j + w j)) y),
-    )
+active-antichain n b s w c t p i j l m x y h = omega (arith, c .keeps i j l m h, active-says s w t i .0 x .1, active-says s w t j .0 y .0)
 
 -- what is occupied is the weight of those at work
 pub occupied-weight : (n : ℕ) (d s w : ℕ → ℕ) (t : ℕ) → occupied n d s w t ≡ weight n d (active s w t)
@@ -142,9 +163,7 @@ peak n b d x o N gap w h =
       N .most (active s w t) (active-antichain n b s w c t (omega arith)),
       weight-mono n d (N .set) (active s w t)
           (λ i l e. let p = starts-member n b o (N .set) (N .unrelated) gap i l e in
-          Tests.and-both (leb (s i) (t - 1)) (leb t (s i + w i))
-          (le-leb (s i) (t - 1) (omega (arith, p)))
-          (le-leb t (s i + w i) (omega (arith, p, h i l .0)))),
+          active-says s w t i .1 (omega (arith, p), omega (arith, p, h i l .0))),
       N .weighs,
     )
 

@@ -9,10 +9,10 @@ use borrow.Author.Tests.{lt-ltb, le-ltb, eq-eqb}
 use Rattle.words.specs.Sums.{sum}
 use Rattle.words.proofs.Tests
 use Rattle.words.proofs.Sums
-use Rattle.order.specs.Before.{StrictOrder}
+use Rattle.order.specs.Arcs.{StrictOrder}
 use Rattle.order.specs.Nodes.{nodeBefore}
 use Rattle.order.proofs.Nodes
-use Rattle.flow_math.specs.Need.{needOf}
+use Rattle.flow_math.specs.Heaviest.{needOf}
 use Rattle.flow_math.specs.Handover.{row, col, total, Handover}
 use Rattle.flow_math.specs.Flow.{nodeFlow, ResourceFlow}
 use Rattle.flow_math.proofs.Weak

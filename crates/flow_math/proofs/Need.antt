@@ -10,9 +10,10 @@ use borrow.Author.Tests.{eq-eqb, ne-eqb, lt-ltb, ltb-true}
 use Rattle.words.specs.Sums.{sum}
 use Rattle.words.proofs.Tests
 use Rattle.words.proofs.Sums
-use Rattle.order.specs.Before.{StrictOrder}
+use Rattle.order.specs.Arcs.{StrictOrder}
 use Rattle.order.proofs.Before.{strict-first}
-use Rattle.flow_math.specs.Need.{Antichain, weight, Need, besides, heaviest, needOf}
+use Rattle.flow_math.specs.Need.{Antichain, weight, Need}
+use Rattle.flow_math.specs.Heaviest.{besides, heaviest, needOf}
 
 -- each member of S below n is allowed by A
 abbrev Within : ℕ → (ℕ → Bool) → (ℕ → Bool) → Type 0

@@ -8,7 +8,7 @@ use lib.Dec.{eqb, eqb·suc-zero}
 use Rattle.words.specs.Sums.{sum}
 use Rattle.words.proofs.Tests
 use Rattle.words.proofs.Sums
-use Rattle.order.specs.Before.{StrictOrder}
+use Rattle.order.specs.Arcs.{StrictOrder}
 use Rattle.order.specs.Nodes.{nodeBefore}
 use Rattle.order.proofs.Before.{strict-first}
 use Rattle.order.proofs.Nodes

@@ -10,8 +10,9 @@ use borrow.Author.Tests.{ltb-false}
 use Rattle.words.specs.Sums.{sum}
 use Rattle.words.proofs.Tests
 use Rattle.words.proofs.Sums
-use Rattle.order.specs.Before.{StrictOrder}
-use Rattle.flow_math.specs.Need.{Antichain, weight, Need, needOf}
+use Rattle.order.specs.Arcs.{StrictOrder}
+use Rattle.flow_math.specs.Need.{Antichain, weight, Need}
+use Rattle.flow_math.specs.Heaviest.{needOf}
 use Rattle.flow_math.specs.Handover.{row, col, total, Handover, Closed, cut}
 use Rattle.flow_math.proofs.Weak
 use Rattle.flow_math.proofs.Need as Needs

@@ -16,11 +16,13 @@ use mathlib.Core.Bool.{Bool}
 use Prim.Native.Nat.{ℕ, suc, _+_, _-_, _≤_, _<_}
 use native.Mathlib.Omega.{arith}
 use Rattle.words.specs.Sums.{sum}
-use Rattle.order.specs.Before.{StrictOrder}
-use Rattle.flow_math.specs.Need.{Antichain, weight, Need, needOf}
+use Rattle.order.specs.Arcs.{StrictOrder}
+use Rattle.flow_math.specs.Need.{Antichain, weight, Need}
+use Rattle.flow_math.specs.Heaviest.{needOf}
 use Rattle.flow_math.specs.Handover.{total, Handover, Closed}
 use Rattle.flow_math.specs.Flow.{nodeFlow, ResourceFlow}
-use Rattle.flow_math.specs.Crew.{Crew, occupied, Peak}
+use Rattle.flow_math.specs.Crew.{Crew, occupied}
+use Rattle.flow_math.specs.Peak.{Peak}
 use Rattle.flow_math.proofs.Need as Needs
 use Rattle.flow_math.proofs.Weak
 use Rattle.flow_math.proofs.Strong

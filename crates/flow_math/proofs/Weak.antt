@@ -10,7 +10,7 @@ use Rattle.words.specs.Members.{some}
 use Rattle.words.proofs.Tests
 use Rattle.words.proofs.Firsts
 use Rattle.words.proofs.Sums
-use Rattle.order.specs.Before.{StrictOrder}
+use Rattle.order.specs.Arcs.{StrictOrder}
 use Rattle.flow_math.specs.Need.{Antichain, weight}
 use Rattle.flow_math.specs.Handover.{row, col, total, Handover}
 

@@ -8,7 +8,7 @@ use native.Mathlib.Nat.{eq-or-lt-of-le, le-of-suc-le-suc, le-of-eq}
 use native.Mathlib.Omega.{arith}
 use Rattle.words.specs.Bits.{bit}
 use Rattle.words.proofs.Tests.{clash}
-use Rattle.order.specs.Before.{Within, Drawn, Arc, arc, In}
+use Rattle.order.specs.Arcs.{Within, Drawn, Arc, arc, In}
 use Rattle.order.specs.Stored.{row}
 use Rattle.order.specs.Rows.{after, Represents, rowsOf, arcsFrom, arcsIn}
 use Rattle.order.proofs.Before.{before-same, in-none, in-cons}

@@ -5,7 +5,8 @@ use mathlib.Core.List.{List, [], _∷_, List·Memᴰ·head, List·Memᴰ·tail, 
 use mathlib.Core.Logic.{_⊎_, inl, inr, ⊎-elim, _↔_}
 use Prim.Native.Nat.{ℕ, _≤_, _<_}
 use native.Mathlib.Omega.{arith}
-use Rattle.order.specs.Before.{Before, last, more, Joined, Acyclic, With, NoArc, Within, StrictOrder, Drawn, Arc, arc, In}
+use Rattle.order.specs.Before.{Before, last, more, Joined, Acyclic}
+use Rattle.order.specs.Arcs.{With, NoArc, Within, StrictOrder, Drawn, Arc, arc, In}
 
 -- ---- least, transitive, holds the arcs
 

@@ -15,7 +15,8 @@ use Rattle.words.specs.Bits.{bit}
 use Rattle.words.specs.Loops.{upto}
 use Rattle.words.proofs.Tests.{clash, or-says, and-says, or-left, or-right, cond-has, below-suc, same-or-not}
 use Rattle.words.proofs.Bits.{bit-above, bit-or, bit-zero}
-use Rattle.order.specs.Before.{Before, last, Drawn}
+use Rattle.order.specs.Before.{Before, last}
+use Rattle.order.specs.Arcs.{Drawn}
 use Rattle.order.specs.Stored.{cells, row, rowTable, RowsFit}
 use Rattle.order.specs.Rows.{after, Represents, passed, passing, endsIn, passingOver}
 use Rattle.order.proofs.Before.{before-trans, before-least}

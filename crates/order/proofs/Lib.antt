@@ -7,4 +7,5 @@ pub mod Listing
 pub mod Represents
 pub mod Closure
 pub mod Arcs
+pub mod Growing
 pub mod Orders

@@ -6,7 +6,7 @@ use native.Mathlib.Omega.{arith}
 use lib.Dec.{ltb, eqb}
 use borrow.Author.Tests.{lt-ltb, le-ltb, ltb-true, eq-eqb, ne-eqb, eqb-true}
 use Rattle.words.proofs.Tests.{and-left, and-right, and-both, or-left, or-right, or-cases}
-use Rattle.order.specs.Before.{StrictOrder}
+use Rattle.order.specs.Arcs.{StrictOrder}
 use Rattle.order.specs.Nodes.{nodeBefore}
 
 module _ (n : ℕ) (b : ℕ → ℕ → Bool) where

@@ -10,11 +10,12 @@ use Rattle.words.specs.Bits.{bit}
 use Rattle.words.specs.Loops.{upto}
 use Rattle.words.proofs.Bits.{bit-or}
 use Rattle.words.proofs.Tests.{clash, or-says}
-use Rattle.order.specs.Before.{Before, Joined, Acyclic, With, NoArc, StrictOrder, Within, Drawn, Arc, arc, _∈_, In}
+use Rattle.order.specs.Before.{Before, Joined, Acyclic}
+use Rattle.order.specs.Arcs.{With, NoArc, StrictOrder, Within, Drawn, Arc, arc, _∈_, In}
 use Rattle.order.specs.Stored.{elements, bound, numberOf, cells, row, RowsFit}
 use Rattle.order.specs.Rows.{after, Represents, grow, rowsOf, arcsIn, endsIn, passingOver}
 use Rattle.order.specs.Sets.{member}
-use Rattle.order.specs.Orders.{OrderOf, isBefore, afterOf, afterRows, emptyOrder, extended, circleOf, orderOf, Direct, orderIn, joinedRows}
+use Rattle.order.specs.Orders.{OrderOf, isBefore, afterOf, afterRows, emptyOrder, extended, circleOf, orderOf, Direct, orderIn, extendedBy, joinedRows}
 use Rattle.order.specs.declared.Order.{Order}
 use Rattle.order.proofs.Stored.{number-set, to-bound, row-table, row-fit}
 use Rattle.order.proofs.Sets.{member-set}
@@ -22,6 +23,7 @@ use Rattle.order.proofs.Before.{before-same, before-implied, drawn-with
 use Rattle.order.proofs.Represents
 use Rattle.order.proofs.Closure.{closed}
 use Rattle.order.proofs.Arcs.{rows-represent, arcs-drawn}
+use Rattle.order.proofs.Growing.{grown-by}
 
 abbrev ofRows : List ℕ → Order
 ofRows rs = record { rows = rs }
@@ -158,3 +160,12 @@ direct-joined a b i j = (
 -- the plan order: the order of all arcs
 pub joined-order : (a b : List ℕ) → OrderOf (orderIn (joinedRows a b)) (Joined (Direct a) (Direct b))
 joined-order a b = Represents.represents-same (direct-order (joinedRows a b)) (before-same (direct-joined a b))
+
+-- "Adding an arc to an order gives the order so extended": by further arcs it becomes the order of the old arcs and the new ones
+pub extended-by : (o : Order) {A : ℕ → ℕ → Type 0} (arcs : List ℕ) → OrderOf o A → OrderOf (extendedBy o arcs) (Joined A (Direct arcs))
+unfolding extendedBy
+extended-by o arcs r = grown-by elements arcs (o .rows) r
+
+-- so the plan order may begin from the job order
+pub order-begun : (a b : List ℕ) → extendedBy (orderIn a) b ≡ orderIn (joinedRows a b)
+order-begun a b = order-same (extended-by (orderIn a) b (direct-order a)) (joined-order a b) (λ i j. (λ p. p, λ p. p))

@@ -15,7 +15,8 @@ use Rattle.words.specs.Members.{first}
 use Rattle.words.proofs.Tests.{clash, fails, decided, test-same, or-says, and-says, eqb-says, ⊎-iff, cond-has}
 use Rattle.words.proofs.Bits.{bit-zero, bit-ext, bit-or, bit-single}
 use Rattle.words.proofs.Firsts.{first-le, first-none, before-first, at-first}
-use Rattle.order.specs.Before.{Before, Acyclic, With, NoArc}
+use Rattle.order.specs.Before.{Before, Acyclic}
+use Rattle.order.specs.Arcs.{With, NoArc}
 use Rattle.order.specs.Stored.{cells, row, RowsFit}
 use Rattle.order.specs.Rows.{after, Represents, gain, gained, grow, circleIn}
 use Rattle.order.proofs.Stored.{row-past, row-table, length-rows, length-blank, row-blank, row-fit, fit-table, fit-blank, rows-same}
@@ -117,7 +118,7 @@ module _ (n : ℕ) (rows : List ℕ) (x y : ℕ) where
   unfolding grow
   row-grow i h = row-table n (λ i. gained x (gain rows y) i (row rows i)) i h
 
-  after-grow : (i j : ℕ) → i < n → after (grow n rows x y) i j ≡ after rows i j || (starts i && ends j)
+  pub after-grow : (i j : ℕ) → i < n → after (grow n rows x y) i j ≡ after rows i j || (starts i && ends j)
   after-grow i j h =
       ap (λ (w : ℕ). bit w j) (row-grow i h)
       ∙ bit-cond (starts i) (row rows i) (gain rows y) j

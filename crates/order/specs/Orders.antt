@@ -4,9 +4,9 @@ use mathlib.Core.List.{List, [], _∷_}
 use Prim.Native.Nat.{ℕ}
 use lib.Bits.{bitOr}
 use lib.ListN.{replicate}
-use Rattle.order.specs.Before.{Arc, Drawn}
+use Rattle.order.specs.Arcs.{Arc, Drawn}
 use Rattle.order.specs.Stored.{elements, cells, row, rowTable, setOf}
-use Rattle.order.specs.Rows.{after, Represents, grow, arcsIn, circleIn}
+use Rattle.order.specs.Rows.{after, Represents, grow, growBy, arcsIn, circleIn}
 use Rattle.order.specs.declared.Set.{Set}
 use Rattle.order.specs.declared.Order.{Order}
 
@@ -52,6 +52,10 @@ Direct rows = Drawn elements (after rows)
 -- the order of these arcs
 unfoldable pub orderIn : List ℕ → Order
 orderIn rows = orderOf (arcsIn elements rows elements)
+
+-- an order so extended: by each arc that it does not hold yet (`extended-by` of proofs/Orders.antt says what order that is)
+unfoldable pub extendedBy : Order → List ℕ → Order
+extendedBy o arcs = record { rows = growBy elements arcs elements (o .rows) }
 
 -- the arcs of two such tables together
 unfoldable pub joinedRows : List ℕ → List ℕ → List ℕ

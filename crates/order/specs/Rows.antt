@@ -10,8 +10,9 @@ use lib.Dec.{eqb}
 use lib.ListN.{length, replicate}
 use Rattle.words.specs.Bits.{bit, withBit}
 use Rattle.words.specs.Members.{first}
-use Rattle.words.specs.Loops.{upto}
-use Rattle.order.specs.Before.{Before, Arc, arc}
+use Rattle.words.specs.Loops.{each, upto}
+use Rattle.order.specs.Before.{Before}
+use Rattle.order.specs.Arcs.{Arc, arc}
 use Rattle.order.specs.Stored.{cells, row, putRow, rowTable, RowsFit}
 
 -- whether row i has the member j: whether i is before j
@@ -37,6 +38,21 @@ gained x g i w = cond (eqb i x || bit w x) (bitOr w g) w
 -- the rows so extended
 unfoldable pub grow : ℕ → List ℕ → ℕ → ℕ → List ℕ
 grow n rows x y = rowTable n (λ i. gained x (gain rows y) i (row rows i))
+
+-- ---- adding further arcs, each that the rows do not hold yet
+
+-- the arc from x to y
+abbrev pub grown : ℕ → ℕ → List ℕ → ℕ → List ℕ
+grown n x rows y = cond (after rows x y) rows (grow n rows x y)
+
+-- the arcs from x to each member of w, lowest first
+unfoldable pub growFrom : ℕ → List ℕ → ℕ → ℕ → List ℕ
+growFrom n rows x w = each n (grown n x) rows w
+
+-- the arcs that the first k rows of a table draw, from the last of these rows down
+unfoldable pub growBy : ℕ → List ℕ → ℕ → List ℕ → List ℕ
+growBy n arcs zero rows = rows
+growBy n arcs (suc k) rows = growBy n arcs k (growFrom n rows k (row arcs k))
 
 -- ---- the rows of arcs
 

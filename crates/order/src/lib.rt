@@ -2,11 +2,15 @@
 ghost use mathlib.Core.Path.{_≡_};
 ghost use lib.Dec.{eqb};
 ghost use Prim.Native.Nat.{_%_, _^_, _<_};
-ghost use Rattle.words.specs.Loops.{upto};
 ghost use Rattle.order.specs.Stored.{elements, bound, row, putRow, setOf, numberOf};
 ghost use Rattle.order.specs.Sets.{member, emptySet, withElement, withoutElement, unionOf, meetOf, minusOf, sizeOf, lowestOf, withoutLowest};
-ghost use Rattle.order.specs.Rows.{gained, updateRow, passed, passing, endsIn, passingOver};
-ghost use Rattle.order.specs.Orders.{emptyOrder, extended, isBefore, afterOf, afterRows, circleOf, orderIn, joinedRows};
+ghost use Rattle.order.specs.Rows.{grow, growFrom};
+ghost use Rattle.order.specs.Orders.{emptyOrder, extended, extendedBy, isBefore, afterOf, afterRows, circleOf, orderIn, joinedRows};
+use transitive::ends_of;
+use transitive::gain_all;
+use transitive::pass_over;
+
+mod transitive;
 
 // How many elements there are.
 pub const ELEMENTS: usize = 64;
@@ -176,6 +180,20 @@ impl Order {
         Order { rows }
     }
 
+    // The order with further arcs, given as rows: each arc that it does not hold yet is added. (From the last row down: in a plan that is
+    // numbered along its order the row of an arc's end is then complete, and most of the arcs after it are held already.)
+    pub fn with_arcs(self, arcs: Rows) -> Self
+        ensures { λ r. ⌜ r ≡ extendedBy self arcs ⌝ }
+    {
+        let mut rows = self.rows;
+        let mut i = ELEMENTS;
+        while i > 0 {
+            i -= 1;
+            add_row(&mut rows, i, row(&arcs, i));
+        }
+        Order { rows }
+    }
+
     // Whether i is before j.
     pub fn before(self, i: usize, j: usize) -> bool
         requires { ⌜ (i < elements) × (j < elements) ⌝ }
@@ -225,70 +243,28 @@ impl Order {
     }
 }
 
-// A row, where what is before k becomes before all of `gain`.
-fn with_pass(row: Set, k: usize, gain: Set) -> Set
-    requires { ⌜ k < elements ⌝ }
-    ensures { λ r. ⌜ numberOf r ≡ passed k (numberOf gain) (numberOf row) ⌝ }
+// The rows of an order become those of the order with one arc more.
+fn add_arc(rows: &mut Rows, from: usize, to: usize)
+    requires { ⌜ (from < elements) × (to < elements) ⌝ }
+    ensures { λ _. ⌜ now (rows .exit) ≡ grow elements (now (rows .entry)) from to ⌝ }
 {
-    if row.has(k) { row.union(gain) } else { row }
+    let o = Order { rows: *rows };
+    let whole = o.with_arc(from, to);
+    let new = whole.rows;
+    *rows = new;
 }
 
-// The row of the element i, where x and what is before x become before all of `gain`.
-fn with_gain(row: Set, i: usize, x: usize, gain: Set) -> Set
-    requires { ⌜ x < elements ⌝ }
-    ensures { λ r. ⌜ numberOf r ≡ gained x (numberOf gain) i (numberOf row) ⌝ }
+// The same, with the arcs from i to each member of `to` that it does not hold yet. (What an arc leads to is held when it is added: that is
+// passed over as a set. An order is copied for each arc that is new, and not for each that is held.)
+fn add_row(rows: &mut Rows, i: usize, to: Set)
+    requires { ⌜ i < elements ⌝ }
+    ensures { λ _. ⌜ now (rows .exit) ≡ growFrom elements (now (rows .entry)) i (numberOf to) ⌝ }
 {
-    if i == x {
-        row.union(gain)
-    } else {
-        with_pass(row, x, gain)
-    }
-}
-
-// x and what is before x become before all of `gain`.
-fn gain_all(rows: &mut Rows, x: usize, gain: Set)
-    requires { ⌜ x < elements ⌝ }
-    ensures { λ _. ⌜ now (rows .exit) ≡ upto (updateRow (gained x (numberOf gain))) elements (now (rows .entry)) ⌝ }
-{
-    for i in 0..ELEMENTS {
-        let r = with_gain(row(rows, i), i, x, gain);
-        put_row(rows, i, r);
-    }
-}
-
-// Whatever is before k becomes before all that k is before.
-fn pass(rows: &mut Rows, k: usize)
-    requires { ⌜ k < elements ⌝ }
-    ensures { λ _. ⌜ now (rows .exit) ≡ passing elements k (now (rows .entry)) ⌝ }
-{
-    let gain = row(rows, k);
-    for i in 0..ELEMENTS {
-        let r = with_pass(row(rows, i), k, gain);
-        put_row(rows, i, r);
-    }
-}
-
-// The elements at which an arc ends.
-fn ends_of(rows: &Rows) -> Set
-    ensures { λ r. ⌜ numberOf r ≡ endsIn elements (now (rows .entry)) ⌝ }
-{
-    let mut ends = Set::EMPTY;
-    for i in 0..ELEMENTS {
-        ends = ends.union(row(rows, i));
-    }
-    ends
-}
-
-// The same as `pass`, where an arc ends at k and k leads somewhere; else there is nothing to do.
-fn pass_over(rows: &mut Rows, ends: Set, k: usize)
-    requires { ⌜ k < elements ⌝ }
-    ensures { λ _. ⌜ now (rows .exit) ≡ passingOver elements (numberOf ends) k (now (rows .entry)) ⌝ }
-{
-    if row(rows, k).is_empty() {
-        return;
-    }
-    if ends.has(k) {
-        pass(rows, k);
+    let mut w = to.minus(row(rows, i));
+    while !w.is_empty() {
+        let j = w.lowest();
+        add_arc(rows, i, j);
+        w = w.minus(row(rows, i));
     }
 }
 

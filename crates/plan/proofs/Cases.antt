@@ -9,10 +9,8 @@ use Rattle.records.specs.Bytes.{field, zeros}
 use Rattle.plan.specs.declared.Answer.{Answer}
 use Rattle.plan.specs.declared.Answer.the-variants.{Readable, Refused}
 use Rattle.plan.specs.declared.Cause.the-variants.{Length, RecordType, Field, Spare}
-use Rattle.plan.specs.Records.{leading, activityFields, crewFields, arcFields, activities}
-use Rattle.plan.specs.Plans.{demandsOf}
-use Rattle.plan.specs.Causes.{activityCause, crewCause, arcCause, causeAt, firstRefusal, recordsCause}
-use Rattle.plan.specs.Reads.{isLength, answerOf}
+use Rattle.plan.specs.Records.{leading, activityFields, crewFields, arcFields, activities, demandsOf}
+use Rattle.plan.specs.Causes.{activityCause, crewCause, arcCause, causeAt, firstRefusal, recordsCause, isLength, answerOf}
 
 -- an activity with a demand of kind 1, a crew of one kind, and an arc
 abbrev activityBytes : ℕ → ℕ → ℕ → List ℕ

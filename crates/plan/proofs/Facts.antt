@@ -13,8 +13,7 @@ use Rattle.words.proofs.Tests.{clash, and-left, and-right, cond-true, cond-fals
 use Rattle.records.proofs.Zeros.{all-zero}
 use Rattle.records.specs.Bytes.{byte, field, zeros}
 use Rattle.order.specs.Stored.{elements}
-use Rattle.plan.specs.Records.{recordAt, activityCount, jobCount, dueType, activityFields, activitySpare, crewFields, crewSpare, isEnd, arcFields, arcSpare, activities}
-use Rattle.plan.specs.Plans.{demandsOf}
+use Rattle.plan.specs.Records.{recordAt, activityCount, jobCount, dueType, activityFields, activitySpare, crewFields, crewSpare, isEnd, arcFields, arcSpare, activities, demandsOf}
 use Rattle.plan.specs.Causes.{firstCause, isReadable, activityCause, crewCause, arcCause, causeAt}
 
 -- ---- bytes that are zero

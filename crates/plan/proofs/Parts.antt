@@ -14,8 +14,8 @@ use Rattle.order.specs.Stored.{elements, cells}
 use Rattle.plan.specs.declared.Answer.{Answer}
 use Rattle.plan.specs.declared.Answer.the-variants.{Readable, Refused}
 use Rattle.plan.specs.declared.Cause.the-variants.{RecordType}
-use Rattle.plan.specs.Records.{recordAt, recordCount, typeAt, activityCount, jobCount, dueType, activities}
-use Rattle.plan.specs.Plans.{demandsOf, arcsUpTo, arcRows}
+use Rattle.plan.specs.Records.{recordAt, recordCount, typeAt, activityCount, jobCount, dueType, activities, demandsOf}
+use Rattle.plan.specs.Plans.{arcsUpTo, arcRows}
 use Rattle.plan.specs.Causes.{isReadable, activityCause, causeAt, firstRefusal, followedBy, crewThere, recordsCause}
 use Rattle.plan.specs.Phases.{putArc}
 use Rattle.plan.proofs.Refusals.{followed-left, followed-right, all-readable, none-refused}

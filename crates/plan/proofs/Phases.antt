@@ -16,10 +16,10 @@ use Rattle.plan.specs.declared.Answer.the-variants.{Readable, Refused}
 use Rattle.plan.specs.declared.Cause.the-variants.{Length, RecordType}
 use Rattle.plan.specs.declared.Plan.{Plan}
 use Rattle.plan.specs.declared.Reading.{Reading}
-use Rattle.plan.specs.Records.{recordAt, recordCount, activityCount, jobCount, leading, availableIn, dueType}
-use Rattle.plan.specs.Plans.{planOf, emptyPlan, durationsOf, demandsOf, availableOf}
-use Rattle.plan.specs.Causes.{isReadable, activityCause, crewCause, arcCause, causeAt, firstRefusal, followedBy, recordsCause}
-use Rattle.plan.specs.Reads.{isLength, answerOf, readOf}
+use Rattle.plan.specs.Records.{recordAt, recordCount, activityCount, jobCount, leading, availableIn, dueType, activities, demandsOf}
+use Rattle.plan.specs.Plans.{planOf, emptyPlan, durationsOf, availableOf}
+use Rattle.plan.specs.Causes.{isReadable, activityCause, crewCause, arcCause, causeAt, firstRefusal, followedBy, recordsCause, isLength, answerOf}
+use Rattle.plan.specs.Reads.{readOf}
 use Rattle.plan.specs.Phases.{putDuration, putDemands, putArc, refusalOf, unlessRefused, restOf, fileOf}
 use Rattle.plan.proofs.Refusals.{followed-assoc, followed-none, refusal-cong, refusal-split, refusal-one, all-readable}
 use Rattle.plan.proofs.Places.{record-on, record-next, leading-le}

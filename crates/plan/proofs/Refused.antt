@@ -13,13 +13,11 @@ use Rattle.plan.specs.declared.Answer.{Answer}
 use Rattle.plan.specs.declared.Answer.the-variants.{Readable, Refused}
 use Rattle.plan.specs.declared.Cause.{Cause}
 use Rattle.plan.specs.declared.Cause.the-variants.{Length, RecordType, Field, Spare}
-use Rattle.plan.specs.Records.{recordAt, recordCount, typeAt, activityCount, dueType, activityFields, activitySpare, crewFields, crewSpare, arcFields, arcSpare}
-use Rattle.plan.specs.Plans.{demandsOf}
+use Rattle.plan.specs.Records.{recordAt, recordCount, typeAt, activityCount, dueType, activityFields, activitySpare, crewFields, crewSpare, arcFields, arcSpare, demandsOf}
 use Rattle.records.specs.Bytes.{byte}
-use Rattle.plan.specs.Causes.{firstCause, isReadable, activityCause, crewCause, arcCause, causeAt, firstRefusal, followedBy, crewThere, recordsCause}
-use Rattle.plan.specs.Reads.{isLength, answerOf}
+use Rattle.plan.specs.Causes.{firstCause, isReadable, activityCause, crewCause, arcCause, causeAt, firstRefusal, followedBy, crewThere, recordsCause, isLength, answerOf}
 use Rattle.plan.specs.Meaning
-use Rattle.plan.specs.Meaning.{FirstFault}
+use Rattle.plan.specs.Refused.{WrongLength, FirstFault, CrewMissing}
 use Rattle.plan.proofs.Refusals.{none-refused, refused-first, first-refused, all-readable}
 use Rattle.plan.proofs.Places.{leading-ends}
 use Rattle.plan.proofs.Parts.{faultless-read, crew-missing, crew-there, crew-or-missing, activity-typed}
@@ -111,16 +109,6 @@ module _ (s : List ℕ) (legal : isLength (length s) ≡ true) where
         ap isReadable (answer-records s legal ∙ faultless-read s (record { fine = fine; crewed = crewed }))
 
 -- ---- what a refusal means
-
-pub record WrongLength (s : List ℕ) (c : Cause) : Type 0 where
-  pub wrong : isLength (length s) ≡ false
-  pub cause : c ≡ Length
-
-pub record CrewMissing (s : List ℕ) (c : Cause) : Type 0 where
-  pub legal : isLength (length s) ≡ true
-  pub fine : (p : ℕ) → p < recordCount s → isReadable (causeAt s p) ≡ true
-  pub activities : (p : ℕ) → p < recordCount s → typeAt s p ≡ 1
-  pub cause : c ≡ RecordType (recordCount s)
 
 records-refused : (s : List ℕ) (c : Cause) → isLength (length s) ≡ true → recordsCause s ≡ Refused c → ((p : ℕ) × FirstFault s p (Refused c)) ⊎ CrewMissing s c
 unfolding recordsCause

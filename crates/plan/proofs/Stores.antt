@@ -14,8 +14,8 @@ use Rattle.words.specs.Tables.{table}
 use Rattle.words.proofs.Tests.{by-test, below-suc, cond-true, cond-false}
 use Rattle.words.proofs.Tables.{is-table, stored, getD-zeros}
 use Rattle.order.specs.Stored.{elements}
-use Rattle.plan.specs.Records.{recordAt, activityCount, durationIn, demandIn}
-use Rattle.plan.specs.Plans.{durationsOf, demandsOf}
+use Rattle.plan.specs.Records.{recordAt, activityCount, durationIn, demandIn, demandsOf}
+use Rattle.plan.specs.Plans.{durationsOf}
 use Rattle.plan.specs.Phases.{putDuration, putDemand, putDemands}
 
 pub durations-stored : (s : List ℕ) → activityCount s ≤ elements → upto (putDuration s) (activityCount s) (replicate elements 0) ≡ durationsOf s

@@ -19,9 +19,8 @@ use Rattle.plan.specs.declared.Answer.{Answer}
 use Rattle.plan.specs.declared.Answer.the-variants.{Readable, Refused}
 use Rattle.plan.specs.declared.Reading.{Reading}
 use Rattle.plan.specs.Records.{recordAt, leading, isEnd, arcFields, arcSpare, activities}
-use Rattle.plan.specs.Causes.{isReadable, activityCause, arcCause, firstRefusal}
+use Rattle.plan.specs.Causes.{isReadable, activityCause, arcCause, firstRefusal, isLength}
 use Rattle.plan.specs.Phases.{refusalOf, unlessRefused}
-use Rattle.plan.specs.Reads.{isLength}
 use Rattle.records.proofs.Steps.{rest-of}
 use Rattle.plan.proofs.Places.{record-on}
 use Rattle.plan.proofs.Facts.{fields-kept, activity-kept, end-high}

@@ -1,15 +1,15 @@
--- The causes of a refusal, 1 to 4, each with its place. Assumes nothing.
-use mathlib.Core.Bool.{Bool, true, false, not, cond}
+-- The causes of a refusal, 1 to 4, each with its place, and the answer: the first of them, or readable. Assumes nothing.
+use mathlib.Core.Bool.{Bool, true, false, not, cond, _&&_}
 use mathlib.Core.List.{List}
-use Prim.Native.Nat.{ℕ}
-use lib.Dec.{eqb, ltb}
+use Prim.Native.Nat.{ℕ, _%_}
+use lib.Dec.{eqb, leb, ltb}
+use lib.ListN.{length}
 use Rattle.words.specs.Members.{first}
 use Rattle.records.specs.Bytes.{byte}
 use Rattle.plan.specs.declared.Answer.{Answer}
 use Rattle.plan.specs.declared.Answer.the-variants.{Readable, Refused}
-use Rattle.plan.specs.declared.Cause.the-variants.{RecordType, Field, Spare}
-use Rattle.plan.specs.Records.{recordAt, recordCount, activityCount, activityFields, activitySpare, crewFields, crewSpare, arcFields, arcSpare, dueType}
-use Rattle.plan.specs.Plans.{demandsOf}
+use Rattle.plan.specs.declared.Cause.the-variants.{Length, RecordType, Field, Spare}
+use Rattle.plan.specs.Records.{recordAt, recordCount, activityCount, activityFields, activitySpare, crewFields, crewSpare, arcFields, arcSpare, dueType, demandsOf}
 
 -- "records in file order, 2, 3, 4 within each": the causes of one record, in the order in which they are tested.
 -- typed: its type is the one that is due; fields: each field keeps its rule; spare: its spare bytes are zero.
@@ -62,3 +62,13 @@ crewThere s = cond (eqb (activityCount s) (recordCount s)) (Refused (RecordType 
 -- the first record with a cause, and its first cause; then a missing crew record
 unfoldable pub recordsCause : List ℕ → Answer
 recordsCause s = followedBy (firstRefusal (recordCount s) (causeAt s)) (crewThere s)
+
+-- cause 1: "length 0, not a multiple of 24, or over 49,152"
+unfoldable pub isLength : ℕ → Bool
+isLength n = ltb 0 n && (leb n 49152 && eqb (n % 24) 0)
+
+-- THE ANSWER: the length first, then the records
+unfoldable pub answerOf : List ℕ → Answer
+answerOf s =
+    let records = recordsCause s in
+    cond (isLength (length s)) records (Refused Length)

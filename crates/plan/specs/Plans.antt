@@ -1,7 +1,7 @@
 -- The plan that a readable file says, field by field. Assumes nothing.
 use mathlib.Core.Bool.{cond}
 use mathlib.Core.List.{List}
-use Prim.Native.Nat.{ℕ, zero, suc, _-_, _*_, _/_, _%_}
+use Prim.Native.Nat.{ℕ, zero, suc, _-_, _*_}
 use lib.Dec.{eqb, ltb}
 use lib.ListN.{replicate}
 use Rattle.words.specs.Bits.{withBit}
@@ -9,15 +9,11 @@ use Rattle.words.specs.Tables.{table}
 use Rattle.records.specs.Bytes.{byte}
 use Rattle.order.specs.Stored.{elements, cells, row, putRow}
 use Rattle.plan.specs.declared.Plan.{Plan}
-use Rattle.plan.specs.Records.{recordAt, recordCount, typeAt, activityCount, durationIn, demandIn, availableIn}
+use Rattle.plan.specs.Records.{recordAt, recordCount, typeAt, activityCount, durationIn, availableIn, demandsOf}
 
--- element i's duration is the field of record i
+-- element i's duration is the field of record i, as its demands are (`demandsOf` of Records)
 unfoldable pub durationsOf : List ℕ → List ℕ
 durationsOf s = table elements (λ i. cond (ltb i (activityCount s)) (durationIn (recordAt s i)) 0)
-
--- and so are its demands; that of element i for kind k + 1 stands at elements * k + i
-unfoldable pub demandsOf : List ℕ → List ℕ
-demandsOf s = table (8 * elements) (λ x. cond (ltb (x % elements) (activityCount s)) (demandIn (recordAt s (x % elements)) (x / elements)) 0)
 
 -- the availabilities are the fields of the crew record
 unfoldable pub availableOf : List ℕ → List ℕ

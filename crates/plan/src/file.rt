@@ -6,7 +6,7 @@ ghost use Rattle.order.specs.Stored.{elements};
 ghost use Rattle.plan.specs.Records.{leading};
 ghost use Rattle.plan.specs.Plans.{emptyPlan};
 ghost use Rattle.plan.specs.Phases.{fileOf, restOf, refusalOf};
-ghost use Rattle.plan.specs.Reads.{isLength};
+ghost use Rattle.plan.specs.Causes.{isLength};
 use crate::Answer;
 use crate::Cause;
 use crate::Plan;

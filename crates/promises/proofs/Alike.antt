@@ -16,7 +16,7 @@ use Rattle.order.specs.Rows.{after}
 use Rattle.order.specs.declared.Order.{Order}
 use Rattle.order.specs.declared.Set.{Set}
 use Rattle.plan.specs.declared.Plan.{Plan}
-use Rattle.flow_math.specs.Need.{needOf}
+use Rattle.flow_math.specs.Heaviest.{needOf}
 use Rattle.flow_math.specs.Flow.{nodeFlow}
 use Rattle.flow.specs.Network.{handed}
 use Rattle.flow.specs.Quote.{quoteOf, flowOf}

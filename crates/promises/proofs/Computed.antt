@@ -10,16 +10,17 @@ use Rattle.order.specs.Rows.{grow, arcsFrom, arcsIn, circleIn}
 use Rattle.order.specs.Orders.{extended, circleOf, orderOf, orderIn, joinedRows, afterRows}
 use Rattle.records.specs.Bytes.{field, zeros, bytes}
 use Rattle.records.specs.Records.{overloadRecord}
-use Rattle.plan.specs.Records.{leading, activityFields, crewFields, arcFields}
-use Rattle.plan.specs.Plans.{durationsOf, demandsOf, availableOf, withArc, arcsUpTo, planOf}
-use Rattle.plan.specs.Causes.{activityCause, crewCause, arcCause, causeAt, firstRefusal, recordsCause}
-use Rattle.plan.specs.Reads.{isLength, answerOf, readOf}
+use Rattle.plan.specs.Records.{leading, activityFields, crewFields, arcFields, demandsOf}
+use Rattle.plan.specs.Plans.{durationsOf, availableOf, withArc, arcsUpTo, planOf}
+use Rattle.plan.specs.Causes.{activityCause, crewCause, arcCause, causeAt, firstRefusal, recordsCause, isLength, answerOf}
+use Rattle.plan.specs.Reads.{readOf}
 use Rattle.schedule.specs.Starts.{asked, rounds, earliestOf, endOf}
-use Rattle.schedule.specs.Checks.{brokenTo, brokenFrom, occupied, lowestKind, lastFinish, quiet, firstPeriod, checkOf}
+use Rattle.schedule.specs.Checks.{brokenTo, brokenFrom, lowestKind, lastFinish, quiet, firstPeriod, checkOf}
 use Rattle.schedule.specs.Arrays.{startsOf}
-use Rattle.flow_math.specs.Need.{heaviest, needOf}
+use Rattle.flow_math.specs.Heaviest.{heaviest, needOf}
+use Rattle.flow_math.specs.Crew.{occupied}
 use Rattle.flow.specs.Search.{advance}
-use Rattle.flow.specs.Network.{giver, positive, joined, shifted, handing}
+use Rattle.flow.specs.Network.{giver, positive, leaders, joined, shifted, handing}
 use Rattle.flow.specs.Solve.{blanks, blankRows, ranked, started, rounded, solved}
 use Rattle.flow.specs.Quote.{unused, copied, outcome, amount, quoteIn}
 use Rattle.kinds.specs.Needs.{demandsFor}
@@ -31,10 +32,11 @@ use Rattle.desk.specs.Needs.{needsFault, needNumbers, needsOut}
 use Rattle.desk.specs.Starts.{startsFault, startsOut, startNumbers, withEnd}
 use Rattle.desk.specs.Overload.{overloadFault, overCount, overBytes, overloadOut}
 use Rattle.desk.specs.Crew.{someZero, badLists, crewFault, crewFound}
+use Rattle.promises.specs.Ours.{ours}
 use Rattle.promises.specs.Cases.{Cases}
 
-pub cases : Cases
-unfolding row putRow rowTable cells numberOf setOf digit bit each run upto first members count sum maximum table grow arcsFrom arcsIn circleIn extended circleOf orderOf orderIn joinedRows afterRows field zeros bytes overloadRecord leading activityFields crewFields arcFields durationsOf demandsOf availableOf withArc arcsUpTo planOf activityCause crewCause arcCause causeAt firstRefusal recordsCause isLength answerOf readOf asked rounds earliestOf endOf brokenTo brokenFrom occupied lowestKind lastFinish quiet firstPeriod checkOf startsOf heaviest needOf advance giver positive joined shifted handing blanks blankRows ranked started rounded solved unused copied outcome amount quoteIn demandsFor circlesOf faultOf lentAfter needFor overKind isOverloaded overCause verdictFault needsFault needNumbers needsOut startsFault startsOut startNumbers withEnd overloadFault overCount overBytes overloadOut someZero badLists crewFault crewFound
+pub cases : Cases ours
+unfolding row putRow rowTable cells numberOf setOf digit bit each run upto first members count sum maximum table grow arcsFrom arcsIn circleIn extended circleOf orderOf orderIn joinedRows afterRows field zeros bytes overloadRecord leading activityFields crewFields arcFields durationsOf demandsOf availableOf withArc arcsUpTo planOf activityCause crewCause arcCause causeAt firstRefusal recordsCause isLength answerOf readOf asked rounds earliestOf endOf brokenTo brokenFrom occupied lowestKind lastFinish quiet firstPeriod checkOf startsOf heaviest needOf advance giver positive leaders joined shifted handing blanks blankRows ranked started rounded solved unused copied outcome amount quoteIn demandsFor circlesOf faultOf lentAfter needFor overKind isOverloaded overCause verdictFault needsFault needNumbers needsOut startsFault startsOut startNumbers withEnd overloadFault overCount overBytes overloadOut someZero badLists crewFault crewFound
 cases =
     record {
       a-accepted = refl;
@@ -42,7 +44,6 @@ cases =
       b-overloaded = refl;
       b-need = refl;
       c-overloaded = refl;
-      c-numbers = refl;
       c-need = refl;
       c-record = refl;
       d-accepted = refl;
@@ -62,4 +63,5 @@ cases =
       c-at-once = refl;
       c-two-by-two = refl;
       c-longer = refl;
+      c-false-turn = refl;
     }

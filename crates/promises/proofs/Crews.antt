@@ -14,6 +14,7 @@ use Rattle.words.proofs.Firsts.{before-first}
 use Rattle.words.proofs.Sums.{sum-zero}
 use Rattle.words.proofs.Tests.{cond-least}
 use Rattle.order.specs.Stored.{elements}
+use Rattle.flow_math.specs.Crew as crew
 use Rattle.schedule.specs.Network.{Arc}
 use Rattle.schedule.specs.Checks.{atWork, occupied, checkOf, Enough, FirstOver}
 use Rattle.schedule.specs.Arrays.{crewNet}
@@ -22,7 +23,8 @@ use Rattle.schedule.specs.declared.Checked.the-variants.{Fits, Broken, Overload
 use Rattle.schedule.proofs.Answers.{fits-means, broken-means, over-means}
 use Rattle.desk.specs.Open.{planIn, rowsOf, isFine, Opens}
 use Rattle.desk.specs.Crew.{checkedOf, someZero, crewFault, crewWork, crewFound, crewAnswer}
-use Rattle.desk.specs.File.{FileArc, KeepsWorked, FirstBrokenArc}
+use Rattle.desk.specs.File.{FileArc}
+use Rattle.desk.specs.Times.{KeepsWorked, FirstBrokenArc}
 use Rattle.desk.specs.declared.Fault.{Fault}
 use Rattle.desk.specs.declared.Fault.the-variants as fault
 use Rattle.desk.specs.declared.CrewChecked.the-variants.{Found, Refused}
@@ -38,7 +40,7 @@ pub record CrewRight (s starts worked : List ℕ) (x : Checked) : Type 0 where
   pub working : (i : ℕ) → i < length worked → 1 ≤ getD worked i 0
   pub finds : checkOf (crewNet (rowsOf s) starts worked) (crewWork s starts worked) ≡ x
 
-no-zero : (xs : List ℕ) → someZero xs ≡ false → (i : ℕ) → i < length xs → 1 ≤ getD xs i 0
+pub no-zero : (xs : List ℕ) → someZero xs ≡ false → (i : ℕ) → i < length xs → 1 ≤ getD xs i 0
 unfolding someZero
 no-zero xs e i l =
     let n = ltb-false (first (length xs) (λ k. eqb (getD xs k 0) 0)) (length xs) e in
@@ -99,8 +101,8 @@ crew-over s starts worked t k e =
 
 -- nothing is demanded of a kind that the file does not have, so the kind shown is one of the file's
 module _ (s starts worked : List ℕ) {x : Checked} (L : CrewRight s starts worked x) where
-  none-occupied : (t k : ℕ) → planIn s .kinds ≤ k → k < 8 → occupied (crewWork s starts worked) t k ≡ 0
-  unfolding occupied
+  pub none-occupied : (t k : ℕ) → planIn s .kinds ≤ k → k < 8 → occupied (crewWork s starts worked) t k ≡ 0
+  unfolding crew.occupied
   none-occupied t k l h =
       sum-zero (length starts) (λ i. cond (atWork (crewWork s starts worked) t i) (getD (planIn s .demand) (elements * k + i) 0) 0)
       (λ i li.

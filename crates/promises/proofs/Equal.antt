@@ -20,14 +20,15 @@ use Rattle.order.specs.Orders.{Direct}
 use Rattle.order.specs.Rows.{after}
 use Rattle.order.proofs.Orders.{direct-same}
 use Rattle.plan.specs.Meaning.{Readable}
-use Rattle.plan.specs.Reads.{answerOf}
+use Rattle.plan.specs.Causes.{answerOf}
 use Rattle.plan.specs.Records.{recordAt, activityCount}
 use Rattle.kinds.specs.Needs.{demandAt, demandsFor}
 use Rattle.desk.specs.Open.{planIn, rowsOf, jobOrder, planOrder, circlesOf, isFine, faultOf}
 use Rattle.desk.specs.Need.{needFor}
 use Rattle.desk.specs.Verdict.{verdictFault, verdictAnswer}
 use Rattle.desk.specs.Needs.{needsFault, needsAnswer, needNumbers, needsOut}
-use Rattle.desk.specs.Flow.{isKind, flowLength, flowFault, flowAnswer, flowOut}
+use Rattle.desk.specs.Flow.{isKind, flowFault, flowAnswer, flowOut}
+use Rattle.desk.specs.File.{flowLength}
 use Rattle.promises.specs.Same.{SamePlan}
 use Rattle.desk.specs.declared.Cause.the-variants.{NoKind, Short}
 use Rattle.desk.proofs.Turns.{cause-same}
@@ -38,8 +39,6 @@ use Rattle.desk.proofs.Weighing.{kinds-few, count-in, kinds-in, available-in}
 use Rattle.promises.proofs.Alike.{Alike, need-same, over-same, why-same, count-same, bytes-same}
 use Rattle.promises.proofs.Faults.{readable-fault}
 use Rattle.desk.proofs.Handing.{flow-fine}
-
--- ---- lists
 
 -- ---- FILES THAT SAY THE SAME PLAN
 

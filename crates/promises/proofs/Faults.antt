@@ -14,14 +14,14 @@ use Rattle.order.specs.Orders.{OrderOf, circleOf}
 use Rattle.order.specs.declared.Order.{Order}
 use Rattle.order.proofs.Before.{acyclic-joined}
 use Rattle.order.proofs.Orders.{circle-none, circle-lowest, circle-le}
-use Rattle.plan.specs.Causes.{isReadable}
-use Rattle.plan.specs.Reads.{answerOf}
+use Rattle.plan.specs.Causes.{isReadable, answerOf}
 use Rattle.plan.specs.Meaning.{Readable, Names}
 use Rattle.plan.specs.declared.Cause.{Cause as Unread}
 use Rattle.plan.specs.declared.Answer.{Answer}
 use Rattle.plan.specs.declared.Answer.the-variants as answer
 use Rattle.desk.specs.Open.{isFine, circlesOf, orUnreadable, jobOrder, planOrder, faultOf, Opens}
-use Rattle.desk.specs.File.{FileArc, Lowest}
+use Rattle.desk.specs.File.{FileArc}
+use Rattle.promises.specs.Paper.{Lowest}
 use Rattle.desk.specs.declared.Cause.{Cause}
 use Rattle.desk.specs.declared.Cause.the-variants.{Unreadable, JobCircle, PlanCircle}
 use Rattle.desk.specs.declared.Fault.{Fault}

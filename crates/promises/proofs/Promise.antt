@@ -26,8 +26,9 @@ use Rattle.desk.specs.Numbers.{numbersOf}
 use Rattle.desk.specs.Need.{needFor, overKind, isOverloaded, shownSet, overCause}
 use Rattle.desk.specs.Verdict.{verdictFault, verdictOf, verdictAnswer}
 use Rattle.desk.specs.Overload.{overloadFault, overCount, overBytes, overloadAnswer, overloadOut}
-use Rattle.desk.specs.Flow.{isKind, flowLength, flowFault, flowUnits, flowCount, recordBytes, flowAnswer, flowOut}
-use Rattle.desk.specs.File.{fileKinds, fileAvailable, FileFlow}
+use Rattle.desk.specs.Flow.{isKind, flowFault, flowUnits, flowCount, recordBytes, flowAnswer, flowOut}
+use Rattle.desk.specs.File.{fileKinds, fileAvailable, FileFlow, flowLength}
+use Rattle.promises.specs.Ours.{ours}
 use Rattle.promises.specs.PriceList.{quotedNeed, Exceeds, Enough, IsSeven, Shown, PriceList, PriceListSentence}
 use Rattle.desk.specs.declared.Cause.{Cause}
 use Rattle.desk.specs.declared.Cause.the-variants.{NoKind, Short}
@@ -85,14 +86,14 @@ module _ (s : List ℕ) (small : AreBytes s) (o : Opens s) where
       (λ t. (t, same-cause c (overCause (planIn s)) (sym e ∙ verdict-refused t)))
       (λ t. absurd (not-refused (planIn s .count) (planIn s .kinds) c (sym (verdict-accepted t) ∙ e)))
 
-  refuses : ((c : Cause) × (verdictAnswer s ≡ Refused c)) ↔ ((k : ℕ) × Exceeds s k)
+  refuses : ((c : Cause) × (verdictAnswer s ≡ Refused c)) ↔ ((k : ℕ) × Exceeds ours s k)
   refuses = (
     (λ r. (overKind (planIn s), over-kind s small o (refused-over (r .0) (r .1) .0))),
     (λ x. (overCause (planIn s), verdict-refused (over-when s small o (x .0) (x .1)))),
   )
 
   -- the values of 7, and the set that they show
-  seven : isOverloaded (planIn s) ≡ true → (kind : ℕ) × (need : ℕ) × (set : ℕ) × (size : ℕ) × IsSeven (overCause (planIn s)) kind need set size × Shown s kind need set size
+  seven : isOverloaded (planIn s) ≡ true → (kind : ℕ) × (need : ℕ) × (set : ℕ) × (size : ℕ) × IsSeven (overCause (planIn s)) kind need set size × Shown ours s kind need set size
   unfolding overCause
   seven t = (
     overKind (planIn s) + 1,
@@ -104,14 +105,14 @@ module _ (s : List ℕ) (small : AreBytes s) (o : Opens s) where
   )
 
   shows : (c : Cause) → verdictAnswer s ≡ Refused c
-      → (kind : ℕ) × (need : ℕ) × (set : ℕ) × (size : ℕ) × IsSeven c kind need set size × Shown s kind need set size
+      → (kind : ℕ) × (need : ℕ) × (set : ℕ) × (size : ℕ) × IsSeven c kind need set size × Shown ours s kind need set size
   shows c e =
       let w = refused-over c e in
       let v = seven (w .0) in
       (v .0, v .1, v .2, v .3, ap numbersOf (w .1) ∙ v .4, v .5)
 
   -- whoever gives 7 shows that set
-  seven-shown : (c : Cause) (kind need set size : ℕ) → isOverloaded (planIn s) ≡ true → c ≡ overCause (planIn s) → IsSeven c kind need set size → Shown s kind need set size
+  seven-shown : (c : Cause) (kind need set size : ℕ) → isOverloaded (planIn s) ≡ true → c ≡ overCause (planIn s) → IsSeven c kind need set size → Shown ours s kind need set size
   unfolding overCause
   seven-shown c kind need set size t e i =
       let q = planIn s in
@@ -122,7 +123,7 @@ module _ (s : List ℕ) (small : AreBytes s) (o : Opens s) where
       tails : {x y : ℕ} {xs ys : List ℕ} → x ∷ xs ≡ y ∷ ys → xs ≡ ys
       tails e = cc
 
-      values : {a b c d x y z u : ℕ} → _≡_ {A = List ℕ} (a ∷ b ∷ c ∷ d ∷ []) (x ∷ y ∷ z ∷ u ∷ []) → Shown s a b c d → Shown s x y z u
+      values : {a b c d x y z u : ℕ} → _≡_ {A = List ℕ} (a ∷ b ∷ c ∷ d ∷ []) (x ∷ y ∷ z ∷ u ∷ []) → Shown ours s a b c d → Shown ours s x y z u
       values {a} {b} {c} {d} {x} {y} {z} {u} e S =
           let p : a ≡ x = cc in
           let q : b ≡ y = cc in
@@ -152,7 +153,7 @@ module _ (s : List ℕ) (small : AreBytes s) (o : Opens s) where
         ∙ ap (λ (r : List ℕ). r ++ drop (length (overBytes (planIn s))) out) (cond-true _ [] t)
 
     over-read : (out : List ℕ) → overloadFault s (length out) ≡ fault.Fine
-        → Shown s (byte (overloadOut s out) 1) (field (overloadOut s out) 4 4) (field (overloadOut s out) 8 8) (byte (overloadOut s out) 2)
+        → Shown ours s (byte (overloadOut s out) 1) (field (overloadOut s out) 4 4) (field (overloadOut s out) 8 8) (byte (overloadOut s out) 2)
     over-read out f =
         let k = overKind (planIn s) in
         let w = overload-read (k + 1) (sizeOf (shownSet (planIn s) k)) (needFor (planIn s) k) (numberOf (shownSet (planIn s) k))
@@ -160,7 +161,7 @@ module _ (s : List ℕ) (small : AreBytes s) (o : Opens s) where
         rw (over-out out f, w .0, w .1, w .2, w .3) (shown s small o t)
 
   overload-shows : (out : List ℕ) → overloadAnswer s (length out) ≡ output.Written 1
-      → Shown s (byte (overloadOut s out) 1) (field (overloadOut s out) 4 4) (field (overloadOut s out) 8 8) (byte (overloadOut s out) 2)
+      → Shown ours s (byte (overloadOut s out) 1) (field (overloadOut s out) 4 4) (field (overloadOut s out) 8 8) (byte (overloadOut s out) 2)
   unfolding overCount
   overload-shows out e =
       let w = output-is-fine (overloadFault s (length out)) 1 (overCount (planIn s)) e in
@@ -170,7 +171,7 @@ module _ (s : List ℕ) (small : AreBytes s) (o : Opens s) where
 
   -- ---- Flow
 
-  flow-shows : (asked n : ℕ) (c : Cause) (kind need set size : ℕ) → flowAnswer s asked n ≡ output.Refused c → IsSeven c kind need set size → Shown s kind need set size
+  flow-shows : (asked n : ℕ) (c : Cause) (kind need set size : ℕ) → flowAnswer s asked n ≡ output.Refused c → IsSeven c kind need set size → Shown ours s kind need set size
   unfolding flowFault
   flow-shows asked n c kind need set size e i =
       let f = output-is-refused (flowFault s asked n) (flowCount (planIn s) (asked - 1)) c e in
@@ -182,7 +183,7 @@ module _ (s : List ℕ) (small : AreBytes s) (o : Opens s) where
           orCause (orCause (orCause f (not (isKind asked (planIn s .kinds))) (NoKind (planIn s .kinds))) (ltb n (flowLength (planIn s .count)))
           (Short (flowLength (planIn s .count)))) (isOverloaded (planIn s)) (overCause (planIn s))
 
-      go : (c ≡ NoKind (planIn s .kinds)) ⊎ ((c ≡ Short (flowLength (planIn s .count))) ⊎ ((isOverloaded (planIn s) ≡ true) × (c ≡ overCause (planIn s)))) → Shown s kind need set size
+      go : (c ≡ NoKind (planIn s .kinds)) ⊎ ((c ≡ Short (flowLength (planIn s .count))) ⊎ ((isOverloaded (planIn s) ≡ true) × (c ≡ overCause (planIn s)))) → Shown ours s kind need set size
       go (inl e) = absurd (let z : _≡_ {A = ℕ} 8 7 = cc in omega arith)
       go (inr (inl e)) = absurd (let z : _≡_ {A = ℕ} 9 7 = cc in omega arith)
       go (inr (inr w)) = seven-shown c kind need set size (w .0) (w .1) i
@@ -193,7 +194,7 @@ module _ (s : List ℕ) (small : AreBytes s) (o : Opens s) where
       and-both (ltb 0 (k + 1)) (leb (k + 1) (planIn s .kinds)) (lt-ltb 0 (k + 1) (omega arith))
       (le-leb (k + 1) (planIn s .kinds) (omega (arith, h, kinds-in s readable)))
 
-  flows : Enough s → (k : ℕ) → k < fileKinds s → (out : List ℕ) → flowLength (activityCount s) ≤ length out
+  flows : Enough ours s → (k : ℕ) → k < fileKinds s → (out : List ℕ) → flowLength (activityCount s) ≤ length out
       → (n : ℕ) × (flowAnswer s (k + 1) (length out) ≡ output.Written n)
   flows en k h out l =
       let room : flowLength (planIn s .count) ≤ length out = rw (count-in s readable) l in
@@ -229,12 +230,12 @@ module _ (s : List ℕ) (small : AreBytes s) (o : Opens s) where
     meets =
         file-flow s small o k (few s small o kind-there .1) (not-over s (went .3) k (few s small o kind-there .0)) (unitsRead n (flowOut s (k + 1) out)) units-said
 
-    unused : unitsRead n (flowOut s (k + 1) out) 0 (activityCount s + 1) ≡ fileAvailable s k - quotedNeed s k
+    unused : unitsRead n (flowOut s (k + 1) out) 0 (activityCount s + 1) ≡ fileAvailable s k - quotedNeed ours s k
     unused =
         file-unused s small o k (few s small o kind-there .1) (unitsRead n (flowOut s (k + 1) out)) units-said
         ∙ ap (λ (x : ℕ). fileAvailable s k - x) (sym (quoted-is s small o k kind-there))
 
-  price-list-opens : PriceList s
+  price-list-opens : PriceList ours s
   price-list-opens =
       record {
         answers = needs-answers s small o;
@@ -255,5 +256,5 @@ module _ (s : List ℕ) (small : AreBytes s) (o : Opens s) where
         unused = unused;
       }
 
-pub price-list : PriceListSentence
+pub price-list : PriceListSentence ours
 price-list s small e free = price-list-opens s small (opens-when s .1 (e, free))

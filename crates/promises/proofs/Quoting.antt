@@ -9,7 +9,8 @@ use native.Mathlib.Omega.{arith}
 use Rattle.words.specs.Bits.{bit}
 use Rattle.records.specs.Bytes.{AreBytes}
 use Rattle.order.specs.Stored.{elements, numberOf}
-use Rattle.order.specs.Before.{Before, last, StrictOrder}
+use Rattle.order.specs.Before.{Before, last}
+use Rattle.order.specs.Arcs.{StrictOrder}
 use Rattle.order.specs.Orders.{isBefore}
 use Rattle.order.proofs.Before.{before-least, before-within, strict-first}
 use Rattle.order.proofs.Orders.{order-means}
@@ -17,7 +18,8 @@ use Rattle.plan.specs.Meaning.{Readable}
 use Rattle.plan.specs.Records.{activityCount}
 use Rattle.flow.proofs.First.{set-within}
 use Rattle.flow_math.specs.Need.{Antichain, weight, Need}
-use Rattle.flow_math.specs.Crew.{Crew, active, occupied, Peak}
+use Rattle.flow_math.specs.Crew.{Crew, active, occupied}
+use Rattle.flow_math.specs.Peak.{Peak}
 use Rattle.flow_math.proofs.Crew.{occupied-weight}
 use Rattle.flow_math.proofs.Need.{weight-same}
 use Rattle.flow_math.proofs.Theorems.{needOf-need, crew-bound, crew-peak}
@@ -49,6 +51,7 @@ module _ (s : List ℕ) (small : AreBytes s) (o : Opens s) where
   )
 
   pub sum-in : (k : ℕ) → k < 8 → (S : ℕ → Bool) → weight (planIn s .count) (demandFor (planIn s) k) S ≡ demandSum s k S
+  unfolding weight
   sum-in k h S =
       weight-same (planIn s .count) (demandFor (planIn s) k) (fileDemand s k) S (λ i l. demand-in s small o k i h l)
       ∙ ap (λ (m : ℕ). weight m (fileDemand s k) S) (count-in s readable)
@@ -100,6 +103,7 @@ module _ (s : List ℕ) (small : AreBytes s) (o : Opens s) where
 
   pub occupied-in : (k : ℕ) → k < 8 → (starts worked : ℕ → ℕ) (t : ℕ)
       → occupied (planIn s .count) (demandFor (planIn s) k) starts worked t ≡ crewOccupies s k starts worked t
+  unfolding weight
   occupied-in k h starts worked t =
       occupied-weight (planIn s .count) (demandFor (planIn s) k) starts worked t
       ∙ sum-in k h (active starts worked t)

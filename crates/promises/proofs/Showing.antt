@@ -19,6 +19,7 @@ use Rattle.desk.specs.Open.{planIn, faultOf, Opens}
 use Rattle.desk.specs.Need.{availableFor, needFor, overKind, isOverloaded, shownSet}
 use Rattle.desk.specs.Needs.{needsFault, needNumbers, needsAnswer, needsOut}
 use Rattle.desk.specs.File.{fileKinds, fileAvailable}
+use Rattle.promises.specs.Ours.{ours}
 use Rattle.promises.specs.PriceList.{quotedNeed, Exceeds, Enough, Shown}
 use Rattle.desk.specs.declared.Cause.the-variants.{Short}
 use Rattle.desk.specs.declared.Fault.the-variants.{Fine}
@@ -55,15 +56,15 @@ module _ (s : List ℕ) (small : AreBytes s) (o : Opens s) where
         lent-front (needsFault s (length out)) (needNumbers s) out needs-fine k hk
         ∙ getD-table (planIn s .kinds) (needFor (planIn s)) k 0 (few l .0)
 
-  pub quoted-is : (k : ℕ) → k < fileKinds s → quotedNeed s k ≡ needFor (planIn s) k
+  pub quoted-is : (k : ℕ) → k < fileKinds s → quotedNeed ours s k ≡ needFor (planIn s) k
   quoted-is k h = need-written (replicate (fileKinds s) 0) (omega (arith, length-replicate {A = ℕ} (fileKinds s) 0)) k h
 
   -- ---- overload
 
-  over-at : (k : ℕ) → k < fileKinds s → (availableFor (planIn s) k ≡ fileAvailable s k) × (quotedNeed s k ≡ needFor (planIn s) k)
+  over-at : (k : ℕ) → k < fileKinds s → (availableFor (planIn s) k ≡ fileAvailable s k) × (quotedNeed ours s k ≡ needFor (planIn s) k)
   over-at k h = (available-in s readable k (few h .1), quoted-is k h)
 
-  pub over-when : (k : ℕ) → Exceeds s k → isOverloaded (planIn s) ≡ true
+  pub over-when : (k : ℕ) → Exceeds ours s k → isOverloaded (planIn s) ≡ true
   unfolding isOverloaded overKind
   over-when k x =
       let w = over-at k (x .0) in
@@ -77,7 +78,7 @@ module _ (s : List ℕ) (small : AreBytes s) (o : Opens s) where
     unfolding isOverloaded
     over-below = omega (arith, ltb-true (overKind (planIn s)) (planIn s .kinds) e, kinds-in s readable)
 
-    pub over-kind : Exceeds s (overKind (planIn s))
+    pub over-kind : Exceeds ours s (overKind (planIn s))
     unfolding overKind
     over-kind =
         let w = over-at (overKind (planIn s)) over-below in
@@ -85,7 +86,7 @@ module _ (s : List ℕ) (small : AreBytes s) (o : Opens s) where
         let t = at-first (planIn s .kinds) (λ i. ltb (availableFor (planIn s) i) (needFor (planIn s) i)) b in
         (over-below, omega (arith, w .0, w .1, ltb-true (availableFor (planIn s) (overKind (planIn s))) (needFor (planIn s) (overKind (planIn s))) t))
 
-    over-lowest : (k : ℕ) → k < overKind (planIn s) → quotedNeed s k ≤ fileAvailable s k
+    over-lowest : (k : ℕ) → k < overKind (planIn s) → quotedNeed ours s k ≤ fileAvailable s k
     unfolding overKind
     over-lowest k h =
         let l : k < fileKinds s = omega (arith, h, over-below) in
@@ -94,7 +95,7 @@ module _ (s : List ℕ) (small : AreBytes s) (o : Opens s) where
         omega (arith, w .0, w .1, ltb-false (availableFor (planIn s) k) (needFor (planIn s) k) t)
 
     -- THE SET SHOWN
-    pub shown : Shown s (overKind (planIn s) + 1) (needFor (planIn s) (overKind (planIn s))) (numberOf (shownSet (planIn s) (overKind (planIn s))))
+    pub shown : Shown ours s (overKind (planIn s) + 1) (needFor (planIn s) (overKind (planIn s))) (numberOf (shownSet (planIn s) (overKind (planIn s))))
         (count elements (bit (numberOf (shownSet (planIn s) (overKind (planIn s))))))
     shown =
         let h = few over-below .1 in
@@ -111,7 +112,7 @@ module _ (s : List ℕ) (small : AreBytes s) (o : Opens s) where
         }
 
   -- where enough is available of every kind, the plan is not overloaded
-  pub enough-not : Enough s → isOverloaded (planIn s) ≡ false
+  pub enough-not : Enough ours s → isOverloaded (planIn s) ≡ false
   enough-not en =
       by-test (isOverloaded (planIn s))
       (λ t. let x = over-kind t in absurd (omega (arith, x .1, en (overKind (planIn s)) (x .0))))

@@ -1,21 +1,12 @@
--- THE STARRED CASES of document 01, "Plans A to F", on the files' bytes, as one table: each line is one case and what the definitions say of it. That every line
--- holds is `cases` of proofs/Computed.antt, by computation alone. Assumes nothing.
+-- THE STARRED CASES of document 01, "Plans A to F", on the files' bytes, as one table about a planner P: each line is one case and what P says of it, by the numbers of
+-- the answers (desk's Numbers): "6, activity 1" is the list of 6 and 1; 0 is a result, 254 a broken arc, 255 an overload with period and kind. Every line holds
+-- of ours: `cases` of proofs/Computed.antt, by computation of the definitions alone. Assumes nothing.
 use mathlib.Core.Path.{_≡_}
 use mathlib.Core.List.{List, [], _∷_, _++_}
 use Prim.Native.Nat.{ℕ}
 use lib.ListN.{replicate}
-use Rattle.order.specs.Stored.{setOf}
-use Rattle.schedule.specs.declared.Checked.the-variants.{Fits, Broken, Overload}
-use Rattle.desk.specs.Numbers.{numbersOf}
-use Rattle.desk.specs.Verdict.{verdictAnswer}
-use Rattle.desk.specs.Needs.{needsAnswer, needsOut}
-use Rattle.desk.specs.Starts.{startsAnswer, startsOut}
-use Rattle.desk.specs.Overload.{overloadAnswer, overloadOut}
-use Rattle.desk.specs.Crew.{crewAnswer}
-use Rattle.desk.specs.declared.Cause.the-variants.{JobCircle, PlanCircle, Overloaded, Short, Lists}
-use Rattle.desk.specs.declared.Decision.the-variants.{Accepted, Refused}
-use Rattle.desk.specs.declared.Output.the-variants as output
-use Rattle.desk.specs.declared.CrewChecked.the-variants as crew
+use Rattle.desk.specs.Numbers.{verdictNumbers, outputNumbers, crewNumbers}
+use Rattle.promises.specs.Planner.{Planner}
 
 -- an activity with a demand of kind 1, a crew of one kind, and an arc
 abbrev pub activityBytes : ℕ → ℕ → ℕ → List ℕ
@@ -52,38 +43,39 @@ planEJob = planC ++ (arcBytes 3 1 2 ++ arcBytes 3 2 1)
 abbrev pub planF : ℕ → List ℕ
 planF demand = activityBytes 1 1 demand ++ crewBytes 4
 
-pub record Cases : Type 0 where
+pub record Cases (P : Planner) : Type 0 where
   -- "*A accepted, need 4."
-  pub a-accepted : verdictAnswer planA ≡ Accepted 4 1
-  pub a-need : needsOut planA (9 ∷ 9 ∷ []) ≡ 4 ∷ 9 ∷ []
+  pub a-accepted : verdictNumbers (P .verdict planA) ≡ 0 ∷ 4 ∷ 1 ∷ []
+  pub a-need : P .needs .left planA (9 ∷ 9 ∷ []) ≡ 4 ∷ 9 ∷ []
   -- "*B, A with extra arcs 1→2, 1→3, 1→4: `refused 7 1 6 2 3 4`": the set of the activities 2, 3 and 4 is the number 14
-  pub b-overloaded : verdictAnswer planB ≡ Refused (Overloaded 1 6 (setOf 14))
-  pub b-need : needsOut planB (9 ∷ []) ≡ 6 ∷ []
+  pub b-overloaded : verdictNumbers (P .verdict planB) ≡ 7 ∷ 1 ∷ 6 ∷ 14 ∷ 3 ∷ []
+  pub b-need : P .needs .left planB (9 ∷ []) ≡ 6 ∷ []
   -- "*C, A with none: need 8, set all four."
-  pub c-overloaded : verdictAnswer planC ≡ Refused (Overloaded 1 8 (setOf 15))
-  pub c-numbers : numbersOf (Overloaded 1 8 (setOf 15)) ≡ 7 ∷ 1 ∷ 8 ∷ 15 ∷ 4 ∷ []
-  pub c-need : needsOut planC (9 ∷ []) ≡ 8 ∷ []
-  pub c-record : overloadOut planC (replicate 25 9) ≡ 32 ∷ 1 ∷ 4 ∷ 0 ∷ 8 ∷ 0 ∷ 0 ∷ 0 ∷ 15 ∷ replicate 15 0 ++ 9 ∷ []
+  pub c-overloaded : verdictNumbers (P .verdict planC) ≡ 7 ∷ 1 ∷ 8 ∷ 15 ∷ 4 ∷ []
+  pub c-need : P .needs .left planC (9 ∷ []) ≡ 8 ∷ []
+  pub c-record : P .overload .left planC (replicate 25 9) ≡ 32 ∷ 1 ∷ 4 ∷ 0 ∷ 8 ∷ 0 ∷ 0 ∷ 0 ∷ 15 ∷ replicate 15 0 ++ 9 ∷ []
   -- "*D, A with 1→3, 1→4, 2→3, 2→4: need 4."
-  pub d-accepted : verdictAnswer planD ≡ Accepted 4 1
-  pub d-need : needsOut planD (9 ∷ []) ≡ 4 ∷ []
-  pub d-none : overloadAnswer planD 24 ≡ output.Written 0
+  pub d-accepted : verdictNumbers (P .verdict planD) ≡ 0 ∷ 4 ∷ 1 ∷ []
+  pub d-need : P .needs .left planD (9 ∷ []) ≡ 4 ∷ []
+  pub d-none : outputNumbers (P .overload .answer planD 24) ≡ 0 ∷ 0 ∷ []
   -- "*E, A with only extra arcs 1→2, 2→1: 6, activity 1; *both as job arcs: 5."
-  pub e-extra : verdictAnswer planE ≡ Refused (PlanCircle 1)
-  pub e-job : verdictAnswer planEJob ≡ Refused (JobCircle 1)
-  pub e-starts : startsAnswer planE 5 ≡ output.Refused (PlanCircle 1)
-  pub e-needs : needsAnswer planEJob 0 ≡ output.Refused (JobCircle 1)
+  pub e-extra : verdictNumbers (P .verdict planE) ≡ 6 ∷ 1 ∷ []
+  pub e-job : verdictNumbers (P .verdict planEJob) ≡ 5 ∷ 1 ∷ []
+  pub e-starts : outputNumbers (P .starts .answer planE 5) ≡ 6 ∷ 1 ∷ []
+  pub e-needs : outputNumbers (P .needs .answer planEJob 0) ≡ 5 ∷ 1 ∷ []
   -- "*F, one activity, demand 4 of 4: accepted; *demand 5: 7, need 5."
-  pub f-accepted : verdictAnswer (planF 4) ≡ Accepted 1 1
-  pub f-overloaded : verdictAnswer (planF 5) ≡ Refused (Overloaded 1 5 (setOf 1))
+  pub f-accepted : verdictNumbers (P .verdict (planF 4)) ≡ 0 ∷ 1 ∷ 1 ∷ []
+  pub f-overloaded : verdictNumbers (P .verdict (planF 5)) ≡ 7 ∷ 1 ∷ 5 ∷ 1 ∷ 1 ∷ []
   -- Starts of A, as the report prints them, and cause 9
-  pub a-starts : startsOut planA (9 ∷ 9 ∷ 9 ∷ 9 ∷ 9 ∷ 9 ∷ []) ≡ 0 ∷ 1 ∷ 0 ∷ 3 ∷ 4 ∷ 9 ∷ []
-  pub a-short : startsAnswer planA 4 ≡ output.Refused (Short 5)
+  pub a-starts : P .starts .left planA (9 ∷ 9 ∷ 9 ∷ 9 ∷ 9 ∷ 9 ∷ []) ≡ 0 ∷ 1 ∷ 0 ∷ 3 ∷ 4 ∷ 9 ∷ []
+  pub a-short : outputNumbers (P .starts .answer planA 4) ≡ 9 ∷ 5 ∷ []
   -- "Crew check: *A with its durations, starts 0, 1, 0, 3 fits; *starts 0, 1, 0, 2 breaks 2→4."; and cause 10
-  pub a-fits : crewAnswer planA (0 ∷ 1 ∷ 0 ∷ 3 ∷ []) (1 ∷ 2 ∷ 3 ∷ 1 ∷ []) ≡ crew.Found Fits
-  pub a-breaks : crewAnswer planA (0 ∷ 1 ∷ 0 ∷ 2 ∷ []) (1 ∷ 2 ∷ 3 ∷ 1 ∷ []) ≡ crew.Found (Broken 2 4)
-  pub a-idle : crewAnswer planA (0 ∷ 1 ∷ 0 ∷ 2 ∷ []) (1 ∷ 2 ∷ 0 ∷ 1 ∷ []) ≡ crew.Refused (Lists 4)
+  pub a-fits : crewNumbers (P .crew-check planA (0 ∷ 1 ∷ 0 ∷ 3 ∷ []) (1 ∷ 2 ∷ 3 ∷ 1 ∷ [])) ≡ 0 ∷ []
+  pub a-breaks : crewNumbers (P .crew-check planA (0 ∷ 1 ∷ 0 ∷ 2 ∷ []) (1 ∷ 2 ∷ 3 ∷ 1 ∷ [])) ≡ 254 ∷ 2 ∷ 4 ∷ []
+  pub a-idle : crewNumbers (P .crew-check planA (0 ∷ 1 ∷ 0 ∷ 2 ∷ []) (1 ∷ 2 ∷ 0 ∷ 1 ∷ [])) ≡ 10 ∷ 4 ∷ []
   -- "*C, all starts 0, durations 1: period 1, kind 1. *C, starts 0, 0, 1, 1: durations 1 fit; *durations 2, 2, 1, 1: period 2."
-  pub c-at-once : crewAnswer planC (0 ∷ 0 ∷ 0 ∷ 0 ∷ []) (1 ∷ 1 ∷ 1 ∷ 1 ∷ []) ≡ crew.Found (Overload 1 1)
-  pub c-two-by-two : crewAnswer planC (0 ∷ 0 ∷ 1 ∷ 1 ∷ []) (1 ∷ 1 ∷ 1 ∷ 1 ∷ []) ≡ crew.Found Fits
-  pub c-longer : crewAnswer planC (0 ∷ 0 ∷ 1 ∷ 1 ∷ []) (2 ∷ 2 ∷ 1 ∷ 1 ∷ []) ≡ crew.Found (Overload 2 1)
+  pub c-at-once : crewNumbers (P .crew-check planC (0 ∷ 0 ∷ 0 ∷ 0 ∷ []) (1 ∷ 1 ∷ 1 ∷ 1 ∷ [])) ≡ 255 ∷ 1 ∷ 1 ∷ []
+  pub c-two-by-two : crewNumbers (P .crew-check planC (0 ∷ 0 ∷ 1 ∷ 1 ∷ []) (1 ∷ 1 ∷ 1 ∷ 1 ∷ [])) ≡ 0 ∷ []
+  pub c-longer : crewNumbers (P .crew-check planC (0 ∷ 0 ∷ 1 ∷ 1 ∷ []) (2 ∷ 2 ∷ 1 ∷ 1 ∷ [])) ≡ 255 ∷ 2 ∷ 1 ∷ []
+  -- "one timetable by list durations: C passes .. with starts 0, 0, 2, 1" (01, False turns), and its need is 8, as above
+  pub c-false-turn : crewNumbers (P .crew-check planC (0 ∷ 0 ∷ 2 ∷ 1 ∷ []) (1 ∷ 2 ∷ 3 ∷ 1 ∷ [])) ≡ 0 ∷ []

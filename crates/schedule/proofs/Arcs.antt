@@ -12,7 +12,8 @@ use Rattle.words.proofs.Tests.{clash, fails, and-says, and-both}
 use Rattle.order.specs.Rows.{after}
 use Rattle.schedule.specs.Network.{Network, Arc, Schedule, Keeps}
 use Rattle.schedule.specs.Checks.{breaks, brokenTo, brokenFrom}
-use Rattle.schedule.specs.Arrays.{at, crewNet}
+use Rattle.schedule.specs.Arrays.{crewNet}
+use Rattle.schedule.specs.Lists.{at}
 
 module _ (g : Network) (s : Schedule) where
   -- no arc is broken from a element before the first one from which one is, and none to a element before the first one to which one is

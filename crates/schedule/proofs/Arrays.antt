@@ -9,14 +9,16 @@ use native.Mathlib.Decide.{decLt}
 use lib.ListN.{set, replicate, length, List·getD-eq-default}
 use Rattle.words.proofs.Maxima.{maximum-cong}
 use Rattle.words.proofs.Tables.{getD-table, length-table}
-use Rattle.order.specs.Before.{Before, Acyclic, Within}
+use Rattle.order.specs.Before.{Before, Acyclic}
+use Rattle.order.specs.Arcs.{Within}
 use Rattle.order.specs.Rows.{after}
 use Rattle.order.specs.Orders.{Direct}
 use Rattle.order.proofs.Before.{before-map, before-within, drawn-within}
 use Rattle.schedule.specs.Network.{Arc, Schedule, Keeps}
-use Rattle.schedule.specs.Starts.{earliestOf, endOf, LargestOr0, ArcAsks, FinishBefore, FinishOf}
+use Rattle.schedule.specs.Starts.{earliestOf, endOf, ArcAsks, FinishBefore, FinishOf}
+use Rattle.schedule.specs.Lists.{LargestOr0, at}
 use Rattle.schedule.specs.Checks.{atWork, firstPeriod}
-use Rattle.schedule.specs.Arrays.{at, netOf, crewNet, workOf, byDuration, startsOf, AllAtMost, FinishesFit}
+use Rattle.schedule.specs.Arrays.{netOf, crewNet, workOf, byDuration, startsOf, AllAtMost, FinishesFit}
 use Rattle.schedule.proofs.Starts.{earliest-least, earliest-bound, earliest-keeps, earliest-direct, earliest-largest, end-largest}
 use Rattle.schedule.proofs.Ranks.{ranked}
 use Rattle.schedule.proofs.Periods.{at-work-unrelated, period-bound}

@@ -12,7 +12,8 @@ use borrow.Author.Tests.{ltb-true, ltb-false, eqb-true, eqb-false, lt-ltb, le-lt
 use borrow.Author.Count.{below-more}
 use Rattle.words.proofs.Tests.{clash, cond-has}
 use Rattle.schedule.specs.Checks.{Work, occupied, exceeds, overloaded, firstPeriod}
-use Rattle.schedule.specs.Arrays.{at, workOf}
+use Rattle.schedule.specs.Arrays.{workOf}
+use Rattle.schedule.specs.Lists.{at}
 use Rattle.schedule.specs.Levels.{Best, soonerOf}
 use Rattle.schedule.proofs.Periods.{period-follows, period-none, period-over, period-first}
 
@@ -99,5 +100,4 @@ share-late s d t x p q = ap₂ (λ (a b : Bool). cond (a && b) x 0) (lt-ltb s t 
 -- what is occupied does not go by what there is, so the code's test of one kind has it without
 pub exceeds-by :
     (d a s w : List ℕ) (t k : ℕ) {x : ℕ} → x ≡ occupied (workOf d [] s w) t k → exceeds (workOf d a s w) t k ≡ ltb (at a k) x
-unfolding occupied
 exceeds-by d a s w t k e = ap (λ (x : ℕ). ltb (at a k) x) (sym e)

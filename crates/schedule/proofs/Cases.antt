@@ -8,9 +8,11 @@ use Rattle.words.specs.Bits.{digit, bit}
 use Rattle.words.specs.Members.{first}
 use Rattle.words.specs.Sums.{maximum, sum}
 use Rattle.words.specs.Tables.{table}
+use Rattle.flow_math.specs.Crew as crew
 use Rattle.schedule.specs.Starts.{asked, rounds, earliestOf, endOf}
-use Rattle.schedule.specs.Checks.{Work, brokenTo, brokenFrom, occupied, lowestKind, lastFinish, quiet, firstPeriod, checkOf}
-use Rattle.schedule.specs.Arrays.{at, netOf, byDuration, startsOf, crewNet, workOf}
+use Rattle.schedule.specs.Checks.{Work, brokenTo, brokenFrom, lowestKind, lastFinish, quiet, firstPeriod, checkOf}
+use Rattle.schedule.specs.Arrays.{netOf, byDuration, startsOf, crewNet, workOf}
+use Rattle.schedule.specs.Lists.{at}
 use Rattle.schedule.specs.Levels.{Best}
 use Rattle.schedule.specs.declared.Checked.{Checked}
 use Rattle.schedule.specs.declared.Checked.the-variants.{Fits, Broken, Overload}
@@ -40,7 +42,7 @@ pub record Cases : Type 0 where
   pub c-longer : crewCheck [] (0 ∷ 0 ∷ 1 ∷ 1 ∷ []) (2 ∷ 2 ∷ 1 ∷ 1 ∷ []) ≡ Overload 2 1
 
 pub cases : Cases
-unfolding row digit maximum first sum asked rounds earliestOf endOf brokenTo brokenFrom occupied lowestKind lastFinish quiet firstPeriod checkOf bit table startsOf
+unfolding row digit maximum first sum asked rounds earliestOf endOf brokenTo brokenFrom crew.occupied lowestKind lastFinish quiet firstPeriod checkOf bit table startsOf
 cases =
     record { a-starts = refl; a-end = refl; a-fits = refl; a-breaks-2-4 = refl; c-at-once = refl; c-two-by-two = refl; c-longer = refl }
 
@@ -53,9 +55,9 @@ late-start zero l = omega arith
 late-start (suc i) l = absurd (omega arith)
 
 late-best : Best late 1 4294967296
-unfolding first sum occupied lowestKind
+unfolding first sum crew.occupied lowestKind
 late-best = record { real = λ l. refl; least = λ i l o. (omega arith, late-start i l) }
 
 pub last-period : Overload 4294967296 1 ≡ checkOf (crewNet [] (4294967295 ∷ []) (1 ∷ [])) late
-unfolding row digit bit first sum occupied lowestKind brokenTo brokenFrom
+unfolding row digit bit first sum crew.occupied lowestKind brokenTo brokenFrom
 last-period = check-over (crewNet [] (4294967295 ∷ []) (1 ∷ [])) late 1 4294967296 0 refl (omega arith) (best-all late 4294967296 late-best) (omega arith) refl

@@ -24,7 +24,8 @@ use Rattle.order.proofs.Stored.{everyone-bit, everyone-fits, in-bound}
 use Rattle.order.specs.Rows.{after}
 use Rattle.schedule.specs.Network.{Network, Schedule, Ranked}
 use Rattle.schedule.specs.Starts.{asked, earliestOf}
-use Rattle.schedule.specs.Arrays.{at, netOf, startsOf, FinishesFit}
+use Rattle.schedule.specs.Arrays.{netOf, startsOf, FinishesFit}
+use Rattle.schedule.specs.Lists.{at}
 use Rattle.schedule.specs.Levels.{openRow, waitingFor, readyOf, place, placed, startsBy, RanksDone}
 use Rattle.schedule.proofs.Starts.{asked-cong, earliest-fixed, earliest-bound}
 use Rattle.order.specs.Stored.{elements, everyone, bound}

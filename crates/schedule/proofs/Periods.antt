@@ -1,44 +1,32 @@
 -- Laws of periods: what is occupied rises only in the period that follows a start, so an overload is first seen there. Assumes nothing.
 use mathlib.Core.Path.{_≡_, refl, sym, _∙_, ap, subst}
 use mathlib.Core.Bool.{Bool, true, false, cond, _&&_, and-false}
-use mathlib.Core.Logic.{_⊎_, inl, inr, _≢_, _↔_}
+use mathlib.Core.Logic.{_⊎_, inl, inr, _≢_}
 use Prim.Native.Nat.{ℕ, zero, suc, _+_, _-_, _≤_, _<_}
 use native.Mathlib.Decide.{decLt}
 use native.Mathlib.Omega.{arith}
-use lib.Dec.{ltb, leb, eqb}
-use borrow.Author.Tests.{ltb-true, ltb-false, leb-true, eqb-true, eqb-false, lt-ltb, le-ltb, le-leb, lt-leb}
+use lib.Dec.{ltb, eqb}
+use borrow.Author.Tests.{ltb-true, ltb-false, eqb-true, eqb-false, lt-ltb, lt-leb}
 use Rattle.words.specs.Members.{first, IsFirst}
 use Rattle.words.proofs.Firsts.{the-first, first-below}
 use Rattle.words.proofs.Sums.{sum-le, sum-zero}
-use Rattle.words.proofs.Tests.{clash, fails, by-test, cond-least, cond-true, cond-false, and-says, and-both}
+use Rattle.words.proofs.Tests.{clash, fails, by-test, cond-least, cond-true, cond-false}
 use Rattle.order.specs.Before.{Before}
+use Rattle.flow_math.specs.Crew as crew
+use Rattle.flow_math.proofs.Crew.{active-says, none-active}
 use Rattle.schedule.specs.Network.{Network, Arc, Keeps}
 use Rattle.schedule.specs.Starts.{endOf}
 use Rattle.schedule.specs.Checks.{Work, atWork, occupied, exceeds, lowestKind, overloaded, lastFinish, quiet, firstPeriod}
-use Rattle.schedule.specs.Arrays.{at}
 use Rattle.schedule.proofs.Starts.{end-largest, before-ends}
 
 -- ---- who is at work
-
-pub at-work-says : (c : Work) (t i : ℕ) → (atWork c t i ≡ true) ↔ ((c .start i < t) × (t ≤ c .start i + c .worked i))
-at-work-says c t i = (
-  (λ e. let w = and-says (ltb (c .start i) t) (leb t (c .start i + c .worked i)) .0 e in (ltb-true _ _ (w .0), leb-true _ _ (w .1))),
-  (λ w. and-both _ _ (lt-ltb (c .start i) t (w .0)) (le-leb t (c .start i + c .worked i) (w .1))),
-)
-
--- "Period t = 1, 2, .. has i at work when its start is at most t−1 and its finish at least t"
-pub at-work-reads : (c : Work) (t i : ℕ) → 0 < t → (atWork c t i ≡ true) ↔ ((c .start i ≤ t - 1) × (t ≤ c .start i + c .worked i))
-at-work-reads c t i h = (
-  (λ e. let w = at-work-says c t i .0 e in (omega (arith, w .0), w .1)),
-  (λ w. at-work-says c t i .1 (omega (arith, w .0), w .1)),
-)
 
 -- IN A SCHEDULE THAT KEEPS THE ARCS, OF TWO THAT ARE AT WORK IN ONE PERIOD NEITHER IS BEFORE THE OTHER
 pub at-work-unrelated :
     (g : Network) (c : Work) → ((i j : ℕ) → Arc g i j → c .worked i ≤ g .weight i j) → Keeps g (c .start)
     → (t i j : ℕ) → atWork c t i ≡ true → atWork c t j ≡ true → Before (Arc g) i j → ⊥
 at-work-unrelated g c w k t i j a b r =
-    omega (arith, before-ends g (c .worked) (c .start) w k r, at-work-says c t i .0 a .1, at-work-says c t j .0 b .0)
+    omega (arith, before-ends g (c .worked) (c .start) w k r, active-says (c .start) (c .worked) t i .0 a .1, active-says (c .start) (c .worked) t j .0 b .0)
 
 -- ---- the first overloaded period
 
@@ -49,16 +37,16 @@ module _ (c : Work) where
 
   -- THE SUM ONLY RISES IN THE PERIOD THAT FOLLOWS A START
   pub only-rises : (t k : ℕ) → ((i : ℕ) → i < c .count → c .start i ≢ t) → occupied c (suc t) k ≤ occupied c t k
-  unfolding occupied
+  unfolding crew.occupied
   only-rises t k h =
       sum-le (c .count) _ _ λ i l. share-mono (suc t) t k i λ e.
-      let w = at-work-says c (suc t) i .0 e in
+      let w = active-says (c .start) (c .worked) (suc t) i .0 e in
       let ne = h i l in
-      at-work-says c t i .1 (omega (arith, w .0), omega (arith, w .1))
+      active-says (c .start) (c .worked) t i .1 (omega (arith, w .0), omega (arith, w .1))
 
   -- a period in which nobody is at work is not overloaded
   idle-zero : (t k : ℕ) → ((i : ℕ) → i < c .count → atWork c t i ≡ false) → occupied c t k ≡ 0
-  unfolding occupied
+  unfolding crew.occupied
   idle-zero t k h = sum-zero (c .count) _ λ i l. cond-false (c .demand k i) 0 (h i l)
 
   -- a period that is not overloaded has no kind exceeded, and one that is has
@@ -94,7 +82,7 @@ module _ (c : Work) where
       omega (arith, idle-zero t k h)
 
   pub none-at-zero : overloaded c 0 ≡ false
-  none-at-zero = idle 0 λ i l. ap (λ (x : Bool). x && leb 0 (c .start i + c .worked i)) (le-ltb (c .start i) 0 (omega arith))
+  none-at-zero = idle 0 λ i l. none-active (c .start) (c .worked) i
 
   -- after the last finish no period is overloaded
   pub none-after : (t : ℕ) → lastFinish c < t → overloaded c t ≡ false

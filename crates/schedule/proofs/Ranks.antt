@@ -7,7 +7,8 @@ use native.Mathlib.Omega.{arith}
 use Rattle.words.specs.Sums.{sum}
 use Rattle.words.proofs.Sums.{sum-lt, sum-ones}
 use Rattle.words.proofs.Tests.{fails, cond-least, cond-at}
-use Rattle.order.specs.Before.{last, Acyclic, StrictOrder}
+use Rattle.order.specs.Before.{last, Acyclic}
+use Rattle.order.specs.Arcs.{StrictOrder}
 use Rattle.order.specs.Orders.{Direct, isBefore, orderIn}
 use Rattle.order.proofs.Before.{before-least}
 use Rattle.order.proofs.Orders.{direct-order, order-means, order-strict}

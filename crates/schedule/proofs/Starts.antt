@@ -11,7 +11,8 @@ use Rattle.words.proofs.Tests.{cond-cong, cond-at, cond-least, cond-reached}
 use Rattle.order.specs.Before.{Before, last}
 use Rattle.order.proofs.Before.{before-least}
 use Rattle.schedule.specs.Network.{Network, Arc, Schedule, Keeps, Ranked}
-use Rattle.schedule.specs.Starts.{asked, rounds, earliestOf, LargestOr0, ArcAsks, FinishBefore, FinishOf, endOf}
+use Rattle.schedule.specs.Starts.{asked, rounds, earliestOf, ArcAsks, FinishBefore, FinishOf, endOf}
+use Rattle.schedule.specs.Lists.{LargestOr0}
 
 module _ (g : Network) where
   -- what the arcs ask goes by the starts of those that have an arc to it

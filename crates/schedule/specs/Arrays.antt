@@ -2,17 +2,14 @@
 use mathlib.Core.Path.{_≡_}
 use mathlib.Core.List.{List}
 use Prim.Native.Nat.{ℕ, _+_, _*_, _^_, _≤_, _<_}
-use lib.ListN.{getD, length}
+use lib.ListN.{length}
 use Rattle.words.specs.Tables.{table}
 use Rattle.order.specs.Rows.{after}
-use Rattle.schedule.specs.Network.{Network, Schedule}
+use Rattle.schedule.specs.Lists.{at}
+use Rattle.schedule.specs.Network.{Network}
 use Rattle.schedule.specs.Starts.{earliestOf}
 use Rattle.schedule.specs.Checks.{Work}
 use Rattle.order.specs.Stored.{elements}
-
--- the numbers of a list, one for each element; 0 past its end
-abbrev pub at : List ℕ → Schedule
-at xs i = getD xs i 0
 
 -- ---- for the earliest starts
 

@@ -2,9 +2,10 @@
 -- Assumes nothing.
 use mathlib.Core.Bool.{Bool, cond, _&&_}
 use Prim.Native.Nat.{ℕ, suc, _+_, _≤_, _<_}
-use lib.Dec.{ltb, leb}
+use lib.Dec.{ltb}
 use Rattle.words.specs.Members.{first}
-use Rattle.words.specs.Sums.{sum}
+use Rattle.flow_math.specs.Crew.{active}
+use Rattle.flow_math.specs.Crew as crew
 use Rattle.schedule.specs.Network.{Network, Arc, Schedule}
 use Rattle.schedule.specs.Starts.{endOf}
 use Rattle.schedule.specs.declared.Checked.{Checked}
@@ -36,15 +37,13 @@ pub record Work : Type 0 where
   pub demand : ℕ → ℕ → ℕ
   pub available : ℕ → ℕ
 
--- "Period t = 1, 2, .. has i at work when its start is at most t−1 and its finish at least t." (Written so that nobody is at work in a
--- period 0: `at-work-reads` of proofs/Periods.antt has the words as they are.) The paper calls the set of these the active set A(s, t).
+-- WHO IS AT WORK AND WHAT IS OCCUPIED, of the work c in period t: what flow_math's Crew says of any crew.
 abbrev pub atWork : Work → ℕ → ℕ → Bool
-atWork c t i = ltb (c .start i) t && leb t (c .start i + c .worked i)
+atWork c t i = active (c .start) (c .worked) t i
 
--- "What is occupied of a kind in a period .. is the sum of that kind's demands over the activities at work."
--- "Sums never wrap": it is a sum of whole numbers.
-unfoldable pub occupied : Work → ℕ → ℕ → ℕ
-occupied c t k = sum (c .count) (λ i. cond (atWork c t i) (c .demand k i) 0)
+-- of kind k. "Sums never wrap": it is a sum of whole numbers.
+abbrev pub occupied : Work → ℕ → ℕ → ℕ
+occupied c t k = crew.occupied (c .count) (c .demand k) (c .start) (c .worked) t
 
 -- in period t more of kind k is occupied than there is
 abbrev pub exceeds : Work → ℕ → ℕ → Bool

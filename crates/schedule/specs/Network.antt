@@ -1,7 +1,7 @@
 -- A network of arcs, and the schedules that keep its arcs. Assumes nothing.
 use mathlib.Core.Bool.{Bool}
 use Prim.Native.Nat.{ℕ, _+_, _≤_, _<_}
-use Rattle.order.specs.Before.{Drawn}
+use Rattle.order.specs.Arcs.{Drawn}
 
 -- So many elements, which pairs of them are arcs, and how long after the start of i the arc from i to j lets j start.
 -- (Here that weight is the duration of i; a wait on an arc would be added to it.)

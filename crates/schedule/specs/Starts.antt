@@ -1,8 +1,7 @@
 -- Earliest starts over a network of arcs, and the start of the end. Assumes nothing.
 use mathlib.Core.Path.{_≡_}
 use mathlib.Core.Bool.{cond}
-use mathlib.Core.Logic.{_⊎_}
-use Prim.Native.Nat.{ℕ, zero, suc, _+_, _≤_, _<_}
+use Prim.Native.Nat.{ℕ, zero, suc, _+_, _<_}
 use Rattle.order.specs.Before.{Before}
 use Rattle.words.specs.Sums.{maximum}
 use Rattle.schedule.specs.Network.{Network, Arc, Schedule}
@@ -29,17 +28,12 @@ endOf m s d = maximum m (λ i. s i + d i)
 
 -- ---- what these are, in the document's words (proofs/Starts.antt shows it)
 
--- x is the largest of the numbers that P picks, or 0 where it picks none
-pub record LargestOr0 (P : ℕ → Type 0) (x : ℕ) : Type 0 where
-  pub upper : (y : ℕ) → P y → y ≤ x
-  pub reached : (x ≡ 0) ⊎ P x
-
 -- y is what an arc asks of the start of j
 abbrev pub ArcAsks : Network → Schedule → ℕ → ℕ → Type 0
 ArcAsks g s j y = (i : ℕ) × Arc g i j × (y ≡ s i + g .weight i j)
 
 -- "An activity starts at the largest finish (start plus duration) of those before it, or at 0": y is a finish of one before j.
--- So the sentence is `LargestOr0 (FinishBefore g s d j) (s j)`.
+-- So the sentence is `LargestOr0 (FinishBefore g s d j) (s j)` (LargestOr0 of Lists).
 abbrev pub FinishBefore : Network → Schedule → (ℕ → ℕ) → ℕ → ℕ → Type 0
 FinishBefore g s d j y = (i : ℕ) × Before (Arc g) i j × (y ≡ s i + d i)
 

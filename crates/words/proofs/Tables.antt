@@ -7,8 +7,8 @@ use native.Mathlib.Omega.{arith}
 use native.Mathlib.Nat.{zero-add}
 use native.Mathlib.Numerals.{add-one}
 use lib.Dec.{ltb}
-use lib.ListN.{length, getD, set, drop, replicate, length-append, length-drop, length-set, length-replicate}
-use lib.Seq.{ext-getD, getD-set-same, getD-set-other, paste-suc, length-take-le, take-length}
+use lib.ListN.{length, getD, set, take, drop, replicate, length-append, length-drop, length-set, length-replicate}
+use lib.Seq.{ext-getD, getD-set-same, getD-set-other, paste-suc, length-take-le, take-length, take-at}
 use borrow.Author.Count.{below-more}
 use borrow.Author.Tests.{ltb-true, ltb-false}
 use Rattle.words.specs.Tables.{table, over}
@@ -46,6 +46,10 @@ over-turn i r d hr hd =
 
 pub length-over : (i : ℕ) (r d : List ℕ) → i ≤ length r → i ≤ length d → length (over i r d) ≡ length d
 length-over i r d hr hd = rw (length-append, length-take-le i r hr, length-drop) (omega arith)
+
+-- what is written over one front, and then from there over another
+pub over-again : (n : ℕ) (r z d : List ℕ) → n ≤ length r → over n (over n r z) d ≡ over n r d
+over-again n r z d h = ap (λ (l : List ℕ). l ++ drop n d) (take-at (take n r) (drop n z) n (length-take-le n r h))
 
 -- the whole of r is written
 pub over-all : (n : ℕ) (r d : List ℕ) → length r ≡ n → over n r d ≡ r ++ drop (length r) d

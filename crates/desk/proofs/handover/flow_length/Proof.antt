@@ -1,7 +1,7 @@
 -- `desk::handover::flow_length` meets its contract, by whether there are activities. Assumes nothing.
 use native.Mathlib.Omega.{arith}
 use Rattle.order.specs.Stored.{elements}
-use Rattle.desk.specs.Flow.{flowLength}
+use Rattle.desk.specs.File.{flowLength}
 use Rattle.desk.proofs.Handing.{length-none}
 use Rattle.desk.proofs.Passing.{pairs-few}
 use borrow.Author.Needs.{needs}

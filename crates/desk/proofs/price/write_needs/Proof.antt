@@ -13,24 +13,30 @@ returns c =
     let a = o .before .before .before .args in
     kept (a .s .now) (a .out .now) (o .open-plan .ensures) (c .before .before .or-cause .ensures) (c .before .is-fine .ensures) (c .if1 .taken)
 
-put-needs-requires : tie.Need-put-needs-requires
-put-needs-requires c κs =
-    let t = c .before .before .before .before in
+needs-of-requires : tie.Need-needs-of-requires
+needs-of-requires c κs =
+    let o = c .before .before .before .before .before in
+    let a = o .before .before .before .args in
+    (opened-few (a .s .now) (o .open-plan .ensures), opened-kinds (a .s .now) (o .open-plan .ensures))
+
+put-numbers-requires : tie.Need-put-numbers-requires
+put-numbers-requires c κs =
+    let t = c .before .before .before in
     let o = t .before .before .before .before in
     let a = o .before .before .before .args in (
-      opened-few (a .s .now) (o .open-plan .ensures),
       opened-kinds (a .s .now) (o .open-plan .ensures),
       room (a .s .now) (a .out .now) (o .open-plan .ensures) (t .before .before .or-cause .ensures) (t .before .is-fine .ensures) (t .if1 .left),
     )
 
 returns-2 : tie.Need-returns-2
 returns-2 c =
-    let t = c .before .before .before .before .before .before .before in
+    let n = c .before .before in
+    let t = n .before .before .before .before in
     let o = t .before .before .before .before in
     let a = o .before .before .before .args in
     let bytes = o .before .before .shared-slice-known .given in
     written (a .s .now) (a .out .now) (o .open-plan .ensures) (t .before .before .or-cause .ensures) (t .before .is-fine .ensures) (t .if1 .left)
-    (λ i. omega (arith, bytes i)) (c .before .before .put-needs .ensures)
+    (λ i. omega (arith, bytes i)) (n .before .before .needs-of .ensures) (n .put-numbers .ensures)
 
 pub write-needs-spec : {M : Type 1} → statement M
 write-needs-spec =
@@ -40,6 +46,7 @@ write-needs-spec =
     (λ c κs. search needs)
     (λ c κs. search needs)
     returns
-    put-needs-requires
+    needs-of-requires
+    put-numbers-requires
     (λ c. search needs)
     returns-2)

@@ -3,11 +3,12 @@ use denote.Ref.{now}
 use mathlib.Core.List.{List}
 use mathlib.Core.Path.{_≡_, ap, _∙_, sym}
 use Prim.Native.Nat.{ℕ, _-_, _≤_}
+use lib.Bits.{bitAnd}
 use native.Mathlib.Omega.{arith}
 use borrow.Author.Needs.{needs}
 use Rattle.words.proofs.Loops.{run-again, run-stop, run-end}
 use Rattle.order.specs.Stored.{elements, numberOf, noSet}
-use Rattle.order.proofs.Stored.{number-none}
+use Rattle.order.proofs.Stored.{number-none, number-of}
 use Rattle.order.proofs.Listing.{is-some}
 use Rattle.flow.specs.Search.{Look, looked, reached, reach, begun}
 use Rattle.flow.proofs.Steps.{begins}
@@ -22,16 +23,19 @@ abbrev μ-loop : tie.MeasureT-loop
 μ-loop rows givers slack lefts₀ rights₀ s₀ k₀ lefts rights s k = elements - k
 
 -- the search begins with the roots alone
-from-roots : (rows givers : List ℕ) (slack : ℕ) (lefts rights : List ℕ) (roots : ℕ)
-    → reach elements rows givers slack (reached (record { frontier = roots; next = numberOf noSet; left = roots; right = numberOf noSet; at = elements }) lefts rights)
-    ≡ reach elements rows givers slack (reached (begun roots) lefts rights)
-from-roots rows givers slack lefts rights roots = ap (λ (x : Look). reach elements rows givers slack (reached x lefts rights)) (begins roots number-none)
+from-roots : {begin : ℕ} (rows givers : List ℕ) (slack : ℕ) (lefts rights : List ℕ) (able roots : ℕ) → begin ≡ bitAnd roots able
+    → reach elements rows givers slack (reached (record { frontier = begin; next = numberOf noSet; left = roots; right = numberOf noSet; at = elements }) lefts rights)
+    ≡ reach elements rows givers slack (reached (begun able roots) lefts rights)
+from-roots rows givers slack lefts rights able roots e = ap (λ (x : Look). reach elements rows givers slack (reached x lefts rights)) (begins able roots number-none e)
 
 returns : tie.Need-returns Inv-loop μ-loop
 returns c =
     let at = c .before .before .before in
     run-stop _ _ _ _ elements _ _ (at .loop-test .taken) (sym (c .before .is-empty .ensures .0) ∙ c .if1 .taken) (at .before .loop .inv)
-    ∙ (let a = at .before .before .args in from-roots (now (a .rows)) (now (a .givers)) (numberOf (a .slack)) (now (a .lefts)) (now (a .rights)) (numberOf (a .roots)))
+    ∙ (let first = at .before .before in
+    let a = first .before .args in
+    from-roots (now (a .rows)) (now (a .givers)) (numberOf (a .slack)) (now (a .lefts)) (now (a .rights)) (numberOf (a .able)) (numberOf (a .roots))
+    (number-of _ (first .meet .ensures)))
 
 turn-requires : tie.Need-turn-requires Inv-loop μ-loop
 turn-requires c κs =
@@ -47,9 +51,11 @@ loop-again c =
 
 returns-2 : tie.Need-returns-2 Inv-loop μ-loop
 returns-2 c =
-    let a = c .before .before .args in
+    let first = c .before .before in
+    let a = first .before .args in
     run-end _ _ _ _ elements _ _ (c .loop-test .left) (c .before .loop .inv)
-    ∙ from-roots (now (a .rows)) (now (a .givers)) (numberOf (a .slack)) (now (a .lefts)) (now (a .rights)) (numberOf (a .roots))
+    ∙ from-roots (now (a .rows)) (now (a .givers)) (numberOf (a .slack)) (now (a .lefts)) (now (a .rights)) (numberOf (a .able)) (numberOf (a .roots))
+    (number-of _ (first .meet .ensures))
 
 pub seek-spec : {M : Type 1} → statement M
-seek-spec = tie.close (tie.spec Inv-loop μ-loop (λ c. search needs) (λ c κs. search needs) returns turn-requires (λ c. search needs) (λ c. search needs) loop-again returns-2)
+seek-spec = tie.close (tie.spec Inv-loop μ-loop (λ c κs. search needs) (λ c. search needs) (λ c κs. search needs) returns turn-requires (λ c. search needs) (λ c. search needs) loop-again returns-2)

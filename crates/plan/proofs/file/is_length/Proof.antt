@@ -1,7 +1,7 @@
 -- `plan::file::is_length` meets its contract: each `return` rewrites with the tests and the calls that led there. Assumes nothing.
 use native.Mathlib.Omega.{arith}
 use borrow.Author.Tests.{lt-ltb, le-ltb, lt-leb, le-leb}
-use Rattle.plan.specs.Reads.{isLength}
+use Rattle.plan.specs.Causes.{isLength}
 use Rattle.plan.proofs.file.is_length.Statement.{statement}
 use Rattle.plan.proofs.file.is_length.Tie as tie
 

@@ -3,7 +3,8 @@ use mathlib.Core.Path.{_≡_}
 use native.Mathlib.Omega.{arith}
 use borrow.Author.Needs.{needs}
 use Rattle.schedule.specs.Checks.{brokenFrom}
-use Rattle.schedule.specs.Arrays.{at, crewNet, workOf}
+use Rattle.schedule.specs.Arrays.{crewNet, workOf}
+use Rattle.schedule.specs.Lists.{at}
 use Rattle.schedule.proofs.Arcs.{broken-to-first}
 use Rattle.schedule.proofs.Periods.{lowest-first}
 use Rattle.schedule.proofs.Answers.{check-broken, check-over, check-fits}

@@ -8,7 +8,8 @@ use lib.ListN.{length, getD}
 use borrow.Author.Needs.{needs}
 use Rattle.words.specs.Sums.{sum}
 use Rattle.words.proofs.Sums.{sum-next}
-use Rattle.schedule.specs.Checks.{occupied, atWork}
+use Rattle.flow_math.specs.Crew as crew
+use Rattle.schedule.specs.Checks.{atWork}
 use Rattle.schedule.specs.Arrays.{workOf}
 use Rattle.schedule.proofs.crew.occupied_at.Statement.{statement}
 use Rattle.schedule.proofs.crew.occupied_at.Tie as tie
@@ -31,7 +32,7 @@ loop-again c =
     (omega arith, omega arith, sum-next (a .loop .i) _ (a .loop .used) (c .share .result) _ (a .loop .inv .2) (sym (c .share .ensures .0)) refl)
 
 returns : tie.Need-returns Inv-loop μ-loop
-unfolding occupied
+unfolding crew.occupied
 returns c =
     let e : c .before .loop .i ≡ length (c .before .before .before .before .args .starts .now) = omega arith in rw e at (c .before .loop .inv .2)
 

@@ -11,7 +11,7 @@ use Rattle.order.specs.Stored.{elements}
 use Rattle.order.proofs.Stored.{number-of}
 use Rattle.order.specs.Rows.{after}
 use Rattle.schedule.specs.Starts.{asked}
-use Rattle.schedule.specs.Arrays.{at}
+use Rattle.schedule.specs.Lists.{at}
 use Rattle.schedule.proofs.early.latest.Statement.{statement}
 use Rattle.schedule.proofs.early.latest.Tie as tie
 
