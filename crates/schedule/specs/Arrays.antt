@@ -1,4 +1,4 @@
--- A plan's arrays: arcs as 64 rows of bits, a duration for each element, and a demand for each kind and element. Assumes nothing.
+-- A plan's arrays: arcs as a table of sets, a duration for each element, and a demand for each kind and element. Assumes nothing.
 use mathlib.Core.Path.{_≡_}
 use mathlib.Core.List.{List}
 use Prim.Native.Nat.{ℕ, _+_, _*_, _^_, _≤_, _<_}
@@ -13,7 +13,7 @@ use Rattle.order.specs.Stored.{elements}
 
 -- ---- for the earliest starts
 
--- the network of 64 elements with an arc from i to each member of row i
+-- the network of all elements with an arc from i to each member of row i
 abbrev pub netOf : List ℕ → (ℕ → ℕ → ℕ) → Network
 netOf rows weight = record { elements = elements; arc = after rows; weight = weight }
 
@@ -35,7 +35,7 @@ FinishesFit starts weight = (i j : ℕ) → i < elements → at starts i + weigh
 
 -- ---- for the crew check: "Given m starts and m worked durations"
 
--- a start and a worked duration for each of at most 64 activities
+-- a start and a worked duration for each activity, of which there are no more than elements
 pub record Listed (starts worked : List ℕ) : Type 0 where
   pub few : length starts ≤ elements
   pub paired : length worked ≡ length starts
@@ -44,7 +44,7 @@ pub record Listed (starts worked : List ℕ) : Type 0 where
 abbrev pub crewNet : List ℕ → List ℕ → List ℕ → Network
 crewNet rows starts worked = record { elements = length starts; arc = after rows; weight = byDuration worked }
 
--- the work of the crew: the demand of the element i for kind k stands at 64 * k + i
+-- the work of the crew: the demand of the element i for kind k stands at elements * k + i
 abbrev pub workOf : List ℕ → List ℕ → List ℕ → List ℕ → Work
 workOf demands available starts worked =
     record {
