@@ -1,6 +1,6 @@
 /* Yaffledesk for C and C++: the planner's operations on the bytes of a plan file.
  *
- * Link target/staticlib/libcounter.a, which `rt staticlib counter` writes.
+ * Link target/staticlib/libyaffledesk.a, which `rt staticlib yaffledesk` writes.
  *
  * Every operation takes the plan as it stands in the file: records of 24 bytes, no header. It answers one number of 64 bits. The
  * low 8 bits are the answer's number: 0 where the operation was done, else one of the numbers below. The bits above are its rest:

@@ -5,12 +5,12 @@ ghost use Prim.Native.Nat.{_%_, _^_, _≤_};
 ghost use Rattle.order.specs.Before.{Acyclic};
 ghost use Rattle.order.specs.Stored.{elements, numberOf as setNumber};
 ghost use Rattle.order.specs.Orders.{afterRows, Direct, orderIn, joinedRows};
-ghost use Rattle.plan.specs.Reads.{readOf};
-ghost use Rattle.schedule.specs.Arrays.{byDuration, startsOf, AllAtMost, Listed, crewNet, workOf};
+ghost use Rattle.plan.specs.model.Reads.{readOf};
+ghost use Rattle.schedule.specs.model.Arrays.{byDuration, startsOf, AllAtMost, Listed, crewNet, workOf};
 ghost use Rattle.schedule.specs.Checks.{checkOf};
 ghost use Rattle.bench_c.specs.Numbers.{numberOf};
-ghost use Rattle.flow.specs.Solve.{ranked};
-ghost use Rattle.flow.specs.Quote.{unused, Clean, quoteIn, quoteOf, flowOf};
+ghost use Rattle.solver.specs.model.Solve.{ranked};
+ghost use Rattle.solver.specs.model.Quote.{unused, Clean, quoteIn, quoteOf, flowOf};
 use order::ELEMENTS;
 use order::Order;
 use order::Rows;
@@ -30,8 +30,8 @@ pub extern "C" fn yaffledesk_quote(
     ensures { λ r. ⌜ (r ≡ quoteOf m (orderIn (now (arcs .entry))) (now (demand .entry)) .need) × (now (set .exit) ≡ setNumber (quoteOf m (orderIn (now (arcs .entry))) (now (demand .entry)) .set) % 2 ^ 64) × (now (flow .exit) ≡ flowOf m (orderIn (now (arcs .entry))) (now (demand .entry))) ⌝ }
 {
     let rows = *arcs;
-    flow::clear(flow, m);
-    let q = flow::quote(Order::of(rows), m, demand, flow);
+    solver::clear(flow, m);
+    let q = solver::quote(Order::of(rows), m, demand, flow);
     let shown = q.set;
     let word = shown.first_word();
     *set = word;
@@ -44,7 +44,7 @@ pub extern "C" fn yaffledesk_bench_ranks(rows: &Rows, m: usize, ranks: &mut Rows
     requires { ⌜ m ≤ elements ⌝ }
     ensures { λ _. ⌜ now (ranks .exit) ≡ ranked m (now (rows .entry)) ⌝ }
 {
-    let r = flow::ranks(rows, m);
+    let r = solver::ranks(rows, m);
     *ranks = r;
 }
 
@@ -61,7 +61,7 @@ pub extern "C" fn yaffledesk_bench_weigh(
     requires { ⌜ (m ≤ elements) × (now ranks ≡ ranked m (now rows)) × (now flow ≡ unused) ⌝ }
     ensures { λ r. ⌜ (r ≡ quoteIn m (now (rows .entry)) (now (demand .entry)) .need) × (now (set .exit) ≡ setNumber (quoteIn m (now (rows .entry)) (now (demand .entry)) .set) % 2 ^ 64) × (now (flow .exit) ≡ unused) ⌝ }
 {
-    let w = flow::weigh_ranked(rows, ranks, m, demand, flow);
+    let w = solver::weigh_ranked(rows, ranks, m, demand, flow);
     let heaviest = w.set;
     let bits = heaviest.first_word();
     *set = bits;

@@ -1,5 +1,5 @@
 -- A crew: one start and one duration for each element, in any whole numbers; who is at work in a period, and what is then occupied. THE ONLY DEFINITION of both: the
--- crew check (schedule), the file's crews (desk) and the theorems here all speak of it. Assumes nothing.
+-- crew check (schedule), the file's crews (planner) and the theorems here all speak of it. Assumes nothing.
 use mathlib.Core.Path.{_≡_}
 use mathlib.Core.Bool.{Bool, true, cond, _&&_}
 use Prim.Native.Nat.{ℕ, _+_, _≤_, _<_}

@@ -9,9 +9,9 @@ use Rattle.order.specs.declared.Order.{Order}
 use Rattle.records.specs.Records.{flowRecord, joined}
 use Rattle.flow_math.specs.Handover.{row, col}
 use Rattle.flow_math.specs.Flow.{nodeFlow}
-use Rattle.flow.specs.Network.{handed}
-use Rattle.flow.specs.Quote.{quoteOf, flowOf}
-use Rattle.flow.specs.Sound.{asked}
+use Rattle.solver.specs.model.Network.{handed}
+use Rattle.solver.specs.model.Quote.{quoteOf, flowOf}
+use Rattle.solver.specs.Sound.{asked}
 use Rattle.kinds.specs.Needs.{demandsFor}
 
 -- ---- units

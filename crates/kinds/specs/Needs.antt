@@ -10,8 +10,8 @@ use Rattle.order.specs.Stored.{elements, noSet, numberOf}
 use Rattle.order.specs.Sets.{sizeOf}
 use Rattle.order.specs.declared.Order.{Order}
 use Rattle.records.specs.Records.{overloadRecord}
-use Rattle.flow.specs.Quote.{quoteOf}
-use Rattle.flow.specs.declared.Quoted.{Quoted}
+use Rattle.solver.specs.model.Quote.{quoteOf}
+use Rattle.solver.specs.declared.Quoted.{Quoted}
 use Rattle.kinds.specs.declared.Overload.{Overload}
 
 -- the demand of the element i for kind k, in the table of all demands

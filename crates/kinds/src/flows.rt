@@ -2,12 +2,12 @@
 ghost use mathlib.Core.Path.{_≡_};
 ghost use Prim.Native.Nat.{suc, _+_, _≤_, _<_};
 ghost use Rattle.order.specs.Stored.{elements};
-ghost use Rattle.flow.specs.Network.{handed};
-ghost use Rattle.flow.specs.Quote.{quoteOf, flowOf};
-ghost use Rattle.flow.specs.Sound.{asked};
+ghost use Rattle.solver.specs.model.Network.{handed};
+ghost use Rattle.solver.specs.model.Quote.{quoteOf, flowOf};
+ghost use Rattle.solver.specs.Sound.{asked};
 ghost use Rattle.kinds.specs.Needs.{demandsFor};
 ghost use Rattle.kinds.specs.Flows.{Bounded, units, markOf, pairsFrom, pairsOf, kindUnits};
-ghost use Rattle.kinds.specs.Writing.{Room, lent, putPair, putRow, putFlow};
+ghost use Rattle.kinds.specs.model.Writing.{Room, lent, putPair, putRow, putFlow};
 use crate::needs::demands_for;
 use crate::units::units;
 use order::ELEMENTS;
@@ -126,7 +126,7 @@ pub fn write_flow(
 {
     let own = demands_for(demand, k);
     let mut flow: [u32; ELEMENTS * ELEMENTS] = [0; ELEMENTS * ELEMENTS];
-    let quoted = flow::quote(order, m, &own, &mut flow);
+    let quoted = solver::quote(order, m, &own, &mut flow);
     let need = quoted.need;
     let spare = available - need;
     put_flow(out, byte(k + 1), m, &own, &flow, spare, job)

@@ -28,11 +28,11 @@ pub fn put_needs(out: &mut [u32], order: Order, m: usize, demand: &[u32; 8 * ELE
     ensures { λ _. ⌜ now (out .exit) ≡ over n (needsFor m order (now (demand .entry)) n) (now (out .entry)) ⌝ }
 {
     let rows = order.after_rows();
-    let ranks = flow::ranks(&rows, m);
+    let ranks = solver::ranks(&rows, m);
     let mut flow: [u32; ELEMENTS * ELEMENTS] = [0; ELEMENTS * ELEMENTS];
     for k in 0..n {
         let own = demands_for(demand, k);
-        let quoted = flow::weigh_ranked(&rows, &ranks, m, &own, &mut flow);
+        let quoted = solver::weigh_ranked(&rows, &ranks, m, &own, &mut flow);
         out[k] = quoted.need;
     }
 }
@@ -49,11 +49,11 @@ pub fn lowest_overload(
     ensures { λ r. ⌜ r ≡ lowestOverload m order (now (demand .entry)) (now (available .entry)) n ⌝ }
 {
     let rows = order.after_rows();
-    let ranks = flow::ranks(&rows, m);
+    let ranks = solver::ranks(&rows, m);
     let mut flow: [u32; ELEMENTS * ELEMENTS] = [0; ELEMENTS * ELEMENTS];
     for k in 0..n {
         let own = demands_for(demand, k);
-        let quoted = flow::weigh_ranked(&rows, &ranks, m, &own, &mut flow);
+        let quoted = solver::weigh_ranked(&rows, &ranks, m, &own, &mut flow);
         let set = quoted.set;
         let need = quoted.need;
         let limit = available[k];

@@ -3,8 +3,8 @@ ghost use mathlib.Core.Path.{_≡_};
 ghost use Prim.Native.Nat.{suc, _≤_, _<_, _^_};
 ghost use Rattle.order.specs.Stored.{elements};
 ghost use Rattle.flow_math.specs.Handover.{row, col};
-ghost use Rattle.flow.specs.Network.{handed};
-ghost use Rattle.flow.specs.Sound.{asked};
+ghost use Rattle.solver.specs.model.Network.{handed};
+ghost use Rattle.solver.specs.Sound.{asked};
 ghost use Rattle.kinds.specs.Flows.{Bounded, units};
 use order::ELEMENTS;
 

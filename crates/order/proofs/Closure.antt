@@ -12,7 +12,7 @@ use borrow.Author.Tests.{eqb-true}
 use lib.Bits.{bitOr, or-lt}
 use lib.ListN.{length}
 use Rattle.words.specs.Bits.{bit}
-use Rattle.words.specs.Loops.{upto}
+use Rattle.words.specs.model.Loops.{upto}
 use Rattle.words.proofs.Tests.{clash, or-says, and-says, or-left, or-right, cond-has, below-suc, same-or-not}
 use Rattle.words.proofs.Bits.{bit-above, bit-or, bit-zero}
 use Rattle.order.specs.Before.{Before, last}

@@ -11,7 +11,7 @@ use lib.Bits.{bitAnd}
 use lib.Dec.{eqb}
 use Rattle.words.specs.Bits.{bit, minus, rest}
 use Rattle.words.specs.Members.{first}
-use Rattle.words.specs.Loops.{each, upto}
+use Rattle.words.specs.model.Loops.{each, upto}
 use Rattle.words.proofs.Tests.{clash, fails, by-test, and-both, and-right, or-left, or-right, false-of-not, eqb-says, cond-true, cond-false, cond-has}
 use Rattle.words.proofs.Bits.{bit-zero, bit-and, bit-minus}
 use Rattle.words.proofs.Members.{low-member, bit-rest}

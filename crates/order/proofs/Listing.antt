@@ -6,7 +6,7 @@ use mathlib.Core.Bool.{Bool, true, false, not}
 use Prim.Native.Nat.{ℕ, _<_}
 use lib.Dec.{eqb}
 use borrow.Author.Tests.{eqb-true, eqb-false}
-use Rattle.words.specs.Loops.{each}
+use Rattle.words.specs.model.Loops.{each}
 use Rattle.words.proofs.Tests.{false-of-not}
 use Rattle.words.proofs.Loops.{each-again, each-end, each-still}
 use Rattle.words.proofs.Members.{low-place, rest-less}

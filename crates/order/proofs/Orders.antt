@@ -7,7 +7,7 @@ use Prim.Native.Nat.{ℕ, _≤_, _<_}
 use lib.Bits.{bitOr}
 use lib.ListN.{length}
 use Rattle.words.specs.Bits.{bit}
-use Rattle.words.specs.Loops.{upto}
+use Rattle.words.specs.model.Loops.{upto}
 use Rattle.words.proofs.Bits.{bit-or}
 use Rattle.words.proofs.Tests.{clash, or-says}
 use Rattle.order.specs.Before.{Before, Joined, Acyclic}

@@ -10,7 +10,7 @@ use lib.ListN.{length, getD, replicate, length-set, length-replicate, List·getD
 use lib.Seq.{ext-getD, getD-set-same, getD-set-other}
 use Rattle.words.specs.Bits.{wordBits, bit, digit}
 use Rattle.words.proofs.Bits.{bit-one, digit-not, digit-none}
-use Rattle.words.specs.Loops.{upto}
+use Rattle.words.specs.model.Loops.{upto}
 use Rattle.words.proofs.Tables.{updated, length-table, getD-table, getD-zeros}
 use Rattle.order.specs.Stored.{elements, bound, everyone, allSet, noSet, numberOf, setOf, cells, row, putRow, rowTable, RowsFit}
 use Rattle.order.specs.Rows.{updateRow}

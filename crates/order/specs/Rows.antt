@@ -10,7 +10,7 @@ use lib.Dec.{eqb}
 use lib.ListN.{length, replicate}
 use Rattle.words.specs.Bits.{bit, withBit}
 use Rattle.words.specs.Members.{first}
-use Rattle.words.specs.Loops.{each, upto}
+use Rattle.words.specs.model.Loops.{each, upto}
 use Rattle.order.specs.Before.{Before}
 use Rattle.order.specs.Arcs.{Arc, arc}
 use Rattle.order.specs.Stored.{cells, row, putRow, rowTable, RowsFit}

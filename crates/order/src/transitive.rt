@@ -1,7 +1,7 @@
 // Rows that stay transitive while they gain: what an arc adds to them, and what a way through an element does.
 ghost use mathlib.Core.Path.{_≡_};
 ghost use Prim.Native.Nat.{_<_};
-ghost use Rattle.words.specs.Loops.{upto};
+ghost use Rattle.words.specs.model.Loops.{upto};
 ghost use Rattle.order.specs.Stored.{elements, numberOf};
 ghost use Rattle.order.specs.Rows.{gained, updateRow, passed, passing, endsIn, passingOver};
 use crate::ELEMENTS;

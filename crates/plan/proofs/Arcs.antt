@@ -11,7 +11,7 @@ use lib.ListN.{length, replicate}
 use lib.Dec.{eqb}
 use borrow.Author.Tests.{eqb-true, eqb-false, eq-eqb, ne-eqb}
 use Rattle.words.specs.Bits.{bit, withBit}
-use Rattle.words.specs.Loops.{upto}
+use Rattle.words.specs.model.Loops.{upto}
 use Rattle.words.proofs.Bits.{bit-or, bit-single}
 use Rattle.words.proofs.Tests.{or-says, by-test, cond-true, cond-false}
 use Rattle.order.specs.Rows.{after}
@@ -19,8 +19,8 @@ use Rattle.records.specs.Bytes.{byte}
 use Rattle.order.specs.Stored.{elements, cells, row, putRow}
 use Rattle.order.proofs.Stored.{length-put, length-blank, row-put-same, row-put-other}
 use Rattle.plan.specs.Records.{recordAt, typeAt}
-use Rattle.plan.specs.Plans.{withArc, arcsUpTo}
-use Rattle.plan.specs.Phases.{putArc}
+use Rattle.plan.specs.model.Plans.{withArc, arcsUpTo}
+use Rattle.plan.specs.model.Phases.{putArc}
 use Rattle.plan.proofs.Places.{record-on}
 
 -- ---- runs of records

@@ -1,13 +1,13 @@
--- Laws of the definitions of `specs/`. Callers cite Said and Refused; the proofs of the code cite Turns and `file-read` of Phases; the others lead
+-- Laws of the definitions of `specs/`. Callers cite Said and Refused; the proofs of the code cite ReaderLoops and `file-read` of Phases; the others lead
 -- up to these.
 pub mod Refusals
 pub mod Places
-pub mod Facts
+pub mod RecordRules
 pub mod Stores
 pub mod Arcs
 pub mod Parts
 pub mod Phases
-pub mod Turns
+pub mod ReaderLoops
 pub mod Said
 pub mod Refused
 pub mod Cases

@@ -8,19 +8,19 @@ use native.Mathlib.Nat.{zero-add, eq-or-lt-of-le}
 use native.Mathlib.Omega.{arith}
 use lib.ListN.{replicate}
 use borrow.Author.Tests.{eq-eqb, ne-eqb}
-use Rattle.words.specs.Loops.{upto}
+use Rattle.words.specs.model.Loops.{upto}
 use Rattle.words.proofs.Tests.{cond-true, cond-false}
 use Rattle.order.specs.Stored.{elements, cells}
 use Rattle.plan.specs.declared.Answer.{Answer}
 use Rattle.plan.specs.declared.Answer.the-variants.{Readable, Refused}
 use Rattle.plan.specs.declared.Cause.the-variants.{RecordType}
 use Rattle.plan.specs.Records.{recordAt, recordCount, typeAt, activityCount, jobCount, dueType, activities, demandsOf}
-use Rattle.plan.specs.Plans.{arcsUpTo, arcRows}
+use Rattle.plan.specs.model.Plans.{arcsUpTo, arcRows}
 use Rattle.plan.specs.Causes.{isReadable, activityCause, causeAt, firstRefusal, followedBy, crewThere, recordsCause}
-use Rattle.plan.specs.Phases.{putArc}
+use Rattle.plan.specs.model.Phases.{putArc}
 use Rattle.plan.proofs.Refusals.{followed-left, followed-right, all-readable, none-refused}
 use Rattle.plan.proofs.Places.{leading-le, leading-typed}
-use Rattle.plan.proofs.Facts.{activity-kept, CrewKept, crew-kept, ArcKept, arc-kept, at-activity, at-crew, at-arc, due-job, due-extra}
+use Rattle.plan.proofs.RecordRules.{activity-kept, CrewKept, crew-kept, ArcKept, arc-kept, at-activity, at-crew, at-arc, due-job, due-extra}
 use Rattle.plan.proofs.Arcs.{arcs-none, arcs-run, arcs-start}
 
 -- no record has a cause, and the crew record is there

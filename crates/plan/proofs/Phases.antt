@@ -7,7 +7,7 @@ use Prim.Native.Nat.{ℕ, suc, _+_, _-_, _*_, _≤_, _<_}
 use native.Mathlib.Nat.{add-zero}
 use native.Mathlib.Omega.{arith}
 use lib.ListN.{length, drop, replicate}
-use Rattle.words.specs.Loops.{upto}
+use Rattle.words.specs.model.Loops.{upto}
 use Rattle.words.specs.Tables.{table}
 use Rattle.records.specs.Bytes.{byte}
 use Rattle.order.specs.Stored.{elements, cells}
@@ -17,13 +17,13 @@ use Rattle.plan.specs.declared.Cause.the-variants.{Length, RecordType}
 use Rattle.plan.specs.declared.Plan.{Plan}
 use Rattle.plan.specs.declared.Reading.{Reading}
 use Rattle.plan.specs.Records.{recordAt, recordCount, activityCount, jobCount, leading, availableIn, dueType, activities, demandsOf}
-use Rattle.plan.specs.Plans.{planOf, emptyPlan, durationsOf, availableOf}
+use Rattle.plan.specs.model.Plans.{planOf, emptyPlan, durationsOf, availableOf}
 use Rattle.plan.specs.Causes.{isReadable, activityCause, crewCause, arcCause, causeAt, firstRefusal, followedBy, recordsCause, isLength, answerOf}
-use Rattle.plan.specs.Reads.{readOf}
-use Rattle.plan.specs.Phases.{putDuration, putDemands, putArc, refusalOf, unlessRefused, restOf, fileOf}
+use Rattle.plan.specs.model.Reads.{readOf}
+use Rattle.plan.specs.model.Phases.{putDuration, putDemands, putArc, refusalOf, unlessRefused, restOf, fileOf}
 use Rattle.plan.proofs.Refusals.{followed-assoc, followed-none, refusal-cong, refusal-split, refusal-one, all-readable}
 use Rattle.plan.proofs.Places.{record-on, record-next, leading-le}
-use Rattle.plan.proofs.Facts.{at-activity, at-crew, at-arc, due-job, due-extra}
+use Rattle.plan.proofs.RecordRules.{at-activity, at-crew, at-arc, due-job, due-extra}
 use Rattle.plan.proofs.Stores.{durations-stored, demands-stored}
 use Rattle.plan.proofs.Parts.{Faultless, faultless, crew-missing, crew-there, crew-or-missing, few-activities, job-rows, extra-rows}
 

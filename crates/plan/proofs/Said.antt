@@ -23,11 +23,11 @@ use Rattle.order.specs.Stored.{elements}
 use Rattle.plan.specs.declared.Answer.the-variants.{Refused}
 use Rattle.plan.specs.declared.Cause.the-variants.{Length}
 use Rattle.plan.specs.Records.{recordAt, recordCount, typeAt, activityCount, dueType, durationIn, demandIn, availableIn, demandsOf}
-use Rattle.plan.specs.Plans.{durationsOf, availableOf, arcsUpTo, arcRows, planOf}
+use Rattle.plan.specs.model.Plans.{durationsOf, availableOf, arcsUpTo, arcRows, planOf}
 use Rattle.plan.specs.Causes.{isReadable, recordsCause, isLength, answerOf}
 use Rattle.plan.specs.Meaning.{Readable}
-use Rattle.plan.specs.Said.{ArcsOf, Said}
-use Rattle.plan.proofs.Facts.{activity-kept, ArcKept}
+use Rattle.plan.specs.model.Said.{ArcsOf, Said}
+use Rattle.plan.proofs.RecordRules.{activity-kept, ArcKept}
 use Rattle.plan.proofs.Arcs.{arcs-skip, arcs-more, arcs-start, length-arcs, with-arc}
 use Rattle.plan.proofs.Parts.{Faultless, faultless, activity-typed, activity-fine, few, crew-fine, arc-fine, no-arc}
 

@@ -9,14 +9,14 @@ use lib.ListN.{length, getD, replicate, length-set, length-replicate}
 use lib.Seq.{getD-set-same, getD-set-other}
 use lib.Dec.{ltb}
 use borrow.Author.Tests.{ltb-true, ltb-false}
-use Rattle.words.specs.Loops.{upto}
+use Rattle.words.specs.model.Loops.{upto}
 use Rattle.words.specs.Tables.{table}
 use Rattle.words.proofs.Tests.{by-test, below-suc, cond-true, cond-false}
 use Rattle.words.proofs.Tables.{is-table, stored, getD-zeros}
 use Rattle.order.specs.Stored.{elements}
 use Rattle.plan.specs.Records.{recordAt, activityCount, durationIn, demandIn, demandsOf}
-use Rattle.plan.specs.Plans.{durationsOf}
-use Rattle.plan.specs.Phases.{putDuration, putDemand, putDemands}
+use Rattle.plan.specs.model.Plans.{durationsOf}
+use Rattle.plan.specs.model.Phases.{putDuration, putDemand, putDemands}
 
 pub durations-stored : (s : List ℕ) → activityCount s ≤ elements → upto (putDuration s) (activityCount s) (replicate elements 0) ≡ durationsOf s
 unfolding durationsOf

@@ -1,11 +1,13 @@
--- What an answer means, in plain words: when a file is readable, and which arcs its records name. No table of a plan is needed for it. What a refusal says is Refused.
+-- What a file says, in plain words: when it is readable, which arcs, and which durations, demands and availabilities. THE ONE HOME of what is in force: everything above
+-- speaks of a file in these words, and no table of a plan is needed for them. What a refusal says is Refused. Element i is activity i + 1, kind k is kind k + 1.
 -- Whoever uses a plan cites the laws of `proofs/Said.antt` and `proofs/Refused.antt`, and not the reader's text. Assumes nothing.
 use mathlib.Core.Path.{_≡_}
 use mathlib.Core.Bool.{true}
 use mathlib.Core.List.{List}
-use Prim.Native.Nat.{ℕ, _+_, _<_}
-use Rattle.records.specs.Bytes.{byte}
-use Rattle.plan.specs.Records.{recordAt, recordCount, typeAt}
+use Prim.Native.Nat.{ℕ, _+_, _*_, _<_}
+use Rattle.order.specs.Before.{Joined}
+use Rattle.records.specs.Bytes.{byte, field}
+use Rattle.plan.specs.Records.{recordAt, recordCount, typeAt, activityCount}
 use Rattle.plan.specs.Causes.{isReadable, answerOf}
 
 -- "It is readable when it meets none of causes 1 to 4"
@@ -21,3 +23,33 @@ pub record Names (s : List ℕ) (type i j : ℕ) : Type 0 where
   pub typed : typeAt s place ≡ type
   pub from : byte (recordAt s place) 1 ≡ i + 1
   pub to : byte (recordAt s place) 2 ≡ j + 1
+
+-- a job arc record or an extra arc record names the pair
+abbrev pub FileArc : List ℕ → ℕ → ℕ → Type 0
+FileArc s = Joined (Names s 3) (Names s 4)
+
+-- ---- the activities and the crew of a file
+
+-- which record speaks for element i: its own, the one at place i
+abbrev pub activityRecord : List ℕ → ℕ → List ℕ
+activityRecord s i = recordAt s i
+
+-- the crew record follows the activities
+abbrev pub crewRecord : List ℕ → List ℕ
+crewRecord s = recordAt s (activityCount s)
+
+-- "2–3 duration": that of element i
+abbrev pub fileDuration : List ℕ → ℕ → ℕ
+fileDuration s i = field (activityRecord s i) 2 2
+
+-- "4–19 eight demands of two bytes, kinds 1 to 8": what element i demands of kind k
+abbrev pub fileDemand : List ℕ → ℕ → ℕ → ℕ
+fileDemand s k i = field (activityRecord s i) (4 + 2 * k) 2
+
+-- "byte 1 the count K of kinds"
+abbrev pub fileKinds : List ℕ → ℕ
+fileKinds s = byte (crewRecord s) 1
+
+-- "4–19 eight availabilities": how much of kind k is available
+abbrev pub fileAvailable : List ℕ → ℕ → ℕ
+fileAvailable s k = field (crewRecord s) (4 + 2 * k) 2

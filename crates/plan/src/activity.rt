@@ -2,11 +2,11 @@
 ghost use mathlib.Core.Path.{_≡_};
 ghost use Prim.Native.Nat.{_*_, _≤_, _<_};
 ghost use lib.ListN.{length};
-ghost use Rattle.words.specs.Loops.{upto};
+ghost use Rattle.words.specs.model.Loops.{upto};
 ghost use Rattle.order.specs.Stored.{elements};
 ghost use Rattle.plan.specs.Records.{activityFields, recordAt};
 ghost use Rattle.plan.specs.Causes.{activityCause, firstRefusal};
-ghost use Rattle.plan.specs.Phases.{putDuration, putDemand, putDemands};
+ghost use Rattle.plan.specs.model.Phases.{putDuration, putDemand, putDemands};
 use crate::ACTIVITIES;
 use crate::Answer;
 use crate::checks::first_cause;

@@ -7,7 +7,7 @@ mod field;
 mod file;
 
 ghost use mathlib.Core.Path.{_≡_};
-ghost use Rattle.plan.specs.Reads.{readOf};
+ghost use Rattle.plan.specs.model.Reads.{readOf};
 use file::is_length;
 use file::read_file;
 use file::refusal;

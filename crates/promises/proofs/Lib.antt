@@ -1,26 +1,26 @@
--- The theorems on what the desk answers and writes.
+-- The theorems on what the planner answers and writes.
 --
--- OURS KEEPS THE THREE DEMANDS is Keeping. Demand 1 is Inputs and Refusing. Demand 2 is Papers; it rests on Circling (causes 5 and 6), Earliest (starts) and
--- Checks (crew check). Demand 3, THE PRICE-LIST SENTENCE, is Promise; it rests on Quoting (needs, sets and crews, in the
--- file's own terms), Flowing (flows) and Showing (overload).
--- Equal: plans that say the same get equal flows; it rests on Alike. Computed: the starred cases. Hollow: the hollow planners keep no price list.
--- What the other answers mean, in the file's own terms: Faults (causes 1 to 6), Crews and Findings (the crew check), Answering (which case has which answer).
-pub mod Quoting
-pub mod Flowing
-pub mod Showing
-pub mod Faults
-pub mod Promise
-pub mod Alike
-pub mod Equal
-pub mod Answering
-pub mod Crews
-pub mod Findings
-pub mod Inputs
-pub mod Earliest
-pub mod Checks
-pub mod Circling
-pub mod Papers
-pub mod Refusing
-pub mod Keeping
-pub mod Computed
-pub mod Hollow
+-- OURS KEEPS THE THREE DEMANDS is DemandsHold. Demand 1 is EveryInputHolds and RefusalsHold. Demand 2 is PaperHolds; it rests on CircleCauses (causes 5 and 6), EarliestStarts (starts) and
+-- CrewCheckAnswers (crew check). Demand 3, THE PRICE-LIST SENTENCE, is PriceListHolds; it rests on FileNeeds (needs, sets and crews, in the
+-- file's own terms), FileFlows (flows) and OverloadShown (overload).
+-- EqualFlowsHold: plans that say the same get equal flows; it rests on AlikePlans. CasesHold: the starred cases. HollowFail: the hollow planners keep no price list.
+-- What the other answers mean, in the file's own terms: CircleFaults (causes 1 to 6), CrewCheckMeaning and CrewFindings (the crew check), AnswersWhen (which case has which answer).
+pub mod FileNeeds
+pub mod FileFlows
+pub mod OverloadShown
+pub mod CircleFaults
+pub mod PriceListHolds
+pub mod AlikePlans
+pub mod EqualFlowsHold
+pub mod AnswersWhen
+pub mod CrewCheckMeaning
+pub mod CrewFindings
+pub mod EveryInputHolds
+pub mod EarliestStarts
+pub mod CrewCheckAnswers
+pub mod CircleCauses
+pub mod PaperHolds
+pub mod RefusalsHold
+pub mod DemandsHold
+pub mod CasesHold
+pub mod HollowFail

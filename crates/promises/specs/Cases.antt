@@ -1,11 +1,11 @@
 -- THE STARRED CASES of document 01, "Plans A to F", on the files' bytes, as one table about a planner P: each line is one case and what P says of it, by the numbers of
--- the answers (desk's Numbers): "6, activity 1" is the list of 6 and 1; 0 is a result, 254 a broken arc, 255 an overload with period and kind. Every line holds
--- of ours: `cases` of proofs/Computed.antt, by computation of the definitions alone. Assumes nothing.
+-- the answers (planner's Numbers): "6, activity 1" is the list of 6 and 1; 0 is a result, 254 a broken arc, 255 an overload with period and kind. Every line holds
+-- of ours: `cases` of proofs/CasesHold.antt, by computation of the definitions alone. Assumes nothing.
 use mathlib.Core.Path.{_≡_}
 use mathlib.Core.List.{List, [], _∷_, _++_}
 use Prim.Native.Nat.{ℕ}
 use lib.ListN.{replicate}
-use Rattle.desk.specs.Numbers.{verdictNumbers, outputNumbers, crewNumbers}
+use Rattle.planner.specs.Numbers.{verdictNumbers, outputNumbers, crewCheckNumbers}
 use Rattle.promises.specs.Planner.{Planner}
 
 -- an activity with a demand of kind 1, a crew of one kind, and an arc
@@ -70,12 +70,12 @@ pub record Cases (P : Planner) : Type 0 where
   pub a-starts : P .starts .left planA (9 ∷ 9 ∷ 9 ∷ 9 ∷ 9 ∷ 9 ∷ []) ≡ 0 ∷ 1 ∷ 0 ∷ 3 ∷ 4 ∷ 9 ∷ []
   pub a-short : outputNumbers (P .starts .answer planA 4) ≡ 9 ∷ 5 ∷ []
   -- "Crew check: *A with its durations, starts 0, 1, 0, 3 fits; *starts 0, 1, 0, 2 breaks 2→4."; and cause 10
-  pub a-fits : crewNumbers (P .crew-check planA (0 ∷ 1 ∷ 0 ∷ 3 ∷ []) (1 ∷ 2 ∷ 3 ∷ 1 ∷ [])) ≡ 0 ∷ []
-  pub a-breaks : crewNumbers (P .crew-check planA (0 ∷ 1 ∷ 0 ∷ 2 ∷ []) (1 ∷ 2 ∷ 3 ∷ 1 ∷ [])) ≡ 254 ∷ 2 ∷ 4 ∷ []
-  pub a-idle : crewNumbers (P .crew-check planA (0 ∷ 1 ∷ 0 ∷ 2 ∷ []) (1 ∷ 2 ∷ 0 ∷ 1 ∷ [])) ≡ 10 ∷ 4 ∷ []
+  pub a-fits : crewCheckNumbers (P .crew-check planA (0 ∷ 1 ∷ 0 ∷ 3 ∷ []) (1 ∷ 2 ∷ 3 ∷ 1 ∷ [])) ≡ 0 ∷ []
+  pub a-breaks : crewCheckNumbers (P .crew-check planA (0 ∷ 1 ∷ 0 ∷ 2 ∷ []) (1 ∷ 2 ∷ 3 ∷ 1 ∷ [])) ≡ 254 ∷ 2 ∷ 4 ∷ []
+  pub a-idle : crewCheckNumbers (P .crew-check planA (0 ∷ 1 ∷ 0 ∷ 2 ∷ []) (1 ∷ 2 ∷ 0 ∷ 1 ∷ [])) ≡ 10 ∷ 4 ∷ []
   -- "*C, all starts 0, durations 1: period 1, kind 1. *C, starts 0, 0, 1, 1: durations 1 fit; *durations 2, 2, 1, 1: period 2."
-  pub c-at-once : crewNumbers (P .crew-check planC (0 ∷ 0 ∷ 0 ∷ 0 ∷ []) (1 ∷ 1 ∷ 1 ∷ 1 ∷ [])) ≡ 255 ∷ 1 ∷ 1 ∷ []
-  pub c-two-by-two : crewNumbers (P .crew-check planC (0 ∷ 0 ∷ 1 ∷ 1 ∷ []) (1 ∷ 1 ∷ 1 ∷ 1 ∷ [])) ≡ 0 ∷ []
-  pub c-longer : crewNumbers (P .crew-check planC (0 ∷ 0 ∷ 1 ∷ 1 ∷ []) (2 ∷ 2 ∷ 1 ∷ 1 ∷ [])) ≡ 255 ∷ 2 ∷ 1 ∷ []
+  pub c-at-once : crewCheckNumbers (P .crew-check planC (0 ∷ 0 ∷ 0 ∷ 0 ∷ []) (1 ∷ 1 ∷ 1 ∷ 1 ∷ [])) ≡ 255 ∷ 1 ∷ 1 ∷ []
+  pub c-two-by-two : crewCheckNumbers (P .crew-check planC (0 ∷ 0 ∷ 1 ∷ 1 ∷ []) (1 ∷ 1 ∷ 1 ∷ 1 ∷ [])) ≡ 0 ∷ []
+  pub c-longer : crewCheckNumbers (P .crew-check planC (0 ∷ 0 ∷ 1 ∷ 1 ∷ []) (2 ∷ 2 ∷ 1 ∷ 1 ∷ [])) ≡ 255 ∷ 2 ∷ 1 ∷ []
   -- "one timetable by list durations: C passes .. with starts 0, 0, 2, 1" (01, False turns), and its need is 8, as above
-  pub c-false-turn : crewNumbers (P .crew-check planC (0 ∷ 0 ∷ 2 ∷ 1 ∷ []) (1 ∷ 2 ∷ 3 ∷ 1 ∷ [])) ≡ 0 ∷ []
+  pub c-false-turn : crewCheckNumbers (P .crew-check planC (0 ∷ 0 ∷ 2 ∷ 1 ∷ []) (1 ∷ 2 ∷ 3 ∷ 1 ∷ [])) ≡ 0 ∷ []

@@ -1,4 +1,4 @@
--- THE THREE DEMANDS of document 00, about a planner P. Ours keeps them: `ours-keeps` of proofs/Keeping.antt. Assumes nothing.
+-- THE THREE DEMANDS of document 00, about a planner P. Ours keeps them: `ours-keeps` of proofs/DemandsHold.antt. Assumes nothing.
 use Rattle.promises.specs.Planner.{Planner}
 use Rattle.promises.specs.EveryInput.{EveryInput}
 use Rattle.promises.specs.Paper.{PaperSentence}

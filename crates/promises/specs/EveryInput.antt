@@ -1,16 +1,16 @@
 -- DEMAND 1 of document 00, about a planner P: "every input gets a result or a numbered refusal of document 01, and a refusal leaves every lent byte and number as
--- before." It holds of ours: `every-input` of proofs/Inputs.antt, for every list of numbers, bytes or not. Assumes nothing.
+-- before." It holds of ours: `every-input` of proofs/EveryInputHolds.antt, for every list of numbers, bytes or not. Assumes nothing.
 use mathlib.Core.Path.{_≡_}
 use mathlib.Core.List.{List, [], _∷_, _++_}
 use mathlib.Core.Logic.{_⊎_}
 use Prim.Native.Nat.{ℕ}
 use lib.ListN.{length}
 use Rattle.schedule.specs.declared.Checked.{Checked}
-use Rattle.desk.specs.declared.Cause.{Cause}
-use Rattle.desk.specs.declared.Decision.the-variants as verdict
-use Rattle.desk.specs.declared.Output.the-variants.{Written, Refused}
-use Rattle.desk.specs.declared.CrewChecked.the-variants as crew
-use Rattle.desk.specs.Numbers.{causeNumber}
+use Rattle.planner.specs.declared.Cause.{Cause}
+use Rattle.planner.specs.declared.Decision.the-variants as verdict
+use Rattle.planner.specs.declared.Output.the-variants.{Written, Refused}
+use Rattle.planner.specs.declared.CrewChecked.the-variants as crew
+use Rattle.planner.specs.Numbers.{causeNumber}
 use Rattle.promises.specs.Planner.{Writing, Planner}
 
 -- n is one of these numbers

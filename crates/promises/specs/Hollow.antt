@@ -1,5 +1,5 @@
 -- THE HOLLOW PLANNERS of document 01, "How far the contracts reach", and that the price-list sentence holds of none of them: `HollowPlannersFail` of five planners
--- that are ours but for their hollow part, and `HollowFail` of every planner with such a part (proofs/Hollow.antt). Assumes nothing.
+-- that are ours but for their hollow part, and `HollowFail` of every planner with such a part (proofs/HollowFail.antt). Assumes nothing.
 use mathlib.Core.Path.{_≡_}
 use mathlib.Core.Bool.{Bool, true}
 use mathlib.Core.List.{List}
@@ -9,19 +9,18 @@ use lib.ListN.{length, take}
 use Rattle.words.specs.Members.{some}
 use Rattle.words.specs.Tables.{table}
 use Rattle.order.specs.Before.{Acyclic}
-use Rattle.plan.specs.Meaning.{Readable}
+use Rattle.plan.specs.Meaning.{Readable, FileArc, fileKinds, fileDemand, fileAvailable}
 use Rattle.plan.specs.Records.{activityCount}
-use Rattle.desk.specs.Open.{planIn, faultOf, orCause}
-use Rattle.desk.specs.Output.{outputOf, lentAfter}
-use Rattle.desk.specs.Need.{availableFor}
-use Rattle.desk.specs.Verdict.{verdictOf}
-use Rattle.desk.specs.Needs.{needsFault}
-use Rattle.desk.specs.Flow.{flowFault}
-use Rattle.desk.specs.File.{FileArc, fileKinds, fileDemand, fileAvailable}
-use Rattle.desk.specs.declared.Cause.{Cause}
-use Rattle.desk.specs.declared.Decision.{Decision}
-use Rattle.desk.specs.declared.Decision.the-variants as verdict
-use Rattle.desk.specs.declared.Output.the-variants.{Written}
+use Rattle.planner.specs.Open.{planIn, faultOf, orCause}
+use Rattle.planner.specs.Output.{outputOf, lentAfter}
+use Rattle.planner.specs.Need.{availableFor}
+use Rattle.planner.specs.Verdict.{verdictOf}
+use Rattle.planner.specs.Needs.{needsFault}
+use Rattle.planner.specs.Flow.{flowFault}
+use Rattle.planner.specs.declared.Cause.{Cause}
+use Rattle.planner.specs.declared.Decision.{Decision}
+use Rattle.planner.specs.declared.Decision.the-variants as verdict
+use Rattle.planner.specs.declared.Output.the-variants.{Written}
 use Rattle.promises.specs.Planner.{Writing, Planner}
 use Rattle.promises.specs.Ours.{ours}
 use Rattle.promises.specs.PriceList.{quotedNeed, PriceListSentence}

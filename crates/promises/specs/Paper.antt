@@ -1,5 +1,5 @@
 -- DEMAND 2 of document 00, about a planner P: "Order, flows, earliest starts and the crew check are those of the paper on resource flows that 01 condenses.", in
--- the file's own terms, for every readable plan (`PaperSentence P`). Ours meets it: `paper` of proofs/Papers.antt. What is at work and what is occupied in a
+-- the file's own terms, for every readable plan (`PaperSentence P`). Ours meets it: `paper` of proofs/PaperHolds.antt. What is at work and what is occupied in a
 -- period is here what it is in demand 3: `crewOccupies` of File. Quotations are from document 01. Assumes nothing.
 use mathlib.Core.Path.{_≡_}
 use mathlib.Core.List.{List, [], _∷_}
@@ -8,16 +8,16 @@ use Prim.Native.Nat.{ℕ, _+_, _≤_, _<_}
 use lib.ListN.{length, getD, drop}
 use Rattle.order.specs.Before.{Before, Acyclic}
 use Rattle.records.specs.Bytes.{AreBytes}
-use Rattle.plan.specs.Meaning.{Readable, Names}
+use Rattle.plan.specs.Meaning.{Readable, Names, FileArc, fileKinds, fileAvailable, fileDuration}
 use Rattle.plan.specs.Records.{activityCount}
 use Rattle.schedule.specs.Lists.{LargestOr0, at}
 use Rattle.schedule.specs.declared.Checked.the-variants.{Fits, Broken, Overload}
 use Rattle.kinds.specs.Reading.{unitsRead}
-use Rattle.desk.specs.File.{FileArc, fileKinds, fileAvailable, crewOccupies, FileFlow}
-use Rattle.desk.specs.Times.{fileDuration, KeepsFile, FinishesBefore, FinishesOf, KeepsWorked, FirstBrokenArc}
-use Rattle.desk.specs.declared.Output.the-variants.{Written}
-use Rattle.desk.specs.declared.CrewChecked.the-variants.{Found}
-use Rattle.desk.specs.Numbers.{verdictNumbers, outputNumbers, crewNumbers}
+use Rattle.planner.specs.File.{crewOccupies, FileFlow}
+use Rattle.planner.specs.Times.{KeepsFile, FinishesBefore, FinishesOf, KeepsWorked, FirstBrokenArc}
+use Rattle.planner.specs.declared.Output.the-variants.{Written}
+use Rattle.planner.specs.declared.CrewChecked.the-variants.{Found}
+use Rattle.planner.specs.Numbers.{verdictNumbers, outputNumbers, crewCheckNumbers}
 use Rattle.promises.specs.Planner.{Planner}
 
 -- ---- order: the causes 5 and 6
@@ -34,7 +34,7 @@ pub record EveryGives (P : Planner) (s numbers : List ℕ) : Type 0 where
   pub starts : (n : ℕ) → outputNumbers (P .starts .answer s n) ≡ numbers
   pub overload : (n : ℕ) → outputNumbers (P .overload .answer s n) ≡ numbers
   pub flow : (kind n : ℕ) → outputNumbers (P .flow kind .answer s n) ≡ numbers
-  pub crew-check : (starts worked : List ℕ) → crewNumbers (P .crew-check s starts worked) ≡ numbers
+  pub crew-check : (starts worked : List ℕ) → crewCheckNumbers (P .crew-check s starts worked) ≡ numbers
 
 -- some operation does, for something that is lent or asked
 abbrev pub SomeGives : Planner → List ℕ → List ℕ → Type 0
@@ -44,7 +44,7 @@ SomeGives P s numbers =
     ⊎ (((n : ℕ) × (outputNumbers (P .starts .answer s n) ≡ numbers))
     ⊎ (((n : ℕ) × (outputNumbers (P .overload .answer s n) ≡ numbers))
     ⊎ (((kind : ℕ) × (n : ℕ) × (outputNumbers (P .flow kind .answer s n) ≡ numbers))
-    ⊎ ((starts : List ℕ) × (worked : List ℕ) × (crewNumbers (P .crew-check s starts worked) ≡ numbers))))))
+    ⊎ ((starts : List ℕ) × (worked : List ℕ) × (crewCheckNumbers (P .crew-check s starts worked) ≡ numbers))))))
 
 -- "lowest activity before itself there", where a circle is: activity i + 1
 pub record Circles (P : Planner) (s : List ℕ) : Type 0 where
@@ -101,7 +101,7 @@ pub record FirstOverload (s starts worked : List ℕ) (t k : ℕ) : Type 0 where
 
 pub record CrewCheck (P : Planner) (s starts worked : List ℕ) : Type 0 where
   -- "lists not m long, or a worked duration 0 | 10 | m"
-  pub ten : (crewNumbers (P .crew-check s starts worked) ≡ 10 ∷ activityCount s ∷ []) ↔ (RightLists s starts worked → ⊥)
+  pub ten : (crewCheckNumbers (P .crew-check s starts worked) ≡ 10 ∷ activityCount s ∷ []) ↔ (RightLists s starts worked → ⊥)
   -- "fits": exactly when every arc is kept, and no period of any kind is over
   pub fits : RightLists s starts worked → (P .crew-check s starts worked ≡ Found Fits) ↔ (KeepsWorked s starts worked × NeverOver s starts worked)
   -- "find the first arc i to j, by from and then to, with start of i plus its duration greater than the start of j."

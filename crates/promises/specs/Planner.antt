@@ -2,9 +2,9 @@
 -- (EveryInput, Paper, PriceList, Refusals), and name no definition of what our operations do. Ours is `ours` of Ours. Assumes nothing.
 use mathlib.Core.List.{List}
 use Prim.Native.Nat.{ℕ}
-use Rattle.desk.specs.declared.Decision.{Decision}
-use Rattle.desk.specs.declared.Output.{Output}
-use Rattle.desk.specs.declared.CrewChecked.{CrewChecked}
+use Rattle.planner.specs.declared.Decision.{Decision}
+use Rattle.planner.specs.declared.Output.{Output}
+use Rattle.planner.specs.declared.CrewChecked.{CrewChecked}
 
 -- an operation that writes: its answer, by the plan's bytes and how many numbers or bytes are lent, and what is then in what was lent
 pub record Writing : Type 0 where

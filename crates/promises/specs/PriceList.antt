@@ -1,5 +1,5 @@
 -- THE PRICE-LIST SENTENCE: demand 3 of document 00, sentence by sentence, about what the operations of a planner P answer and write, for every readable plan
--- without a circle (`PriceListSentence P`). Ours meets it: `price-list` of proofs/Promise.antt. The hollow planners of document 01 do not: Hollow. Sets,
+-- without a circle (`PriceListSentence P`). Ours meets it: `price-list` of proofs/PriceListHolds.antt. The hollow planners of document 01 do not: Hollow. Sets,
 -- crews, flows and the file's fields are those of File. Assumes nothing.
 use mathlib.Core.Path.{_≡_}
 use mathlib.Core.Bool.{Bool, true}
@@ -12,15 +12,15 @@ use Rattle.words.specs.Members.{count}
 use Rattle.order.specs.Stored.{elements}
 use Rattle.order.specs.Before.{Acyclic}
 use Rattle.records.specs.Bytes.{AreBytes, byte, field}
-use Rattle.plan.specs.Meaning.{Readable}
+use Rattle.plan.specs.Meaning.{Readable, FileArc, fileKinds, fileDemand, fileAvailable}
 use Rattle.plan.specs.Records.{activityCount}
 use Rattle.kinds.specs.Reading.{unitsRead}
-use Rattle.desk.specs.Numbers.{numbersOf}
-use Rattle.desk.specs.File.{FileArc, fileKinds, fileDemand, fileAvailable, Unrelated, demandSum, FileCrew, crewOccupies, FileFlow, flowLength}
+use Rattle.planner.specs.Numbers.{numbersOf}
+use Rattle.planner.specs.File.{Unrelated, demandSum, FileCrew, crewOccupies, FileFlow, flowLength}
 use Rattle.promises.specs.Planner.{Planner}
-use Rattle.desk.specs.declared.Cause.{Cause}
-use Rattle.desk.specs.declared.Decision.the-variants as verdict
-use Rattle.desk.specs.declared.Output.the-variants.{Written, Refused}
+use Rattle.planner.specs.declared.Cause.{Cause}
+use Rattle.planner.specs.declared.Decision.the-variants as verdict
+use Rattle.planner.specs.declared.Output.the-variants.{Written, Refused}
 
 -- the quoted need of kind k: what Needs writes at k where K numbers are lent
 abbrev pub quotedNeed : Planner → List ℕ → ℕ → ℕ

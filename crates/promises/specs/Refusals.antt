@@ -1,17 +1,17 @@
 -- WHICH ANSWER WHEN (01, "Operations and causes"): for any bytes, and for any that is lent or asked, which of the numbered refusals a planner P gives, or which result.
--- It holds of ours: `refusals` of proofs/Refusing.antt. 5 and 6 are said in Paper (Circles), 10 there too (CrewCheck), Verdict's 7 in PriceList. Assumes nothing.
+-- It holds of ours: `refusals` of proofs/RefusalsHold.antt. 5 and 6 are said in Paper (Circles), 10 there too (CrewCheck), Verdict's 7 in PriceList. Assumes nothing.
 use mathlib.Core.Path.{_≡_}
 use mathlib.Core.List.{List, [], _∷_}
 use Prim.Native.Nat.{ℕ, _+_, _≤_, _<_}
 use Rattle.order.specs.Before.{Acyclic}
 use Rattle.records.specs.Bytes.{AreBytes}
-use Rattle.plan.specs.Meaning.{Readable}
+use Rattle.plan.specs.Meaning.{Readable, FileArc, fileKinds}
 use Rattle.plan.specs.Causes.{answerOf}
 use Rattle.plan.specs.Records.{activityCount}
 use Rattle.plan.specs.declared.Cause.{Cause as Unread}
 use Rattle.plan.specs.declared.Answer.the-variants as answer
-use Rattle.desk.specs.Numbers.{unreadNumbers, verdictNumbers, outputNumbers}
-use Rattle.desk.specs.File.{FileArc, fileKinds, flowLength}
+use Rattle.planner.specs.Numbers.{unreadNumbers, verdictNumbers, outputNumbers}
+use Rattle.planner.specs.File.{flowLength}
 use Rattle.promises.specs.Planner.{Planner}
 use Rattle.promises.specs.Paper.{EveryGives, SomeGives}
 use Rattle.promises.specs.PriceList.{Exceeds, Enough}

@@ -1,1 +1,1 @@
-// What the desk's answers promise: definitions in specs/, theorems in proofs/. There is no code.
+// What the planner's answers promise: definitions in specs/, theorems in proofs/. There is no code.

@@ -1,4 +1,4 @@
--- What the desk answers of an accepted plan, and what it writes. Assumes nothing.
+-- What the planner answers of an accepted plan, and what it writes. Assumes nothing.
 use mathlib.Core.Path.{_≡_, refl, sym, _∙_}
 use mathlib.Core.Bool.{true, false}
 use mathlib.Core.List.{List, _++_}
@@ -8,26 +8,26 @@ use lib.Dec.{ltb}
 use lib.ListN.{length, getD, drop}
 use borrow.Author.Tests.{le-ltb, le-leb}
 use Rattle.records.specs.Bytes.{AreBytes}
-use Rattle.desk.specs.Open.{planIn, isFine, faultOf, Opens}
-use Rattle.desk.specs.Need.{isOverloaded, overCause}
-use Rattle.desk.specs.Verdict.{verdictFault, verdictOf, verdictAnswer}
-use Rattle.desk.specs.Needs.{needsFault, needNumbers, needsOut}
-use Rattle.desk.specs.Starts.{needed, startsFault, startNumbers, startsOut}
-use Rattle.desk.specs.Flow.{mostRecords, flowFault, flowCount, recordBytes, flowAnswer, flowOut}
-use Rattle.desk.specs.declared.Cause.the-variants.{Short}
-use Rattle.desk.specs.declared.Fault.{Fault}
-use Rattle.desk.specs.declared.Fault.the-variants.{Fine, Refused}
-use Rattle.desk.specs.declared.Decision.{Decision}
-use Rattle.desk.specs.declared.Decision.the-variants as decision
-use Rattle.desk.specs.declared.Output.the-variants.{Written}
-use Rattle.desk.proofs.Turns.{cause-fine, cause-none}
-use Rattle.desk.proofs.Writing.{output-fine, lent-fine, lent-front}
-use Rattle.desk.proofs.Opening.{count-within}
-use Rattle.desk.proofs.Weighing.{kinds-few}
-use Rattle.desk.proofs.Pricing.{length-numbers as length-needs}
-use Rattle.desk.proofs.Starting.{length-numbers as length-starts}
-use Rattle.desk.proofs.Handing.{kind-some, fine-flow, not-over}
-use Rattle.desk.proofs.Passing.{count-room, length-few}
+use Rattle.planner.specs.Open.{planIn, isFine, faultOf, Opens}
+use Rattle.planner.specs.Need.{isOverloaded, overCause}
+use Rattle.planner.specs.Verdict.{verdictFault, verdictOf, verdictAnswer}
+use Rattle.planner.specs.Needs.{needsFault, needNumbers, needsOut}
+use Rattle.planner.specs.Starts.{needed, startsFault, startNumbers, startsOut}
+use Rattle.planner.specs.Flow.{mostRecords, flowFault, flowCount, recordBytes, flowAnswer, flowOut}
+use Rattle.planner.specs.declared.Cause.the-variants.{Short}
+use Rattle.planner.specs.declared.Fault.{Fault}
+use Rattle.planner.specs.declared.Fault.the-variants.{Fine, Refused}
+use Rattle.planner.specs.declared.Decision.{Decision}
+use Rattle.planner.specs.declared.Decision.the-variants as decision
+use Rattle.planner.specs.declared.Output.the-variants.{Written}
+use Rattle.planner.proofs.FaultLaws.{cause-fine, cause-none}
+use Rattle.planner.proofs.OutputLaws.{output-fine, lent-fine, lent-front}
+use Rattle.planner.proofs.OpenLaws.{count-within}
+use Rattle.planner.proofs.QuotedNeeds.{kinds-few}
+use Rattle.planner.proofs.NeedsLaws.{length-numbers as length-needs}
+use Rattle.planner.proofs.StartsLaws.{length-numbers as length-starts}
+use Rattle.planner.proofs.FlowLaws.{kind-some, fine-flow, not-over}
+use Rattle.planner.proofs.FlowUnits.{count-room, length-few}
 use Rattle.report.specs.Report.{Accepts}
 
 -- ---- Verdict

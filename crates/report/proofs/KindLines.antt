@@ -5,12 +5,12 @@ use Prim.Native.Nat.{ℕ, _-_, _*_, _≤_}
 use native.Mathlib.Omega.{arith}
 use lib.ListN.{length, drop}
 use Rattle.records.specs.Bytes.{AreBytes}
-use Rattle.desk.specs.Open.{planIn}
-use Rattle.desk.specs.Flow.{mostRecords, flowCount, recordBytes, flowAnswer, flowOut}
-use Rattle.desk.specs.declared.Cause.{Cause}
-use Rattle.desk.specs.declared.Output.{Output}
-use Rattle.desk.specs.declared.Output.the-variants.{Written, Refused}
-use Rattle.desk.proofs.Passing.{records-length}
+use Rattle.planner.specs.Open.{planIn}
+use Rattle.planner.specs.Flow.{mostRecords, flowCount, recordBytes, flowAnswer, flowOut}
+use Rattle.planner.specs.declared.Cause.{Cause}
+use Rattle.planner.specs.declared.Output.{Output}
+use Rattle.planner.specs.declared.Output.the-variants.{Written, Refused}
+use Rattle.planner.proofs.FlowUnits.{records-length}
 use Rattle.report_lines.specs.Lines.{flowLines}
 use Rattle.report_lines.proofs.FlowLines.{flow-front}
 use Rattle.report.specs.Report.{Accepts, kindLines}

@@ -10,15 +10,15 @@ use Rattle.records.specs.Records.{joined}
 use Rattle.lines.specs.Text.{Text, text, more}
 use Rattle.lines.proofs.Texts.{more-more, grown, grown-by}
 use Rattle.plan.specs.Records.{activities as most}
-use Rattle.plan.specs.Reads.{readOf}
+use Rattle.plan.specs.model.Reads.{readOf}
 use Rattle.plan.specs.declared.Reading.{Reading}
-use Rattle.desk.specs.Open.{planIn}
-use Rattle.desk.specs.Verdict.{verdictAnswer}
-use Rattle.desk.specs.Needs.{needNumbers, needsOut}
-use Rattle.desk.specs.Starts.{startNumbers, startsOut}
-use Rattle.desk.specs.declared.Decision.{Decision}
-use Rattle.desk.proofs.Opening.{count-within}
-use Rattle.desk.proofs.Weighing.{kinds-few}
+use Rattle.planner.specs.Open.{planIn}
+use Rattle.planner.specs.Verdict.{verdictAnswer}
+use Rattle.planner.specs.Needs.{needNumbers, needsOut}
+use Rattle.planner.specs.Starts.{startNumbers, startsOut}
+use Rattle.planner.specs.declared.Decision.{Decision}
+use Rattle.planner.proofs.OpenLaws.{count-within}
+use Rattle.planner.proofs.QuotedNeeds.{kinds-few}
 use Rattle.report_lines.specs.Lines.{headRoom, headLines}
 use Rattle.report_lines.proofs.HeadLines.{head-short, head-same}
 use Rattle.report.specs.Report.{flowRoom, textRoom, Accepts, kindLines, planLines, reportBy, reportOf}

@@ -5,13 +5,13 @@ use mathlib.Core.List.{List, _++_}
 use Prim.Native.Nat.{ℕ, _+_, _*_}
 use Rattle.records.specs.Records.{joined}
 use Rattle.plan.specs.declared.Plan.{Plan}
-use Rattle.desk.specs.Open.{planIn, isFine}
-use Rattle.desk.specs.Needs.{needNumbers}
-use Rattle.desk.specs.Starts.{startNumbers}
-use Rattle.desk.specs.Flow.{mostRecords, flowCount, recordBytes}
-use Rattle.desk.specs.Verdict.{verdictFault, verdictAnswer}
-use Rattle.desk.specs.declared.Decision.{Decision}
-use Rattle.desk.specs.declared.Decision.the-variants.{Accepted, Refused}
+use Rattle.planner.specs.Open.{planIn, isFine}
+use Rattle.planner.specs.Needs.{needNumbers}
+use Rattle.planner.specs.Starts.{startNumbers}
+use Rattle.planner.specs.Flow.{mostRecords, flowCount, recordBytes}
+use Rattle.planner.specs.Verdict.{verdictFault, verdictAnswer}
+use Rattle.planner.specs.declared.Decision.{Decision}
+use Rattle.planner.specs.declared.Decision.the-variants.{Accepted, Refused}
 use Rattle.report_lines.specs.Lines.{headRoom, headLines, flowLines, refusedLine}
 
 -- the lines of the flow of kind k + 1, from the records that Flow writes

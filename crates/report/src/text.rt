@@ -5,13 +5,13 @@ ghost use lib.ListN.{length};
 ghost use Rattle.io.specs.Counts.{Counts};
 ghost use Rattle.lines.specs.Text.{text, more};
 ghost use Rattle.records.specs.Records.{joined};
-ghost use Rattle.desk.specs.Open.{planIn};
-ghost use Rattle.desk.specs.Needs.{needNumbers};
-ghost use Rattle.desk.specs.Starts.{startNumbers};
+ghost use Rattle.planner.specs.Open.{planIn};
+ghost use Rattle.planner.specs.Needs.{needNumbers};
+ghost use Rattle.planner.specs.Starts.{startNumbers};
 ghost use Rattle.report_lines.specs.Lines.{headLines, headRoom};
 ghost use Rattle.report.specs.Report.{flowRoom, textRoom, kindLines, planLines, reportOf, Accepts};
-use desk::Decision;
-use desk::Output;
+use planner::Decision;
+use planner::Output;
 use plan::ACTIVITIES;
 use report_lines::head_text;
 use report_lines::put_records;
@@ -25,7 +25,7 @@ fn put_flow(out: &mut [u8], at: usize, s: &[u8], kind: usize) -> usize
     ensures { λ r. ⌜ r ≤ at + flowRoom ⌝ }
 {
     let mut records = io::large_buffer();
-    let written = desk::flow(s, kind, &mut records);
+    let written = planner::flow(s, kind, &mut records);
     match written {
         Output::Written(n) => put_records(out, at, &records, n),
         Output::Refused(_) => at,
@@ -53,9 +53,9 @@ fn put_head(out: &mut [u8], s: &[u8], m: usize, n: usize) -> usize
         (headLines m n (needNumbers (now (s .entry))) (planIn (now (s .entry)) .available) (startNumbers (now (s .entry)))) ⌝ }
 {
     let mut needs = [0u32; 8];
-    desk::needs(s, &mut needs);
+    planner::needs(s, &mut needs);
     let mut starts = [0u32; ACTIVITIES + 1];
-    desk::starts(s, &mut starts);
+    planner::starts(s, &mut starts);
     let reading = plan::read(s);
     let q = reading.plan;
     let available = q.available;
@@ -79,7 +79,7 @@ pub fn report_text(out: &mut [u8], s: &[u8]) -> usize
     ensures { λ r. ⌜ text r (now (out .exit)) ≡ more (text 0 (now (out .entry))) (reportOf (now (s .entry))) ⌝ }
     ensures { λ r. ⌜ Counts r (now (out .exit)) ⌝ }
 {
-    let decision = desk::verdict(s);
+    let decision = planner::verdict(s);
     match decision {
         Decision::Accepted { activities, kinds } => put_plan(out, s, activities, kinds),
         Decision::Refused(c) => refused_text(out, c),

@@ -1,4 +1,4 @@
 -- Laws of the report's lines. Assumes nothing.
 pub mod HeadLines
 pub mod FlowLines
-pub mod Refusing
+pub mod RefusalLine

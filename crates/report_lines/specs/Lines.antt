@@ -9,9 +9,9 @@ use Rattle.records.specs.Bytes.{byte, field}
 use Rattle.records.specs.Records.{joined}
 use Rattle.lines.specs.Text.{lineOf}
 use Rattle.plan.specs.Records.{activities}
-use Rattle.desk.specs.Numbers.{numbersOf}
-use Rattle.desk.specs.declared.Cause.{Cause}
-use Rattle.desk.specs.declared.Cause.the-variants.{Unreadable, JobCircle, PlanCircle, Overloaded, NoKind, Short, Lists}
+use Rattle.planner.specs.Numbers.{numbersOf}
+use Rattle.planner.specs.declared.Cause.{Cause}
+use Rattle.planner.specs.declared.Cause.the-variants.{Unreadable, JobCircle, PlanCircle, Overloaded, NoKind, Short, Lists}
 
 -- plan, need, start, end, flow, refused
 abbrev pub planWord : List ℕ

@@ -3,7 +3,7 @@ ghost use mathlib.Core.Path.{_≡_};
 ghost use Prim.Native.Nat.{_+_, _*_, _≤_, _<_};
 ghost use lib.ListN.{length};
 ghost use Rattle.records.specs.Bytes.{field};
-ghost use Rattle.desk.specs.Flow.{mostRecords};
+ghost use Rattle.planner.specs.Flow.{mostRecords};
 ghost use Rattle.lines.specs.Text.{text, more, lineOf};
 ghost use Rattle.report_lines.specs.Lines.{flowWord, flowNumbers, flowLines};
 

@@ -5,10 +5,10 @@ ghost use Prim.Native.Nat.{suc, _+_, _≤_};
 ghost use lib.ListN.{length, take};
 ghost use Rattle.words.specs.Members.{members};
 ghost use Rattle.order.specs.Stored.{elements, numberOf};
-ghost use Rattle.desk.specs.Numbers.{unreadNumbers};
+ghost use Rattle.planner.specs.Numbers.{unreadNumbers};
 ghost use Rattle.lines.specs.Text.{text, more};
 ghost use Rattle.report_lines.specs.Lines.{refusedNumbers, refusedLine, slots, refusedRoom};
-use desk::Cause;
+use planner::Cause;
 use order::ELEMENTS;
 use order::Set;
 

@@ -12,7 +12,7 @@ use Rattle.words.proofs.Tests.{clash, fails, and-says, and-both}
 use Rattle.order.specs.Rows.{after}
 use Rattle.schedule.specs.Network.{Network, Arc, Schedule, Keeps}
 use Rattle.schedule.specs.Checks.{breaks, brokenTo, brokenFrom}
-use Rattle.schedule.specs.Arrays.{crewNet}
+use Rattle.schedule.specs.model.Arrays.{crewNet}
 use Rattle.schedule.specs.Lists.{at}
 
 module _ (g : Network) (s : Schedule) where

@@ -18,7 +18,7 @@ use Rattle.schedule.specs.Network.{Arc, Schedule, Keeps}
 use Rattle.schedule.specs.Starts.{earliestOf, endOf, ArcAsks, FinishBefore, FinishOf}
 use Rattle.schedule.specs.Lists.{LargestOr0, at}
 use Rattle.schedule.specs.Checks.{atWork, firstPeriod}
-use Rattle.schedule.specs.Arrays.{netOf, crewNet, workOf, byDuration, startsOf, AllAtMost, FinishesFit}
+use Rattle.schedule.specs.model.Arrays.{netOf, crewNet, workOf, byDuration, startsOf, AllAtMost, FinishesFit}
 use Rattle.schedule.proofs.Starts.{earliest-least, earliest-bound, earliest-keeps, earliest-direct, earliest-largest, end-largest}
 use Rattle.schedule.proofs.Ranks.{ranked}
 use Rattle.schedule.proofs.Periods.{at-work-unrelated, period-bound}

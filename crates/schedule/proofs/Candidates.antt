@@ -12,9 +12,9 @@ use borrow.Author.Tests.{ltb-true, ltb-false, eqb-true, eqb-false, lt-ltb, le-lt
 use borrow.Author.Count.{below-more}
 use Rattle.words.proofs.Tests.{clash, cond-has}
 use Rattle.schedule.specs.Checks.{Work, occupied, exceeds, overloaded, firstPeriod}
-use Rattle.schedule.specs.Arrays.{workOf}
+use Rattle.schedule.specs.model.Arrays.{workOf}
 use Rattle.schedule.specs.Lists.{at}
-use Rattle.schedule.specs.Levels.{Best, soonerOf}
+use Rattle.schedule.specs.model.Levels.{Best, soonerOf}
 use Rattle.schedule.proofs.Periods.{period-follows, period-none, period-over, period-first}
 
 -- ---- the sooner of two periods

@@ -11,9 +11,9 @@ use Rattle.words.specs.Tables.{table}
 use Rattle.flow_math.specs.Crew as crew
 use Rattle.schedule.specs.Starts.{asked, rounds, earliestOf, endOf}
 use Rattle.schedule.specs.Checks.{Work, brokenTo, brokenFrom, lowestKind, lastFinish, quiet, firstPeriod, checkOf}
-use Rattle.schedule.specs.Arrays.{netOf, byDuration, startsOf, crewNet, workOf}
+use Rattle.schedule.specs.model.Arrays.{netOf, byDuration, startsOf, crewNet, workOf}
 use Rattle.schedule.specs.Lists.{at}
-use Rattle.schedule.specs.Levels.{Best}
+use Rattle.schedule.specs.model.Levels.{Best}
 use Rattle.schedule.specs.declared.Checked.{Checked}
 use Rattle.schedule.specs.declared.Checked.the-variants.{Fits, Broken, Overload}
 use Rattle.schedule.proofs.Candidates.{best-all}

@@ -11,7 +11,7 @@ use lib.ListN.{getD, length, length-set, replicate, getD-replicate}
 use lib.Seq.{getD-set-same, getD-set-other}
 use Rattle.words.specs.Bits.{digit, bit, minus, rest}
 use Rattle.words.specs.Members.{first, some}
-use Rattle.words.specs.Loops.{each, upto}
+use Rattle.words.specs.model.Loops.{each, upto}
 use Rattle.words.proofs.Bits.{bit-zero, bit-one, bit-or, bit-minus, digit-one, digit-none}
 use Rattle.words.proofs.Firsts.{some-found, some-here}
 use Rattle.words.proofs.Kept.{each-keeps}
@@ -24,9 +24,9 @@ use Rattle.order.proofs.Stored.{everyone-bit, everyone-fits, in-bound}
 use Rattle.order.specs.Rows.{after}
 use Rattle.schedule.specs.Network.{Network, Schedule, Ranked}
 use Rattle.schedule.specs.Starts.{asked, earliestOf}
-use Rattle.schedule.specs.Arrays.{netOf, startsOf, FinishesFit}
+use Rattle.schedule.specs.model.Arrays.{netOf, startsOf, FinishesFit}
 use Rattle.schedule.specs.Lists.{at}
-use Rattle.schedule.specs.Levels.{openRow, waitingFor, readyOf, place, placed, startsBy, RanksDone}
+use Rattle.schedule.specs.model.Levels.{openRow, waitingFor, readyOf, place, placed, startsBy, RanksDone}
 use Rattle.schedule.proofs.Starts.{asked-cong, earliest-fixed, earliest-bound}
 use Rattle.order.specs.Stored.{elements, everyone, bound}
 

@@ -13,7 +13,7 @@ use Rattle.order.specs.Orders.{Direct, isBefore, orderIn}
 use Rattle.order.proofs.Before.{before-least}
 use Rattle.order.proofs.Orders.{direct-order, order-means, order-strict}
 use Rattle.schedule.specs.Network.{Network, Arc, Schedule, Keeps, Ranked}
-use Rattle.schedule.specs.Arrays.{netOf}
+use Rattle.schedule.specs.model.Arrays.{netOf}
 use Rattle.schedule.proofs.Starts.{before-ends}
 
 -- a strict order that has every arc gives a rank: how many are before an element

@@ -12,7 +12,7 @@ use lib.Seq.{ext-getD, getD-set-same, getD-set-other, paste-suc, length-take-le,
 use borrow.Author.Count.{below-more}
 use borrow.Author.Tests.{ltb-true, ltb-false}
 use Rattle.words.specs.Tables.{table, over}
-use Rattle.words.specs.Loops.{upto, update}
+use Rattle.words.specs.model.Loops.{upto, update}
 use Rattle.words.proofs.Tests.{below-suc, by-test, cond-true, cond-false}
 
 pub length-table : {A : Type 0} (n : ℕ) (f : ℕ → A) → length (table n f) ≡ n

@@ -1,7 +1,7 @@
 -- What the crate `words` speaks of, in reading order: the binary digits of a number, the numbers below a bound that have a property,
--- sums and largest values, lists given by their elements, and loops as recursions. The laws are in `proofs/`.
+-- sums and largest values, lists given by their elements. `model` is for the code. The laws are in `proofs/`.
 pub mod Bits
 pub mod Members
 pub mod Sums
 pub mod Tables
-pub mod Loops
+pub mod model

@@ -4,7 +4,7 @@
 use crate::bytes::{hex, RECORD};
 use crate::check;
 use crate::crew;
-use crate::desk::{Desk, Reply};
+use crate::planner::{Planner, Reply};
 use crate::model::{Case, Crew, Facts};
 use crate::random::Random;
 use crate::read::Refusal;
@@ -12,7 +12,7 @@ use crate::tally::{Tally, BROKEN, OVERLOAD};
 use std::fmt::Debug;
 
 pub struct Bench {
-    pub desk: Desk,
+    pub planner: Planner,
     pub tally: Tally,
     pub random: Random,
 }
@@ -38,7 +38,7 @@ struct Due<T> {
 
 impl Bench {
     pub fn new(seed: u64) -> Bench {
-        Bench { desk: Desk::new(), tally: Tally::default(), random: Random::new(seed) }
+        Bench { planner: Planner::new(), tally: Tally::default(), random: Random::new(seed) }
     }
 
     /// Every operation on one plan: lent slices exact, and too short or longer at random.
@@ -87,7 +87,7 @@ impl Bench {
 
     pub fn verdict(&mut self, case: &Case) {
         let shown = self.set(case);
-        let reply = self.desk.verdict(&case.bytes);
+        let reply = self.planner.verdict(&case.bytes);
         let due = match &case.facts {
             Err(refusal) => refused(refusal),
             Ok(facts) => match facts.overloaded() {
@@ -100,7 +100,7 @@ impl Bench {
 
     /// The set that goes with the verdict; returns it for the verdict's size.
     fn set(&mut self, case: &Case) -> u64 {
-        let reply = self.desk.set(&case.bytes);
+        let reply = self.planner.set(&case.bytes);
         let rule = match &case.facts {
             Ok(facts) if facts.overloaded().is_some() => check::set(facts, reply.answer),
             _ if reply.answer != 0 => Err(format!("set {:#x}, expected 0 where no overload is shown", reply.answer)),
@@ -113,34 +113,34 @@ impl Bench {
 
     pub fn needs(&mut self, case: &Case, length: usize) {
         let lent = self.random.numbers(length);
-        let reply = self.desk.needs(&case.bytes, &lent);
+        let reply = self.planner.needs(&case.bytes, &lent);
         let due = numbers_due(case, lent, Facts::needs_written);
         self.settle(case, "Needs", &reply, Ok(due));
     }
 
     pub fn starts(&mut self, case: &Case, length: usize) {
         let lent = self.random.numbers(length);
-        let reply = self.desk.starts(&case.bytes, &lent);
+        let reply = self.planner.starts(&case.bytes, &lent);
         let due = numbers_due(case, lent, Facts::starts_written);
         self.settle(case, "Starts", &reply, Ok(due));
     }
 
     pub fn overload(&mut self, case: &Case, length: usize) {
         let lent = self.random.bytes(length);
-        let reply = self.desk.overload(&case.bytes, &lent);
+        let reply = self.planner.overload(&case.bytes, &lent);
         let due = overload_due(case, lent, &reply);
         self.settle(case, "Overload", &reply, due);
     }
 
     pub fn flow(&mut self, case: &Case, kind: u64, length: usize) {
         let lent = self.random.bytes(length);
-        let reply = self.desk.flow(&case.bytes, kind, &lent);
+        let reply = self.planner.flow(&case.bytes, kind, &lent);
         let due = flow_due(case, kind, lent, &reply).map_err(|why| format!("kind {kind}: {why}"));
         self.settle(case, "Flow", &reply, due);
     }
 
     pub fn crew_check(&mut self, case: &Case, starts: &[u32], durations: &[u32]) {
-        let reply = self.desk.crew_check(&case.bytes, starts, durations);
+        let reply = self.planner.crew_check(&case.bytes, starts, durations);
         let due = match &case.facts {
             Err(refusal) => refused(refusal),
             Ok(facts) => match facts.crew(starts, durations) {

@@ -26,7 +26,7 @@ pub fn big_plans(bench: &mut Bench, count: usize) {
 fn prove_needs(bench: &mut Bench, sheet: &Sheet) {
     let kinds = sheet.kinds as usize;
     assert!(read(&sheet.bytes()).and_then(|plan| ordered(&plan)).is_ok(), "nothing to prove of a refused plan");
-    let reply = bench.desk.needs(&sheet.bytes(), &[0; 8]);
+    let reply = bench.planner.needs(&sheet.bytes(), &[0; 8]);
     let needs = &reply.after[..kinds];
     let Some(enough) = as_available(needs) else {
         return bench.tally.count(&sheet.bytes(), "Needs", Err(format!("needs {needs:?} above any sum of demands")));

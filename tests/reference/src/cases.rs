@@ -49,10 +49,10 @@ pub fn plans_a_to_f(bench: &mut Bench) {
 /// The verdict, the set and the need as written out, then every operation against the model.
 fn judged(bench: &mut Bench, sheet: &Sheet, verdict: u64, set: u64, need: Option<u32>) {
     let file = sheet.bytes();
-    expect(bench, &file, "Verdict", |bench| bench.desk.verdict(&file).answer, verdict);
-    expect(bench, &file, "Set", |bench| bench.desk.set(&file).answer, set);
+    expect(bench, &file, "Verdict", |bench| bench.planner.verdict(&file).answer, verdict);
+    expect(bench, &file, "Set", |bench| bench.planner.set(&file).answer, set);
     if let Some(need) = need {
-        let wrote = bench.desk.needs(&file, &[9]).after;
+        let wrote = bench.planner.needs(&file, &[9]).after;
         let differ = || Err(format!("wrote {wrote:?}, written out is {need}"));
         bench.tally.count(&file, "Needs", if wrote == [need] { Ok(()) } else { differ() });
     }
@@ -82,10 +82,10 @@ fn every_length(bench: &mut Bench, case: &Case) {
 /// The starts and the only flow of plan A, as the report prints them.
 fn report_of_a(bench: &mut Bench) {
     let file = plan_a().bytes();
-    let starts = bench.desk.starts(&file, &[9; 5]);
+    let starts = bench.planner.starts(&file, &[9; 5]);
     let right = starts.answer == answer(0, 5) && starts.after == [0, 1, 0, 3, 4];
     bench.tally.count(&file, "Starts", if right { Ok(()) } else { Err(format!("wrote {:?}", starts.after)) });
-    let flow = bench.desk.flow(&file, 1, &[7; 24 * 15]);
+    let flow = bench.planner.flow(&file, 1, &[7; 24 * 15]);
     let lines = [(0, 1, 0), (0, 3, 0), (1, 2, 1), (2, 4, 1), (3, 5, 0), (4, 5, 0)];
     let mut due = vec![7; 24 * 15];
     for (place, (from, to, added)) in lines.into_iter().enumerate() {
@@ -124,6 +124,6 @@ fn crews(bench: &mut Bench) {
 
 fn crew(bench: &mut Bench, sheet: &Sheet, starts: &[u32], durations: &[u32], due: u64) {
     let file = sheet.bytes();
-    expect(bench, &file, "Crew check", |bench| bench.desk.crew_check(&file, starts, durations).answer, due);
+    expect(bench, &file, "Crew check", |bench| bench.planner.crew_check(&file, starts, durations).answer, due);
     bench.crew_check(&Case::new(file), starts, durations);
 }

@@ -11,7 +11,7 @@ mod check;
 mod crew;
 mod damage;
 #[allow(unsafe_code)]
-mod desk;
+mod planner;
 #[allow(unsafe_code)]
 mod guard;
 mod model;

@@ -33,7 +33,7 @@ pub fn readings(bench: &mut Bench) {
 
 fn read(bench: &mut Bench, records: &[Record], due: u64) {
     let file = records.concat();
-    expect(bench, &file, "Verdict", |bench| bench.desk.verdict(&file).answer, due);
+    expect(bench, &file, "Verdict", |bench| bench.planner.verdict(&file).answer, due);
     bench.all(&Case::new(file));
 }
 
@@ -91,7 +91,7 @@ fn fields(bench: &mut Bench) {
         read(bench, &[&many[..], &[activity(number), crew()]].concat(), answer(3, 64));
     }
     let (file, due) = ([&many[..], &[crew_record(1, &first(128))]].concat().concat(), accepted(64, 1));
-    expect(bench, &file, "Verdict", |bench| bench.desk.verdict(&file).answer, due);
+    expect(bench, &file, "Verdict", |bench| bench.planner.verdict(&file).answer, due);
 }
 
 fn spare_bytes(bench: &mut Bench) {
@@ -110,7 +110,7 @@ fn circles(bench: &mut Bench) {
     let of = |job: &[(u8, u8)], extra: &[(u8, u8)]| Sheet::of_one_kind(&[(1, 0); 5], 0, job, extra).bytes();
     let mut circle = |job, extra, due| {
         let file = of(job, extra);
-        expect(bench, &file, "Verdict", |bench| bench.desk.verdict(&file).answer, due);
+        expect(bench, &file, "Verdict", |bench| bench.planner.verdict(&file).answer, due);
         bench.all(&Case::new(file));
     };
     // A circle of job arcs comes first, though a lower activity is on another circle.
@@ -138,16 +138,16 @@ fn lowest_kind(bench: &mut Bench) {
     ] {
         sheet.available[..3].copy_from_slice(&available);
         let file = sheet.bytes();
-        expect(bench, &file, "Verdict", |bench| bench.desk.verdict(&file).answer, due);
+        expect(bench, &file, "Verdict", |bench| bench.planner.verdict(&file).answer, due);
         // Flow gives the same refusal whatever kind is asked, but 8 and 9 come before it.
         for kind in 1..=3 {
-            let flow = |bench: &mut Bench, length| bench.desk.flow(&file, kind, &vec![0; length]).answer;
+            let flow = |bench: &mut Bench, length| bench.planner.flow(&file, kind, &vec![0; length]).answer;
             expect(bench, &file, "Flow", |bench| flow(bench, 239), answer(9, 240));
             if due & 255 == 7 {
                 expect(bench, &file, "Flow", |bench| flow(bench, 240), due);
             }
         }
-        expect(bench, &file, "Flow", |bench| bench.desk.flow(&file, 4, &[]).answer, answer(8, 3));
+        expect(bench, &file, "Flow", |bench| bench.planner.flow(&file, 4, &[]).answer, answer(8, 3));
         bench.all(&Case::new(file));
     }
 }
@@ -159,20 +159,20 @@ fn order_of_causes(bench: &mut Bench) {
         expect(bench, file, operation, |bench| ask(bench, file), due);
     };
     // An accepted plan with too few bytes for a record is refused, not "none".
-    asks(&fine, "Overload", |bench, file| bench.desk.overload(file, &[5; 23]).answer, answer(9, 24));
-    asks(&fine, "Overload", |bench, file| bench.desk.overload(file, &[5; 24]).answer, answer(0, 0));
-    asks(&over, "Overload", |bench, file| bench.desk.overload(file, &[5; 24]).answer, answer(0, 1));
+    asks(&fine, "Overload", |bench, file| bench.planner.overload(file, &[5; 23]).answer, answer(9, 24));
+    asks(&fine, "Overload", |bench, file| bench.planner.overload(file, &[5; 24]).answer, answer(0, 0));
+    asks(&over, "Overload", |bench, file| bench.planner.overload(file, &[5; 24]).answer, answer(0, 1));
     // Needs and starts count numbers and are given for overloaded plans too.
-    asks(&over, "Needs", |bench, file| bench.desk.needs(file, &[]).answer, answer(9, 1));
-    asks(&over, "Needs", |bench, file| bench.desk.needs(file, &[5; 2]).answer, answer(0, 1));
-    asks(&over, "Starts", |bench, file| bench.desk.starts(file, &[5; 4]).answer, answer(9, 5));
-    asks(&over, "Starts", |bench, file| bench.desk.starts(file, &[5; 6]).answer, answer(0, 5));
+    asks(&over, "Needs", |bench, file| bench.planner.needs(file, &[]).answer, answer(9, 1));
+    asks(&over, "Needs", |bench, file| bench.planner.needs(file, &[5; 2]).answer, answer(0, 1));
+    asks(&over, "Starts", |bench, file| bench.planner.starts(file, &[5; 4]).answer, answer(9, 5));
+    asks(&over, "Starts", |bench, file| bench.planner.starts(file, &[5; 6]).answer, answer(0, 5));
     // Circles come before everything that concerns what is lent or asked.
-    asks(&round, "Needs", |bench, file| bench.desk.needs(file, &[]).answer, answer(6, 1));
-    asks(&round, "Starts", |bench, file| bench.desk.starts(file, &[]).answer, answer(6, 1));
-    asks(&round, "Overload", |bench, file| bench.desk.overload(file, &[]).answer, answer(6, 1));
-    asks(&round, "Flow", |bench, file| bench.desk.flow(file, 0, &[]).answer, answer(6, 1));
-    asks(&round, "Crew check", |bench, file| bench.desk.crew_check(file, &[], &[]).answer, answer(6, 1));
-    asks(&fine, "Flow", |bench, file| bench.desk.flow(file, 0, &[]).answer, answer(8, 1));
-    asks(&fine, "Flow", |bench, file| bench.desk.flow(file, 1, &[]).answer, answer(9, 24 * 15));
+    asks(&round, "Needs", |bench, file| bench.planner.needs(file, &[]).answer, answer(6, 1));
+    asks(&round, "Starts", |bench, file| bench.planner.starts(file, &[]).answer, answer(6, 1));
+    asks(&round, "Overload", |bench, file| bench.planner.overload(file, &[]).answer, answer(6, 1));
+    asks(&round, "Flow", |bench, file| bench.planner.flow(file, 0, &[]).answer, answer(6, 1));
+    asks(&round, "Crew check", |bench, file| bench.planner.crew_check(file, &[], &[]).answer, answer(6, 1));
+    asks(&fine, "Flow", |bench, file| bench.planner.flow(file, 0, &[]).answer, answer(8, 1));
+    asks(&fine, "Flow", |bench, file| bench.planner.flow(file, 1, &[]).answer, answer(9, 24 * 15));
 }

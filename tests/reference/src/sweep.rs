@@ -129,7 +129,7 @@ pub fn equal_flows(bench: &mut Bench, sheet: &Sheet) {
     let lent = vec![0xA7; 24 * 2145];
     let (file, twin) = (sheet.bytes(), other.bytes());
     for kind in 1..=sheet.kinds as u64 {
-        let (one, two) = (bench.desk.flow(&file, kind, &lent), bench.desk.flow(&twin, kind, &lent));
+        let (one, two) = (bench.planner.flow(&file, kind, &lent), bench.planner.flow(&twin, kind, &lent));
         // Only accepted plans have flows; the rest is compared elsewhere.
         let equal = one.answer & 255 != 0 || (one.answer, one.after) == (two.answer, two.after);
         let outcome = if equal { Ok(()) } else { Err(format!("kind {kind}: another flow after reordering arcs")) };

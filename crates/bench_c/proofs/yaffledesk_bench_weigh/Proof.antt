@@ -1,9 +1,9 @@
--- `bench_c::yaffledesk_bench_weigh` meets its contract, by that of `flow::weigh_ranked`. Assumes nothing.
+-- `bench_c::yaffledesk_bench_weigh` meets its contract, by that of `solver::weigh_ranked`. Assumes nothing.
 use mathlib.Core.Path.{ap, _∙_}
 use Prim.Native.Nat.{_%_, _^_}
 use borrow.Author.Needs.{needs}
 use Rattle.order.specs.Stored.{numberOf}
-use Rattle.flow.specs.declared.Quoted.{Quoted}
+use Rattle.solver.specs.declared.Quoted.{Quoted}
 use Rattle.bench_c.proofs.yaffledesk_bench_weigh.Statement.{statement}
 use Rattle.bench_c.proofs.yaffledesk_bench_weigh.Tie as tie
 

@@ -1,12 +1,12 @@
--- `bench_c::yaffledesk_quote` meets its contract: the order is that of the arcs, and the rest is as `flow::quote` leaves it. Assumes nothing.
+-- `bench_c::yaffledesk_quote` meets its contract: the order is that of the arcs, and the rest is as `solver::quote` leaves it. Assumes nothing.
 use mathlib.Core.Path.{ap, _∙_}
 use Prim.Native.Nat.{_%_, _^_}
 use borrow.Author.Needs.{needs}
 use denote.Ref.{now}
 use Rattle.order.specs.declared.Order.{Order}
 use Rattle.order.specs.Stored.{numberOf}
-use Rattle.flow.specs.declared.Quoted.{Quoted}
-use Rattle.flow.specs.Quote.{quoteOf, flowOf}
+use Rattle.solver.specs.declared.Quoted.{Quoted}
+use Rattle.solver.specs.model.Quote.{quoteOf, flowOf}
 use Rattle.bench_c.proofs.yaffledesk_quote.Statement.{statement}
 use Rattle.bench_c.proofs.yaffledesk_quote.Tie as tie
 

@@ -4,7 +4,7 @@ use mathlib.Core.Path.{_≡_, refl, ap, _∙_}
 use Prim.Native.Nat.{ℕ}
 use borrow.Author.Needs.{needs}
 use Rattle.words.specs.Bits.{minus}
-use Rattle.words.specs.Loops.{each}
+use Rattle.words.specs.model.Loops.{each}
 use Rattle.order.specs.Stored.{elements, numberOf, setOf, row}
 use Rattle.order.specs.Sets.{minusOf}
 use Rattle.order.specs.Rows.{grown}

@@ -4,7 +4,7 @@ use mathlib.Core.List.{List}
 use Prim.Native.Nat.{ℕ, _≤_, _-_}
 use native.Mathlib.Omega.{arith}
 use borrow.Author.Needs.{needs}
-use Rattle.words.specs.Loops.{upto}
+use Rattle.words.specs.model.Loops.{upto}
 use Rattle.words.proofs.Loops.{up-none, up-again, up-end}
 use lib.Bits.{bitOr}
 use Rattle.order.specs.Stored.{elements, numberOf, row, cells}

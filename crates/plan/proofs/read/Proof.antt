@@ -3,9 +3,9 @@ use mathlib.Core.Path.{_∙_}
 use native.Mathlib.Omega.{arith}
 use lib.ListN.{length}
 use borrow.Author.Needs.{needs}
-use Rattle.plan.specs.Reads.{readOf}
+use Rattle.plan.specs.model.Reads.{readOf}
 use Rattle.plan.specs.Causes.{answerOf}
-use Rattle.plan.proofs.Turns.{told, told-not, length-high}
+use Rattle.plan.proofs.ReaderLoops.{told, told-not, length-high}
 use Rattle.plan.proofs.Phases.{file-read}
 use Rattle.plan.proofs.read.Statement.{statement}
 use Rattle.plan.proofs.read.Tie as tie

@@ -5,7 +5,7 @@ use native.Mathlib.Omega.{arith}
 use borrow.Author.Needs.{needs}
 use Rattle.words.specs.Bits.{bit}
 use Rattle.order.proofs.Stored.{number-of}
-use Rattle.kinds.proofs.Sending.{mark-end, mark-job, mark-other}
+use Rattle.kinds.proofs.NodeUnits.{mark-end, mark-job, mark-other}
 use Rattle.kinds.proofs.flows.mark.Statement.{statement}
 use Rattle.kinds.proofs.flows.mark.Tie as tie
 

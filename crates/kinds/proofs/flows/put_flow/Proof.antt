@@ -3,11 +3,11 @@ use mathlib.Core.Path.{_≡_}
 use Prim.Native.Nat.{_+_, _≤_, _-_}
 use native.Mathlib.Omega.{arith}
 use borrow.Author.Needs.{needs}
-use Rattle.words.specs.Loops.{upto}
+use Rattle.words.specs.model.Loops.{upto}
 use Rattle.words.proofs.Loops.{up-none, up-again}
 use Rattle.kinds.specs.Flows.{units, markOf}
-use Rattle.kinds.specs.Writing.{lent, putRow}
-use Rattle.kinds.proofs.Counting.{row-room, rows-length, rows-end}
+use Rattle.kinds.specs.model.Writing.{lent, putRow}
+use Rattle.kinds.proofs.RecordRoom.{row-room, rows-length, rows-end}
 use Rattle.kinds.proofs.flows.put_flow.Statement.{statement}
 use Rattle.kinds.proofs.flows.put_flow.Tie as tie
 

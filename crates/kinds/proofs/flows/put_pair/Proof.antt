@@ -2,8 +2,8 @@
 use mathlib.Core.Path.{sym}
 use native.Mathlib.Omega.{arith}
 use borrow.Author.Needs.{needs}
-use Rattle.kinds.specs.Writing.{lent}
-use Rattle.kinds.proofs.Counting.{pair-none, pair-put}
+use Rattle.kinds.specs.model.Writing.{lent}
+use Rattle.kinds.proofs.RecordRoom.{pair-none, pair-put}
 use Rattle.kinds.proofs.flows.put_pair.Statement.{statement}
 use Rattle.kinds.proofs.flows.put_pair.Tie as tie
 

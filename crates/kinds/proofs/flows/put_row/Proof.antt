@@ -3,11 +3,11 @@ use mathlib.Core.Path.{_≡_}
 use Prim.Native.Nat.{_+_, _≤_, _-_}
 use native.Mathlib.Omega.{arith}
 use borrow.Author.Needs.{needs}
-use Rattle.words.specs.Loops.{upto}
+use Rattle.words.specs.model.Loops.{upto}
 use Rattle.words.proofs.Loops.{up-none}
 use Rattle.kinds.specs.Flows.{units, markOf}
-use Rattle.kinds.specs.Writing.{lent}
-use Rattle.kinds.proofs.Counting.{pairStep, pair-room, pair-next, pairs-length, pairs-end}
+use Rattle.kinds.specs.model.Writing.{lent}
+use Rattle.kinds.proofs.RecordRoom.{pairStep, pair-room, pair-next, pairs-length, pairs-end}
 use Rattle.kinds.proofs.flows.put_row.Statement.{statement}
 use Rattle.kinds.proofs.flows.put_row.Tie as tie
 

@@ -3,11 +3,11 @@ use mathlib.Core.Path.{refl, sym, subst, _∙_}
 use Prim.Native.Nat.{ℕ, _+_}
 use native.Mathlib.Omega.{arith}
 use borrow.Author.Needs.{needs}
-use Rattle.flow.specs.Quote.{unused}
+use Rattle.solver.specs.model.Quote.{unused}
 use Rattle.kinds.specs.Flows.{markOf, pairsOf}
-use Rattle.kinds.specs.Writing.{Room, lent}
-use Rattle.kinds.proofs.Sending.{solved-need, solved-bounded, solved-units}
-use Rattle.kinds.proofs.Counting.{units-written}
+use Rattle.kinds.specs.model.Writing.{Room, lent}
+use Rattle.kinds.proofs.NodeUnits.{solved-need, solved-bounded, solved-units}
+use Rattle.kinds.proofs.RecordRoom.{units-written}
 use Rattle.kinds.proofs.flows.write_flow.Statement.{statement}
 use Rattle.kinds.proofs.flows.write_flow.Tie as tie
 

@@ -8,7 +8,7 @@ use borrow.Author.Needs.{needs}
 use Rattle.words.proofs.Tables.{stored-next}
 use Rattle.order.specs.Stored.{elements}
 use Rattle.kinds.specs.Needs.{demandAt}
-use Rattle.kinds.proofs.Quoting.{demands-made}
+use Rattle.kinds.proofs.KindLoops.{demands-made}
 use Rattle.kinds.proofs.needs.demands_for.Statement.{statement}
 use Rattle.kinds.proofs.needs.demands_for.Tie as tie
 

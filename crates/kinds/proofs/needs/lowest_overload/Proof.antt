@@ -7,8 +7,8 @@ use borrow.Author.Count.{below-none}
 use borrow.Author.Needs.{needs}
 use Rattle.order.specs.Orders.{afterRows}
 use Rattle.order.specs.declared.Order.{Order}
-use Rattle.flow.specs.Quote.{unused}
-use Rattle.kinds.proofs.Quoting.{NoneBelow, quoted-for, lowest-found, lowest-next, lowest-none}
+use Rattle.solver.specs.model.Quote.{unused}
+use Rattle.kinds.proofs.KindLoops.{NoneBelow, quoted-for, lowest-found, lowest-next, lowest-none}
 use Rattle.kinds.proofs.needs.lowest_overload.Statement.{statement}
 use Rattle.kinds.proofs.needs.lowest_overload.Tie as tie
 

@@ -8,9 +8,9 @@ use borrow.Author.Needs.{needs}
 use Rattle.words.specs.Tables.{over}
 use Rattle.order.specs.Orders.{afterRows}
 use Rattle.order.specs.declared.Order.{Order}
-use Rattle.flow.specs.Quote.{unused}
+use Rattle.solver.specs.model.Quote.{unused}
 use Rattle.kinds.specs.Needs.{needsFor}
-use Rattle.kinds.proofs.Quoting.{quoted-for, needs-next}
+use Rattle.kinds.proofs.KindLoops.{quoted-for, needs-next}
 use Rattle.kinds.proofs.needs.put_needs.Statement.{statement}
 use Rattle.kinds.proofs.needs.put_needs.Tie as tie
 

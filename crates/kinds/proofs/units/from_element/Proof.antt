@@ -3,8 +3,8 @@ use mathlib.Core.Path.{_∙_, ap}
 use Prim.Native.Nat.{ℕ, _-_}
 use native.Mathlib.Omega.{arith}
 use borrow.Author.Needs.{needs}
-use Rattle.flow.specs.Sound.{asked}
-use Rattle.kinds.proofs.Sending.{element-end, element-to}
+use Rattle.solver.specs.Sound.{asked}
+use Rattle.kinds.proofs.NodeUnits.{element-end, element-to}
 use Rattle.kinds.proofs.units.from_element.Statement.{statement}
 use Rattle.kinds.proofs.units.from_element.Tie as tie
 

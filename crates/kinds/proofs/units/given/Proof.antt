@@ -5,7 +5,7 @@ use native.Mathlib.Omega.{arith}
 use borrow.Author.Needs.{needs}
 use Rattle.flow_math.specs.Handover.{row}
 use Rattle.flow_math.proofs.Rows.{row-none, row-step, row-next}
-use Rattle.flow.specs.Network.{handed}
+use Rattle.solver.specs.model.Network.{handed}
 use Rattle.kinds.proofs.units.given.Statement.{statement}
 use Rattle.kinds.proofs.units.given.Tie as tie
 

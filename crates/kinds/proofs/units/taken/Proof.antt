@@ -5,7 +5,7 @@ use native.Mathlib.Omega.{arith}
 use borrow.Author.Needs.{needs}
 use Rattle.flow_math.specs.Handover.{col}
 use Rattle.flow_math.proofs.Rows.{col-none, col-step, col-next}
-use Rattle.flow.specs.Network.{handed}
+use Rattle.solver.specs.model.Network.{handed}
 use Rattle.kinds.proofs.units.taken.Statement.{statement}
 use Rattle.kinds.proofs.units.taken.Tie as tie
 

@@ -7,7 +7,7 @@ use borrow.Author.Needs.{needs}
 use Rattle.plan.specs.Records.{recordAt}
 use Rattle.plan.specs.Causes.{isReadable, activityCause}
 use Rattle.records.proofs.Steps.{rest-of}
-use Rattle.plan.proofs.Turns.{record-left, refusal-stop, refusal-again, refusal-end}
+use Rattle.plan.proofs.ReaderLoops.{record-left, refusal-stop, refusal-again, refusal-end}
 use Rattle.plan.proofs.activity.activities_cause.Statement.{statement}
 use Rattle.plan.proofs.activity.activities_cause.Tie as tie
 

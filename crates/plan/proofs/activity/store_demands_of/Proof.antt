@@ -3,9 +3,9 @@ use mathlib.Core.Path.{_≡_}
 use Prim.Native.Nat.{_-_, _≤_}
 use native.Mathlib.Omega.{arith}
 use borrow.Author.Needs.{needs}
-use Rattle.words.specs.Loops.{upto}
+use Rattle.words.specs.model.Loops.{upto}
 use Rattle.words.proofs.Loops.{up-none, up-again, up-end}
-use Rattle.plan.specs.Phases.{putDemand}
+use Rattle.plan.specs.model.Phases.{putDemand}
 use Rattle.plan.proofs.activity.store_demands_of.Statement.{statement}
 use Rattle.plan.proofs.activity.store_demands_of.Tie as tie
 

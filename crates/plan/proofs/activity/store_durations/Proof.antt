@@ -3,11 +3,11 @@ use mathlib.Core.Path.{_≡_}
 use Prim.Native.Nat.{_-_, _≤_}
 use native.Mathlib.Omega.{arith}
 use borrow.Author.Needs.{needs}
-use Rattle.words.specs.Loops.{upto}
+use Rattle.words.specs.model.Loops.{upto}
 use Rattle.words.proofs.Loops.{up-none, up-again, up-end}
-use Rattle.plan.specs.Phases.{putDuration}
+use Rattle.plan.specs.model.Phases.{putDuration}
 use Rattle.records.proofs.Steps.{rest-of}
-use Rattle.plan.proofs.Turns.{record-left}
+use Rattle.plan.proofs.ReaderLoops.{record-left}
 use Rattle.plan.proofs.activity.store_durations.Statement.{statement}
 use Rattle.plan.proofs.activity.store_durations.Tie as tie
 

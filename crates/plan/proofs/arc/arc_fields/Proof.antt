@@ -1,7 +1,7 @@
 -- `plan::arc::arc_fields` meets its contract: each `return` rewrites with the tests and the calls that led there. Assumes nothing.
 use borrow.Author.Needs.{needs}
 use Rattle.plan.specs.Records.{arcFields}
-use Rattle.plan.proofs.Turns.{told, told-not}
+use Rattle.plan.proofs.ReaderLoops.{told, told-not}
 use Rattle.plan.proofs.arc.arc_fields.Statement.{statement}
 use Rattle.plan.proofs.arc.arc_fields.Tie as tie
 

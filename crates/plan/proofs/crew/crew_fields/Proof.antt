@@ -4,7 +4,7 @@ use lib.ListN.{getD}
 use borrow.Author.Tests.{lt-ltb, le-ltb, lt-leb, le-leb}
 use borrow.Author.Needs.{needs}
 use Rattle.plan.specs.Records.{crewFields}
-use Rattle.plan.proofs.Turns.{told, told-not}
+use Rattle.plan.proofs.ReaderLoops.{told, told-not}
 use Rattle.plan.proofs.crew.crew_fields.Statement.{statement}
 use Rattle.plan.proofs.crew.crew_fields.Tie as tie
 

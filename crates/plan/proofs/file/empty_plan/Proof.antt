@@ -1,7 +1,7 @@
 -- `plan::file::empty_plan` meets its contract: the result computes to the definition. Assumes nothing.
 use mathlib.Core.Path.{refl}
 use Rattle.order.specs.Stored.{cells}
-use Rattle.plan.specs.Plans.{emptyPlan}
+use Rattle.plan.specs.model.Plans.{emptyPlan}
 use Rattle.plan.proofs.file.empty_plan.Statement.{statement}
 use Rattle.plan.proofs.file.empty_plan.Tie as tie
 

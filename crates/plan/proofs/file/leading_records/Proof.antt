@@ -6,7 +6,7 @@ use native.Mathlib.Omega.{arith}
 use borrow.Author.Needs.{needs}
 use lib.ListN.{drop}
 use Rattle.plan.specs.Records.{leading}
-use Rattle.plan.proofs.Turns.{leading-done, leading-turn, leading-stop}
+use Rattle.plan.proofs.ReaderLoops.{leading-done, leading-turn, leading-stop}
 use Rattle.plan.proofs.file.leading_records.Statement.{statement}
 use Rattle.plan.proofs.file.leading_records.Tie as tie
 

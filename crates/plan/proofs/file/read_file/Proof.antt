@@ -1,9 +1,9 @@
 -- `plan::file::read_file` meets its contract: what follows the answer on the activities is what the definition has follow it. Assumes nothing.
 use native.Mathlib.Omega.{arith}
 use borrow.Author.Needs.{needs}
-use Rattle.plan.specs.Phases.{fileOf}
+use Rattle.plan.specs.model.Phases.{fileOf}
 use Rattle.records.proofs.Steps.{rest-of}
-use Rattle.plan.proofs.Turns.{length-rest, few-activities, accepted, then-on, then-refused}
+use Rattle.plan.proofs.ReaderLoops.{length-rest, few-activities, accepted, then-on, then-refused}
 use Rattle.plan.proofs.file.read_file.Statement.{statement}
 use Rattle.plan.proofs.file.read_file.Tie as tie
 

@@ -4,9 +4,9 @@ use Prim.Native.Nat.{suc, _+_, _-_}
 use native.Mathlib.Omega.{arith}
 use borrow.Author.Needs.{needs}
 use Rattle.order.specs.Stored.{cells}
-use Rattle.plan.specs.Phases.{restOf}
+use Rattle.plan.specs.model.Phases.{restOf}
 use Rattle.records.proofs.Steps.{rest-of}
-use Rattle.plan.proofs.Turns.{length-rest, arcs-kept, accepted, then-on, then-refused}
+use Rattle.plan.proofs.ReaderLoops.{length-rest, arcs-kept, accepted, then-on, then-refused}
 use Rattle.plan.proofs.file.read_rest.Statement.{statement}
 use Rattle.plan.proofs.file.read_rest.Tie as tie
 

@@ -4,7 +4,7 @@ use Prim.Native.Nat.{ℕ, _+_, _-_}
 use native.Mathlib.Omega.{arith}
 use borrow.Author.Needs.{needs}
 use Rattle.lines.specs.Text.{text, more}
-use Rattle.desk.specs.Open.{planIn}
+use Rattle.planner.specs.Open.{planIn}
 use Rattle.report.specs.Report.{flowRoom, kindLines}
 use Rattle.lines.proofs.Texts.{grown-by}
 use Rattle.lines.proofs.Putting.{Putting, putting-none, putting-length, putting-next, putting-end}

@@ -3,9 +3,9 @@ use mathlib.Core.Path.{sym, ap, _∙_}
 use native.Mathlib.Omega.{arith}
 use lib.ListN.{length-set}
 use borrow.Author.Needs.{needs}
-use Rattle.desk.specs.declared.Cause.{Cause}
+use Rattle.planner.specs.declared.Cause.{Cause}
 use Rattle.report_lines.specs.Lines.{refusedNumbers}
-use Rattle.report_lines.proofs.Refusing.{three-first}
+use Rattle.report_lines.proofs.RefusalLine.{three-first}
 use Rattle.report_lines.proofs.refusal.put_cause.Statement.{statement}
 use Rattle.report_lines.proofs.refusal.put_cause.Tie as tie
 

@@ -4,7 +4,7 @@ use borrow.Author.Needs.{needs}
 use Rattle.order.specs.Stored.{numberOf}
 use Rattle.order.proofs.Stored.{number-of}
 use Rattle.order.proofs.Listing.{some-left, none-left, listed-below, listing-less}
-use Rattle.report_lines.proofs.Refusing.{Listed, listed-none, listed-room, listed-next, listed-end}
+use Rattle.report_lines.proofs.RefusalLine.{Listed, listed-none, listed-room, listed-next, listed-end}
 use Rattle.report_lines.proofs.refusal.put_members.Statement.{statement}
 use Rattle.report_lines.proofs.refusal.put_members.Tie as tie
 

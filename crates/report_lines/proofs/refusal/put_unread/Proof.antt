@@ -3,8 +3,8 @@ use mathlib.Core.Path.{sym, ap, _∙_}
 use native.Mathlib.Omega.{arith}
 use borrow.Author.Needs.{needs}
 use Rattle.plan.specs.declared.Cause.{Cause as Unread}
-use Rattle.desk.specs.Numbers.{unreadNumbers}
-use Rattle.report_lines.proofs.Refusing.{one-first}
+use Rattle.planner.specs.Numbers.{unreadNumbers}
+use Rattle.report_lines.proofs.RefusalLine.{one-first}
 use Rattle.report_lines.proofs.refusal.put_unread.Statement.{statement}
 use Rattle.report_lines.proofs.refusal.put_unread.Tie as tie
 

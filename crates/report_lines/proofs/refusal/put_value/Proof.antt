@@ -2,7 +2,7 @@
 use native.Mathlib.Omega.{arith}
 use lib.ListN.{length-set}
 use borrow.Author.Needs.{needs}
-use Rattle.report_lines.proofs.Refusing.{two-first}
+use Rattle.report_lines.proofs.RefusalLine.{two-first}
 use Rattle.report_lines.proofs.refusal.put_value.Statement.{statement}
 use Rattle.report_lines.proofs.refusal.put_value.Tie as tie
 

@@ -4,7 +4,7 @@ use native.Mathlib.Omega.{arith}
 use lib.ListN.{length}
 use borrow.Author.Needs.{needs}
 use Rattle.report_lines.specs.Lines.{refusedNumbers, refusedLine, slots}
-use Rattle.report_lines.proofs.Refusing.{numbers-few, refused-end, refused-within}
+use Rattle.report_lines.proofs.RefusalLine.{numbers-few, refused-end, refused-within}
 use Rattle.report_lines.proofs.refusal.refused_text.Statement.{statement}
 use Rattle.report_lines.proofs.refusal.refused_text.Tie as tie
 

@@ -10,7 +10,7 @@ use borrow.Author.Needs.{needs}
 use borrow.Author.Tests.{lt-ltb, le-ltb}
 use Rattle.words.proofs.Firsts.{first-stop, first-end}
 use Rattle.schedule.specs.Checks.{brokenTo, brokenFrom}
-use Rattle.schedule.specs.Arrays.{crewNet}
+use Rattle.schedule.specs.model.Arrays.{crewNet}
 use Rattle.schedule.specs.Lists.{at}
 use Rattle.schedule.proofs.crew.broken_from.Statement.{statement}
 use Rattle.schedule.proofs.crew.broken_from.Tie as tie

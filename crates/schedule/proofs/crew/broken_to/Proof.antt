@@ -11,7 +11,7 @@ use Rattle.words.specs.Bits.{bit}
 use Rattle.order.proofs.Stored.{number-of}
 use Rattle.words.proofs.Firsts.{first-stop, first-end}
 use Rattle.schedule.specs.Checks.{breaks, brokenTo}
-use Rattle.schedule.specs.Arrays.{crewNet}
+use Rattle.schedule.specs.model.Arrays.{crewNet}
 use Rattle.schedule.specs.Lists.{at}
 use Rattle.schedule.proofs.Arcs.{breaks-by}
 use Rattle.schedule.proofs.crew.broken_to.Statement.{statement}

@@ -7,9 +7,9 @@ use lib.Dec.{ltb}
 use lib.ListN.{length}
 use borrow.Author.Needs.{needs}
 use Rattle.schedule.specs.Checks.{lowestKind}
-use Rattle.schedule.specs.Arrays.{workOf}
+use Rattle.schedule.specs.model.Arrays.{workOf}
 use Rattle.schedule.specs.Lists.{at}
-use Rattle.schedule.specs.Levels.{Best, soonerOf}
+use Rattle.schedule.specs.model.Levels.{Best, soonerOf}
 use Rattle.schedule.proofs.Candidates.{best-none, best-next, best-all}
 use Rattle.schedule.proofs.crew.first_period.Statement.{statement}
 use Rattle.schedule.proofs.crew.first_period.Tie as tie

@@ -8,7 +8,7 @@ use borrow.Author.Needs.{needs}
 use borrow.Author.Tests.{lt-ltb, le-ltb}
 use Rattle.words.proofs.Firsts.{first-stop, first-end}
 use Rattle.schedule.specs.Checks.{exceeds, lowestKind}
-use Rattle.schedule.specs.Arrays.{workOf}
+use Rattle.schedule.specs.model.Arrays.{workOf}
 use Rattle.schedule.specs.Lists.{at}
 use Rattle.schedule.proofs.Candidates.{exceeds-by}
 use Rattle.schedule.proofs.crew.lowest_kind.Statement.{statement}

@@ -10,7 +10,7 @@ use Rattle.words.specs.Sums.{sum}
 use Rattle.words.proofs.Sums.{sum-next}
 use Rattle.flow_math.specs.Crew as crew
 use Rattle.schedule.specs.Checks.{atWork}
-use Rattle.schedule.specs.Arrays.{workOf}
+use Rattle.schedule.specs.model.Arrays.{workOf}
 use Rattle.schedule.proofs.crew.occupied_at.Statement.{statement}
 use Rattle.schedule.proofs.crew.occupied_at.Tie as tie
 use Rattle.order.specs.Stored.{elements}

@@ -5,8 +5,8 @@ use Prim.Native.Nat.{ℕ, _+_, _≤_, _-_}
 use native.Mathlib.Nat.{not-suc-le-zero}
 use native.Mathlib.Omega.{arith}
 use borrow.Author.Needs.{needs}
-use Rattle.schedule.specs.Arrays.{netOf, byDuration, FinishesFit}
-use Rattle.schedule.specs.Levels.{startsBy, RanksDone}
+use Rattle.schedule.specs.model.Arrays.{netOf, byDuration, FinishesFit}
+use Rattle.schedule.specs.model.Levels.{startsBy, RanksDone}
 use Rattle.schedule.proofs.Levels.{by-none, by-fits, by-level, by-all, ranks-next, ranks-stuck}
 use Rattle.schedule.proofs.Ranks.{ranked}
 use Rattle.schedule.proofs.early.earliest.Statement.{statement}

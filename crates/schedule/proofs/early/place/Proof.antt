@@ -5,9 +5,9 @@ use lib.ListN.{set}
 use borrow.Author.Needs.{needs}
 use Rattle.order.specs.Stored.{numberOf}
 use Rattle.order.proofs.Listing.{listed-below, listing-less, listing-again, listing-end}
-use Rattle.schedule.specs.Arrays.{netOf, byDuration}
+use Rattle.schedule.specs.model.Arrays.{netOf, byDuration}
 use Rattle.schedule.specs.Lists.{at}
-use Rattle.schedule.specs.Levels.{place, placed}
+use Rattle.schedule.specs.model.Levels.{place, placed}
 use Rattle.schedule.proofs.early.place.Statement.{statement}
 use Rattle.schedule.proofs.early.place.Tie as tie
 

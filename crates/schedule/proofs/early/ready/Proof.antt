@@ -5,7 +5,7 @@ use borrow.Author.Needs.{needs}
 use Rattle.words.specs.Bits.{minus}
 use Rattle.order.specs.Stored.{numberOf}
 use Rattle.order.proofs.Stored.{number-of, number-all}
-use Rattle.schedule.specs.Levels.{readyOf}
+use Rattle.schedule.specs.model.Levels.{readyOf}
 use Rattle.schedule.proofs.early.ready.Statement.{statement}
 use Rattle.schedule.proofs.early.ready.Tie as tie
 

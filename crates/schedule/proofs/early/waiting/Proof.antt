@@ -6,7 +6,7 @@ use Prim.Native.Nat.{ℕ}
 use lib.Bits.{bitOr}
 use borrow.Author.Needs.{needs}
 use Rattle.words.specs.Bits.{minus}
-use Rattle.words.specs.Loops.{each}
+use Rattle.words.specs.model.Loops.{each}
 use Rattle.order.specs.Stored.{elements, numberOf, row}
 use Rattle.order.proofs.Stored.{number-of, number-none, number-all}
 use Rattle.order.proofs.Listing.{listed-below, listing-less, listing-again, listing-end}

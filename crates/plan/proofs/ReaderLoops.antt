@@ -1,0 +1,158 @@
+-- What the proofs of the reader's functions share: a turn of each loop, the tests that the code makes, and what follows a test. Assumes nothing.
+use mathlib.Core.Path.{_≡_, refl, sym, ap, _∙_}
+use mathlib.Core.Bool.{Bool, true, false, not, _&&_}
+use mathlib.Core.List.{List}
+use Prim.Native.Nat.{ℕ, zero, suc, _+_, _-_, _*_, _%_, _≤_, _<_}
+use native.Mathlib.Nat.{add-zero}
+use native.Mathlib.Omega.{arith}
+use lib.Dec.{eqb, leb, ltb}
+use lib.ListN.{length, getD, take, drop, length-drop}
+use lib.Seq.{getD-drop}
+use borrow.Author.Count.{below-more}
+use borrow.Author.Tests.{eq-eqb, ne-eqb, lt-ltb, le-ltb, le-leb, leb-true, not-true, not-false}
+use Rattle.words.specs.Members.{first}
+use Rattle.words.proofs.Tests.{clash, and-left, and-right, and-both, cond-true, cond-false}
+use Rattle.words.proofs.Firsts.{first-stop, first-end}
+use Rattle.records.specs.Bytes.{byte}
+use Rattle.order.specs.Stored.{elements}
+use Rattle.plan.specs.declared.Answer.{Answer}
+use Rattle.plan.specs.declared.Answer.the-variants.{Readable, Refused}
+use Rattle.plan.specs.declared.Reading.{Reading}
+use Rattle.plan.specs.Records.{recordAt, leading, isEnd, arcFields, arcSpare, activities}
+use Rattle.plan.specs.Causes.{isReadable, activityCause, arcCause, firstRefusal, isLength}
+use Rattle.plan.specs.model.Phases.{refusalOf, unlessRefused}
+use Rattle.records.proofs.Steps.{rest-of}
+use Rattle.plan.proofs.Places.{record-on}
+use Rattle.plan.proofs.RecordRules.{fields-kept, activity-kept, end-high}
+use Rattle.plan.proofs.Refusals.{all-readable}
+
+-- ---- a test that the code made and negated, as the definition has it
+
+pub told : {b v : Bool} → b ≡ v → not b ≡ false → v ≡ true
+told {b} e n = sym e ∙ not-false b n
+
+pub told-not : {b v : Bool} → b ≡ v → not b ≡ true → v ≡ false
+told-not {b} e n = sym e ∙ not-true b n
+
+-- ---- the records of a list
+
+pub length-rest : (a : ℕ) (s : List ℕ) → length (take (length s - a) (drop a s)) ≡ length s - a
+length-rest a s = rw (rest-of, length-drop)
+
+-- a whole record is left at i
+pub record-left : (n i : ℕ) (s : List ℕ) → i < n → 24 * n ≤ length s → 24 ≤ length (take (length s - 24 * i) (recordAt s i))
+record-left n i s more fits = rw length-rest (omega arith)
+
+-- ---- a loop that counts the leading records of a type: with i counted up to n, what is left
+
+-- the first byte of what is left at an index
+first-byte : (a : ℕ) (s : List ℕ) → byte (drop a s) 0 ≡ getD s a 0
+first-byte a s = rw (getD-drop, add-zero)
+
+module _ (type n i : ℕ) (s : List ℕ) (more : i < n) where
+  left-suc : n - i ≡ suc (n - (i + 1))
+  left-suc = omega arith
+
+  pub leading-turn : getD s (24 * i) 0 ≡ type → leading type (n - i) (recordAt s i) ≡ suc (leading type (n - (i + 1)) (recordAt s (i + 1)))
+  unfolding leading
+  leading-turn e = rw (left-suc, first-byte, record-on s i 1, eq-eqb _ _ e)
+
+  pub leading-stop : (getD s (24 * i) 0 ≡ type → ⊥) → leading type (n - i) (recordAt s i) ≡ 0
+  unfolding leading
+  leading-stop ne = rw (left-suc, first-byte, ne-eqb _ _ ne)
+
+pub leading-done : (type n i : ℕ) (t : List ℕ) → n ≤ i → leading type (n - i) t ≡ 0
+unfolding leading
+leading-done type n i t h = let z : n - i ≡ 0 = omega arith in rw z
+
+-- ---- a loop that looks for the first refusal among f 0, .., f (n - 1)
+
+abbrev refuses : (ℕ → Answer) → ℕ → Bool
+refuses f i = not (isReadable (f i))
+
+module _ (n : ℕ) (f : ℕ → Answer) where
+  -- at i, where none before it is refused: `answer` is what the code finds there, and `b` what its test says of it
+  module _ (i : ℕ) (none : (k : ℕ) → k < i → isReadable (f k) ≡ true) where
+    module _ {answer : Answer} {b : Bool} (found : answer ≡ f i) (test : b ≡ isReadable answer) where
+      pub refusal-stop : i < n → not b ≡ true → answer ≡ firstRefusal n f
+      unfolding firstRefusal
+      refusal-stop l e =
+          let p = first-stop n (refuses f) i (λ k m. ap not (none k m)) l (ap not (told-not (test ∙ ap isReadable found) e)) in
+          found ∙ ap f p ∙ sym (cond-true (f (first n (refuses f))) Readable (lt-ltb (first n (refuses f)) n (omega arith)))
+
+      pub refusal-again : not b ≡ false → (k : ℕ) → k < i + 1 → isReadable (f k) ≡ true
+      refusal-again e = below-more (λ k. isReadable (f k) ≡ true) i none (told (test ∙ ap isReadable found) e)
+
+    pub refusal-end : n ≤ i → i ≤ n → Readable ≡ firstRefusal n f
+    unfolding firstRefusal
+    refusal-end l h =
+        let e : i ≡ n = omega arith in
+        let p = first-end n (refuses f) i (λ k m. ap not (none k m)) e in
+        sym (cond-false (f (first n (refuses f))) Readable (le-ltb (first n (refuses f)) n (omega arith)))
+
+-- ---- what follows an answer: `answer` is what the code found, `b` what its test said of it, and q what the code then gave
+
+unless-readable : (a : Answer) (next : Reading) → isReadable a ≡ true → next ≡ unlessRefused a next
+unless-readable Readable next e = refl
+unless-readable (Refused c) next e = clash refl (sym e)
+
+unless-refused : (a : Answer) (next : Reading) → isReadable a ≡ false → refusalOf a ≡ unlessRefused a next
+unless-refused Readable next e = clash refl e
+unless-refused (Refused c) next e = refl
+
+module _ {answer cause : Answer} {b : Bool} (found : answer ≡ cause) (test : b ≡ isReadable answer) where
+  pub accepted : not b ≡ false → isReadable cause ≡ true
+  accepted e = told (test ∙ ap isReadable found) e
+
+  pub then-on : {q next : Reading} → not b ≡ false → q ≡ next → q ≡ unlessRefused cause next
+  then-on {q} {next} e g = g ∙ unless-readable cause next (accepted e)
+
+  pub then-refused : {q : Reading} (next : Reading) → not b ≡ true → q ≡ refusalOf answer → q ≡ unlessRefused cause next
+  then-refused next e g = g ∙ ap refusalOf found ∙ unless-refused cause next (told-not (test ∙ ap isReadable found) e)
+
+-- ---- what a run of records with no cause tells
+
+-- an activity is one of as many first records as a file may have activities
+pub few-activities : (m : ℕ) (s : List ℕ) → isReadable (firstRefusal m (λ i. activityCause i (recordAt s i))) ≡ true → m ≤ activities
+few-activities zero s e = omega arith
+few-activities (suc k) s e =
+    let h = activity-kept k (recordAt s k) (all-readable (suc k) (λ i. activityCause i (recordAt s i)) e k (omega arith)) .few in omega arith
+
+-- an end of an arc is one of more activities too
+end-more : (m i n : ℕ) → isEnd m i ≡ true → m ≤ n → isEnd n i ≡ true
+end-more m i n e h = and-both (ltb 0 i) (leb i n) (and-left (ltb 0 i) (leb i m) e) (le-leb i n (omega (arith, end-high m i e)))
+
+abbrev differ : List ℕ → Bool
+differ r = not (eqb (byte r 1) (byte r 2))
+
+-- the ends of an arc whose fields keep their rules in a plan of m activities
+module _ (m : ℕ) (r : List ℕ) (e : arcFields m r ≡ true) where
+  pub arc-from : isEnd m (byte r 1) ≡ true
+  unfolding arcFields
+  arc-from = and-left (isEnd m (byte r 1)) (isEnd m (byte r 2) && differ r) e
+
+  both-to : isEnd m (byte r 2) && differ r ≡ true
+  unfolding arcFields
+  both-to = and-right (isEnd m (byte r 1)) (isEnd m (byte r 2) && differ r) e
+
+  pub arc-to : isEnd m (byte r 2) ≡ true
+  arc-to = and-left (isEnd m (byte r 2)) (differ r) both-to
+
+  -- they keep them in a plan of more activities
+  arc-more : (n : ℕ) → m ≤ n → arcFields n r ≡ true
+  unfolding arcFields
+  arc-more n h =
+      and-both (isEnd n (byte r 1)) (isEnd n (byte r 2) && differ r) (end-more m (byte r 1) n arc-from h)
+      (and-both (isEnd n (byte r 2)) (differ r) (end-more m (byte r 2) n arc-to h) (and-right (isEnd m (byte r 2)) (differ r) both-to))
+
+pub arcs-kept : (type place m n : ℕ) (t : List ℕ) → m ≤ elements → isReadable (firstRefusal n (λ i. arcCause type (place + i) m (recordAt t i))) ≡ true
+    → (i : ℕ) → i < n → arcFields elements (recordAt t i) ≡ true
+unfolding arcCause
+arcs-kept type place m n t h e i l =
+    let r = recordAt t i in
+    arc-more m r (fields-kept (eqb (byte r 0) type) (arcFields m r) (arcSpare r) (place + i) (all-readable n (λ k. arcCause type (place + k) m (recordAt t k)) e i l)) elements h
+
+-- a file of a right length has at most 49,152 bytes
+pub length-high : (n : ℕ) → isLength n ≡ true → n ≤ 49152
+unfolding isLength
+length-high n e = leb-true n 49152 (and-left (leb n 49152) (eqb (n % 24) 0) (and-right (ltb 0 n) (leb n 49152 && eqb (n % 24) 0) e))

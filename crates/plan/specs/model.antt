@@ -1,0 +1,5 @@
+-- For the code: the plan that a readable file says, as tables (Plans), the reading of a file (Reads), what the tables hold (Said), the phases of the reader (Phases).
+pub mod Plans
+pub mod Reads
+pub mod Said
+pub mod Phases

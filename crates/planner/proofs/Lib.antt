@@ -1,0 +1,17 @@
+-- Laws of the definitions of `specs/`, which the proofs of the code and the crate `promises` go by.
+--
+-- FaultLaws (causes in turn), OutputLaws (answers and lent memory), OpenLaws (the causes 1 to 6), FileOrders (arcs, orders and starts, in the file's own terms), QuotedNeeds
+-- (needs and overload), FlowUnits (flows), and for each operation one: VerdictLaws (Verdict), NeedsLaws (Needs), StartsLaws, FlowLaws (Flow), OverloadLaws (Overload),
+-- CrewCheckLaws (Crew check).
+pub mod FaultLaws
+pub mod OutputLaws
+pub mod OpenLaws
+pub mod StartsLaws
+pub mod CrewCheckLaws
+pub mod FileOrders
+pub mod QuotedNeeds
+pub mod FlowUnits
+pub mod VerdictLaws
+pub mod NeedsLaws
+pub mod OverloadLaws
+pub mod FlowLaws

@@ -1,0 +1,81 @@
+-- How the operations that write end: the laws of `outputOf` and `lentAfter`, once for all of them. Assumes nothing.
+use mathlib.Core.Path.{_≡_, refl, sym, ap, _∙_}
+use mathlib.Core.Bool.{true, false, cond}
+use mathlib.Core.List.{List, _++_}
+use Prim.Native.Nat.{ℕ, _<_}
+use native.Mathlib.Omega.{arith}
+use lib.ListN.{length, getD, drop, List·getD-append}
+use Rattle.words.specs.Tables.{over}
+use Rattle.words.proofs.Tables.{over-all}
+use Rattle.words.proofs.Tests.{cond-true, cond-false}
+use Rattle.planner.specs.Open.{isFine}
+use Rattle.planner.specs.Output.{outputOf, lentAfter}
+use Rattle.planner.specs.declared.Cause.{Cause}
+use Rattle.planner.specs.declared.Fault.{Fault}
+use Rattle.planner.specs.declared.Fault.the-variants.{Fine, Refused}
+use Rattle.planner.specs.declared.Output.the-variants as output
+
+-- ---- the answer, by the fault
+
+pub output-refused : (f : Fault) (c : Cause) (n : ℕ) → f ≡ Refused c → outputOf f n ≡ output.Refused c
+output-refused f c n e = ap (λ (x : Fault). outputOf x n) e
+
+pub output-fine : (f : Fault) (n : ℕ) → f ≡ Fine → outputOf f n ≡ output.Written n
+output-fine f n e = ap (λ (x : Fault). outputOf x n) e
+
+-- and the fault, by the answer
+pub output-is-fine : (f : Fault) (n v : ℕ) → outputOf f v ≡ output.Written n → (f ≡ Fine) × (v ≡ n)
+output-is-fine Fine n v e = (refl, cc)
+output-is-fine (Refused c) n v e = absurd (let z : _≡_ {A = ℕ} 0 1 = cc in omega arith)
+
+pub output-is-refused : (f : Fault) (v : ℕ) (c : Cause) → outputOf f v ≡ output.Refused c → f ≡ Refused c
+output-is-refused Fine v c e = absurd (let z : _≡_ {A = ℕ} 0 1 = cc in omega arith)
+output-is-refused (Refused d) v c e = let q : d ≡ c = cc in ap Refused q
+
+-- beside a fault the number does not matter
+pub counted-fine : (f : Fault) (v : ℕ) → outputOf f (cond (isFine f) v 0) ≡ outputOf f v
+counted-fine Fine v = refl
+counted-fine (Refused c) v = refl
+
+-- ---- what is lent
+
+pub lent-kept : (f : Fault) (written out : List ℕ) → isFine f ≡ false → out ≡ lentAfter f written out
+unfolding lentAfter
+lent-kept f written out e = sym (cond-false (written ++ drop (length written) out) out e)
+
+pub lent-written : (f : Fault) (written out : List ℕ) → isFine f ≡ true → written ++ drop (length written) out ≡ lentAfter f written out
+unfolding lentAfter
+lent-written f written out e = sym (cond-true (written ++ drop (length written) out) out e)
+
+-- n numbers were put over the front, one by one
+pub lent-over : (f : Fault) (n : ℕ) (written out : List ℕ) → isFine f ≡ true → length written ≡ n → over n written out ≡ lentAfter f written out
+lent-over f n written out e l = over-all n written out l ∙ lent-written f written out e
+
+-- after a refusal all is as it was
+pub lent-refused : (f : Fault) (c : Cause) (written out : List ℕ) → f ≡ Refused c → lentAfter f written out ≡ out
+lent-refused f c written out e = sym (lent-kept f written out (ap isFine e))
+
+-- else what is written stands at the front, and the rest is as it was
+pub lent-fine : (f : Fault) (written out : List ℕ) → f ≡ Fine → lentAfter f written out ≡ written ++ drop (length written) out
+lent-fine f written out e = sym (lent-written f written out (ap isFine e))
+
+pub lent-front : (f : Fault) (written out : List ℕ) → f ≡ Fine → (i : ℕ) → i < length written → getD (lentAfter f written out) i 0 ≡ getD written i 0
+lent-front f written out e i h =
+    ap (λ (xs : List ℕ). getD xs i 0) (lent-fine f written out e) ∙ List·getD-append written (drop (length written) out) 0 i h
+
+-- ---- equal faults, and where there is none equal numbers or lists: equal answers, and equal lists after
+
+pub output-same : {f g : Fault} {x y : ℕ} → f ≡ g → (isFine f ≡ true → x ≡ y) → outputOf f x ≡ outputOf g y
+output-same {f} {g} {x} {y} p h = go f h ∙ ap (λ (e : Fault). outputOf e y) p
+  where
+    go : (e : Fault) → (isFine e ≡ true → x ≡ y) → outputOf e x ≡ outputOf e y
+    go Fine h = ap output.Written (h refl)
+    go (Refused c) h = refl
+
+pub lent-same : {f g : Fault} {x y : List ℕ} (out : List ℕ) → f ≡ g → (isFine f ≡ true → x ≡ y) → lentAfter f x out ≡ lentAfter g y out
+unfolding lentAfter
+lent-same {f} {g} {x} {y} out p h = go f h ∙ ap (λ (e : Fault). lentAfter e y out) p
+  where
+    go : (e : Fault) → (isFine e ≡ true → x ≡ y) → lentAfter e x out ≡ lentAfter e y out
+    go Fine h = ap (λ (l : List ℕ). l ++ drop (length l) out) (h refl)
+    go (Refused c) h = refl

@@ -1,0 +1,35 @@
+-- `planner::ops::verdict::or_overloaded` meets its contract, by whether there is a fault already. Assumes nothing.
+use mathlib.Core.Path.{sym, ap, _∙_}
+use native.Mathlib.Omega.{arith}
+use borrow.Author.Tests.{not-true}
+use Rattle.kinds.specs.Needs.{lowestOverload}
+use Rattle.kinds.specs.declared.Overload.{Overload}
+use Rattle.kinds.proofs.KindLoops.{lowest-le}
+use Rattle.planner.specs.Verdict.{orOverload}
+use Rattle.planner.proofs.VerdictLaws.{not-weighed}
+use borrow.Author.Needs.{needs}
+use Rattle.planner.proofs.ops.verdict.or_overloaded.Statement.{statement}
+use Rattle.planner.proofs.ops.verdict.or_overloaded.Tie as tie
+
+returns : tie.Need-returns
+returns c =
+    let t = c .before in
+    let a = t .before .args in
+    not-weighed (a .fault) (lowestOverload (a .m) (a .order) (a .demand .now) (a .available .now) (a .n)) (a .n)
+    (sym (t .is-fine .ensures) ∙ not-true _ (c .if1 .taken))
+
+add-kind : tie.Need-add-kind
+add-kind c =
+    let v = c .before in
+    let a = v .before .before .before .args in
+    let e = ap (λ (x : Overload). x .kind) (v .lowest-overload .ensures) in
+    record { fits = omega (arith, e, lowest-le (a .m) (a .order) (a .demand .now) (a .available .now) (a .n)) }
+
+returns-2 : tie.Need-returns-2
+returns-2 c =
+    let v = c .before .before .before .before in
+    let a = v .before .before .before .args in
+    c .or-cause .ensures ∙ ap (λ (x : Overload). orOverload (a .fault) x (a .n)) (v .lowest-overload .ensures)
+
+pub or-overloaded-spec : {M : Type 1} → statement M
+or-overloaded-spec = tie.close (tie.spec (λ c κs. search needs) returns (λ c κs. search needs) add-kind (λ c κs. search needs) returns-2)

@@ -1,0 +1,57 @@
+-- Sets, crews and flows of a file, in the file's own terms: its arcs, demands and availabilities are those of plan's Meaning. No operation is named here. Element i is
+-- activity i + 1, kind k is kind k + 1. Assumes nothing.
+use mathlib.Core.Path.{_≡_}
+use mathlib.Core.Bool.{Bool, true, cond}
+use mathlib.Core.List.{List}
+use mathlib.Core.Logic.{_⊎_}
+use Prim.Native.Nat.{ℕ, zero, suc, _+_, _-_, _*_, _/_, _≤_, _<_}
+use Rattle.order.specs.Before.{Before}
+use Rattle.words.specs.Sums.{sum}
+use Rattle.plan.specs.Records.{activityCount}
+use Rattle.plan.specs.Meaning.{FileArc, fileDemand, fileAvailable}
+use Rattle.flow_math.specs.Crew.{occupied}
+
+-- ---- need: "Two activities are ordered when one is before the other in the plan order" (01, Need and overload)
+
+-- "a set is unrelated when no two of its members are"
+abbrev pub Unrelated : List ℕ → (ℕ → Bool) → Type 0
+Unrelated s S = (i j : ℕ) → S i ≡ true → S j ≡ true → Before (FileArc s) i j → ⊥
+
+-- the sum of the demands of kind k over a set of activities
+abbrev pub demandSum : List ℕ → ℕ → (ℕ → Bool) → ℕ
+demandSum s k S = sum (activityCount s) (λ i. cond (S i) (fileDemand s k i) 0)
+
+-- ---- "A crew in demand 3 is one start and one duration of 1 or more for each activity, in any whole numbers" (01, Crew check)
+
+pub record FileCrew (s : List ℕ) (starts worked : ℕ → ℕ) : Type 0 where
+  pub works : (i : ℕ) → i < activityCount s → 1 ≤ worked i
+  -- "It keeps every arc: for each arc i to j, job or extra, the start of i plus its duration is at most the start of j."
+  pub keeps : (i j : ℕ) → FileArc s i j → starts i + worked i ≤ starts j
+
+-- "What is occupied of a kind in a period, here and in demand 3, is the sum of that kind's demands over the activities at work.": who is at work in a period, and the
+-- sum, are flow_math's Crew
+abbrev pub crewOccupies : List ℕ → ℕ → (ℕ → ℕ) → (ℕ → ℕ) → ℕ → ℕ
+crewOccupies s k starts worked t = occupied (activityCount s) (fileDemand s k) starts worked t
+
+-- ---- a flow of kind k: g u v units pass from node u to node v (01, Flow)
+
+-- "0 is the start and m+1 the end: .. 0 before all others and m+1 after all others." (01, Order)
+abbrev pub NodeBefore : List ℕ → ℕ → ℕ → Type 0
+NodeBefore s zero zero = ⊥
+NodeBefore s zero (suc j) = j ≤ activityCount s
+NodeBefore s (suc i) zero = ⊥
+NodeBefore s (suc i) (suc j) = (i < activityCount s) × ((j ≡ activityCount s) ⊎ Before (FileArc s) i j)
+
+pub record FileFlow (s : List ℕ) (k : ℕ) (g : ℕ → ℕ → ℕ) : Type 0 where
+  -- the paper's equation (1): "Into and out of each activity goes its demand"
+  pub into : (j : ℕ) → j < activityCount s → sum (activityCount s + 2) (λ u. g u (j + 1)) ≡ fileDemand s k j
+  pub out : (i : ℕ) → i < activityCount s → sum (activityCount s + 2) (λ v. g (i + 1) v) ≡ fileDemand s k i
+  -- equation (2): "out of 0 and into m+1 goes the availability"
+  pub start : sum (activityCount s + 2) (λ v. g 0 v) ≡ fileAvailable s k
+  pub finish : sum (activityCount s + 2) (λ u. g u (activityCount s + 1)) ≡ fileAvailable s k
+  -- "Positive units pass only where i is before j in the plan order, so none into 0, none out of m+1 and none from a node to itself."
+  pub along : (u v : ℕ) → 0 < g u v → NodeBefore s u v
+
+-- "for Flow 24 × (m(m−1)/2 + 2m + 1) bytes" (01, Operations and causes): how much has to be lent for the flow of m activities
+unfoldable pub flowLength : ℕ → ℕ
+flowLength m = 24 * (m * (m - 1) / 2 + 2 * m + 1)

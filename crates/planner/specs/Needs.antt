@@ -1,0 +1,32 @@
+-- Needs: what it answers, and what the lent numbers then hold. Assumes nothing.
+use mathlib.Core.List.{List}
+use Prim.Native.Nat.{ℕ}
+use lib.Dec.{ltb}
+use lib.ListN.{length}
+use Rattle.words.specs.Tables.{table}
+use Rattle.planner.specs.Open.{planIn, faultOf, orCause}
+use Rattle.planner.specs.Output.{outputOf, lentAfter}
+use Rattle.planner.specs.Need.{needFor}
+use Rattle.planner.specs.declared.Cause.the-variants.{Short}
+use Rattle.planner.specs.declared.Fault.{Fault}
+use Rattle.planner.specs.declared.Output.{Output}
+use Rattle.planner.specs.declared.answer.Counted.{Counted}
+
+-- "Needs, Starts, Overload: 9.": "Lengths needed: K"; n numbers are lent
+unfoldable pub needsFault : List ℕ → ℕ → Fault
+needsFault s n = orCause (faultOf s) (ltb n (planIn s .kinds)) (Short (planIn s .kinds))
+
+abbrev pub needsCounted : List ℕ → ℕ → Counted
+needsCounted s n = record { fault = needsFault s n; value = planIn s .kinds }
+
+-- THE ANSWER
+abbrev pub needsAnswer : List ℕ → ℕ → Output
+needsAnswer s n = outputOf (needsFault s n) (planIn s .kinds)
+
+-- "Needs: K numbers, the need of each kind from 1 to K."
+unfoldable pub needNumbers : List ℕ → List ℕ
+needNumbers s = table (planIn s .kinds) (needFor (planIn s))
+
+-- THE LENT NUMBERS
+unfoldable pub needsOut : List ℕ → List ℕ → List ℕ
+needsOut s out = lentAfter (needsFault s (length out)) (needNumbers s) out

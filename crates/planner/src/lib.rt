@@ -1,0 +1,59 @@
+// The operations of the planner, each on the plan's bytes. Every operation has a file in `ops`: it opens the plan (`open`), looks for its own causes
+// in turn, and gives a fault and a value, which become its answer at the surface (`answer`).
+mod answer;
+mod open;
+mod ops;
+
+pub use ops::crew_check::crew_check;
+pub use ops::overload::overload;
+pub use ops::flow::flow;
+pub use ops::verdict::verdict;
+pub use ops::needs::needs;
+pub use ops::starts::starts;
+
+// Why an operation refuses, with the cause's own data. Activities and kinds count from 1.
+pub enum Cause {
+    // The file is not readable, 1 to 4: the reader's cause.
+    Unreadable(plan::Cause),
+    // A circle in the job order, 5: the lowest activity before itself there.
+    JobCircle(usize),
+    // A circle in the plan order only, 6: the lowest activity before itself there.
+    PlanCircle(usize),
+    // The plan is overloaded, 7: the lowest such kind, its need, and an unrelated set that has it.
+    Overloaded {
+        kind: usize,
+        need: u32,
+        set: order::Set,
+    },
+    // The kind is not 1 to K, 8: K.
+    NoKind(usize),
+    // The lent slice is too short, 9: the length needed.
+    Short(usize),
+    // The lists are not m long, or a worked duration is 0, 10: m.
+    Lists(usize),
+}
+
+// Whether an operation goes on, or refuses.
+pub enum Fault {
+    Fine,
+    Refused(Cause),
+}
+
+// What Verdict answers: the plan is accepted, with m and K, or it is refused.
+pub enum Decision {
+    Accepted { activities: usize, kinds: usize },
+    Refused(Cause),
+}
+
+// What Needs, Starts, Flow and Overload answer: so many numbers or records are written, or nothing is. (Overload writes one record, or none
+// where the plan is accepted.)
+pub enum Output {
+    Written(usize),
+    Refused(Cause),
+}
+
+// What Crew check answers: what was found, or why nothing was looked at.
+pub enum CrewChecked {
+    Found(schedule::Checked),
+    Refused(Cause),
+}

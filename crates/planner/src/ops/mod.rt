@@ -1,0 +1,7 @@
+// The operations, one file each.
+pub mod crew_check;
+pub mod flow;
+pub mod needs;
+pub mod overload;
+pub mod starts;
+pub mod verdict;

@@ -1,0 +1,162 @@
+-- The causes 1 to 6 are the same in every operation, and what 5 and 6 show is the lowest activity before itself. Assumes nothing.
+use mathlib.Core.Path.{_≡_, refl, ap, _∙_}
+use mathlib.Core.Bool.{Bool, true, false, not}
+use mathlib.Core.List.{List, [], _∷_}
+use mathlib.Core.Logic.{inl, inr}
+use Prim.Native.Nat.{ℕ, _+_, _-_, _≤_, _<_}
+use native.Mathlib.Omega.{arith}
+use lib.Dec.{ltb}
+use lib.ListN.{getD}
+use Rattle.plan.specs.Meaning.{Readable}
+use Rattle.plan.specs.declared.Cause.the-variants.{Length, RecordType, Field, Spare}
+use Rattle.schedule.specs.declared.Checked.{Checked}
+use Rattle.schedule.specs.declared.Checked.the-variants.{Fits, Broken, Overload}
+use Rattle.planner.specs.Open.{planIn, faultOf, orCause}
+use Rattle.planner.specs.Numbers.{numbersOf, causeNumber, verdictNumbers, outputNumbers, crewCheckNumbers}
+use Rattle.planner.specs.Output.{outputOf}
+use Rattle.planner.specs.Need.{isOverloaded, overCause}
+use Rattle.planner.specs.Verdict.{verdictFault, verdictOf}
+use Rattle.planner.specs.Needs.{needsFault}
+use Rattle.planner.specs.Starts.{needed, startsFault}
+use Rattle.planner.specs.Overload.{overloadFault, overCount}
+use Rattle.planner.specs.Flow.{isKind, flowFault, flowCount}
+use Rattle.planner.specs.File.{flowLength}
+use Rattle.planner.specs.CrewCheck.{badLists, crewCheckFault, crewFound, checkedOf}
+use Rattle.planner.specs.declared.Cause.{Cause}
+use Rattle.planner.specs.declared.Cause.the-variants.{Unreadable, JobCircle, PlanCircle, Overloaded, NoKind, Short, Lists}
+use Rattle.planner.specs.declared.Fault.{Fault}
+use Rattle.planner.specs.declared.Fault.the-variants.{Fine, Refused}
+use Rattle.planner.proofs.FaultLaws.{cause-before}
+use Rattle.promises.specs.Ours.{ours}
+use Rattle.promises.specs.Paper.{EveryGives, SomeGives, Circles}
+use Rattle.promises.proofs.CircleFaults.{job-circle-means, plan-circle-means, means-job-circle, means-plan-circle}
+
+-- ---- a fault of the file is every operation's
+
+module _ (s : List ℕ) (c : Cause) (e : faultOf s ≡ Refused c) where
+  flow-before : (kind n : ℕ) → flowFault s kind n ≡ Refused c
+  unfolding flowFault
+  flow-before kind n =
+      let q = planIn s in
+      let known = orCause (faultOf s) (not (isKind kind (q .kinds))) (NoKind (q .kinds)) in
+      let roomy = orCause known (ltb n (flowLength (q .count))) (Short (flowLength (q .count))) in
+      cause-before roomy (isOverloaded q) (overCause q) c
+      (cause-before known (ltb n (flowLength (q .count))) (Short (flowLength (q .count))) c
+      (cause-before (faultOf s) (not (isKind kind (q .kinds))) (NoKind (q .kinds)) c e))
+
+  outputs : (f : Fault) (v : ℕ) → f ≡ Refused c → outputNumbers (outputOf f v) ≡ numbersOf c
+  outputs f v p = ap (λ (x : Fault). outputNumbers (outputOf x v)) p
+
+  pub every-gives : EveryGives ours s (numbersOf c)
+  unfolding verdictFault needsFault startsFault overloadFault crewCheckFault
+  every-gives =
+      record {
+        verdict =
+            ap (λ (x : Fault). verdictNumbers (verdictOf x (planIn s .count) (planIn s .kinds)))
+            (cause-before (faultOf s) (isOverloaded (planIn s)) (overCause (planIn s)) c e);
+        needs = λ n.
+            outputs (needsFault s n) (planIn s .kinds) (cause-before (faultOf s) (ltb n (planIn s .kinds)) (Short (planIn s .kinds)) c e);
+        starts = λ n. outputs (startsFault s n) (needed s) (cause-before (faultOf s) (ltb n (needed s)) (Short (needed s)) c e);
+        overload = λ n. outputs (overloadFault s n) (overCount (planIn s)) (cause-before (faultOf s) (ltb n 24) (Short 24) c e);
+        flow = λ kind n. outputs (flowFault s kind n) (flowCount (planIn s) (kind - 1)) (flow-before kind n);
+        crew-check = λ starts worked.
+            ap (λ (x : Fault). crewCheckNumbers (checkedOf x (crewFound s starts worked)))
+            (cause-before (faultOf s) (badLists (planIn s .count) starts worked) (Lists (planIn s .count)) c e);
+      }
+
+-- ---- and a refusal of any operation by a number from 1 to 6 is the file's fault
+
+-- a fault with these numbers
+abbrev pub Gives : Fault → List ℕ → Type 0
+Gives f numbers = (c : Cause) × (f ≡ Refused c) × (numbersOf c ≡ numbers)
+
+pub heads : {x y : ℕ} {xs ys : List ℕ} → x ∷ xs ≡ y ∷ ys → x ≡ y
+heads e = cc
+
+module _ (n : ℕ) (ys : List ℕ) (some : 1 ≤ n) (low : n ≤ 6) where
+  output-gives : (f : Fault) (v : ℕ) → outputNumbers (outputOf f v) ≡ n ∷ ys → Gives f (n ∷ ys)
+  output-gives Fine v e = absurd (omega (arith, heads e))
+  output-gives (Refused c) v e = (c, refl, e)
+
+  verdict-gives : (f : Fault) (m k : ℕ) → verdictNumbers (verdictOf f m k) ≡ n ∷ ys → Gives f (n ∷ ys)
+  verdict-gives Fine m k e = absurd (omega (arith, heads e))
+  verdict-gives (Refused c) m k e = (c, refl, e)
+
+  crew-gives : (f : Fault) (x : Checked) → crewCheckNumbers (checkedOf f x) ≡ n ∷ ys → Gives f (n ∷ ys)
+  crew-gives Fine Fits e = absurd (omega (arith, heads e))
+  crew-gives Fine (Broken i j) e = absurd (omega (arith, heads e))
+  crew-gives Fine (Overload t k) e = absurd (omega (arith, heads e))
+  crew-gives (Refused c) x e = (c, refl, e)
+
+  -- a later cause has a larger number
+  turn-gives : (f : Fault) (b : Bool) (d : Cause) → 6 < causeNumber d → Gives (orCause f b d) (n ∷ ys) → Gives f (n ∷ ys)
+  turn-gives Fine true d h g =
+      let e : d ≡ g .0 = same (g .1) in
+      absurd (omega (arith, h, ap (λ (l : List ℕ). getD l 0 0) (ap numbersOf e ∙ g .2)))
+    where
+      same : {c d : Cause} → _≡_ {A = Fault} (Refused c) (Refused d) → c ≡ d
+      same e = cc
+  turn-gives Fine false d h g = g
+  turn-gives (Refused c) b d h g = g
+
+  pub fault-gives : (s : List ℕ) → SomeGives ours s (n ∷ ys) → Gives (faultOf s) (n ∷ ys)
+  unfolding verdictFault needsFault startsFault overloadFault flowFault crewCheckFault overCause
+  fault-gives s (inl e) =
+      turn-gives (faultOf s) (isOverloaded (planIn s)) (overCause (planIn s)) (omega arith)
+      (verdict-gives (verdictFault s) (planIn s .count) (planIn s .kinds) e)
+  fault-gives s (inr (inl w)) =
+      turn-gives (faultOf s) (ltb (w .0) (planIn s .kinds)) (Short (planIn s .kinds)) (omega arith) (output-gives (needsFault s (w .0)) (planIn s .kinds) (w .1))
+  fault-gives s (inr (inr (inl w))) =
+      turn-gives (faultOf s) (ltb (w .0) (needed s)) (Short (needed s)) (omega arith) (output-gives (startsFault s (w .0)) (needed s) (w .1))
+  fault-gives s (inr (inr (inr (inl w)))) =
+      turn-gives (faultOf s) (ltb (w .0) 24) (Short 24) (omega arith) (output-gives (overloadFault s (w .0)) (overCount (planIn s)) (w .1))
+  fault-gives s (inr (inr (inr (inr (inl w))))) =
+      let q = planIn s in
+      let known = orCause (faultOf s) (not (isKind (w .0) (q .kinds))) (NoKind (q .kinds)) in
+      let roomy = orCause known (ltb (w .1) (flowLength (q .count))) (Short (flowLength (q .count))) in
+      turn-gives (faultOf s) (not (isKind (w .0) (q .kinds))) (NoKind (q .kinds)) (omega arith)
+      (turn-gives known (ltb (w .1) (flowLength (q .count))) (Short (flowLength (q .count))) (omega arith)
+      (turn-gives roomy (isOverloaded q) (overCause q) (omega arith) (output-gives (flowFault s (w .0) (w .1)) (flowCount q (w .0 - 1)) (w .2))))
+  fault-gives s (inr (inr (inr (inr (inr w))))) =
+      turn-gives (faultOf s) (badLists (planIn s .count) (w .0) (w .1)) (Lists (planIn s .count)) (omega arith)
+      (crew-gives (crewCheckFault s (w .0) (w .1)) (crewFound s (w .0) (w .1)) (w .2))
+
+-- ---- the causes 5 and 6, by their numbers
+
+is-five : (c : Cause) (i : ℕ) → numbersOf c ≡ 5 ∷ i ∷ [] → c ≡ JobCircle i
+is-five (Unreadable Length) i e = absurd (omega (arith, heads e))
+is-five (Unreadable (RecordType p)) i e = absurd (omega (arith, heads e))
+is-five (Unreadable (Field p)) i e = absurd (omega (arith, heads e))
+is-five (Unreadable (Spare p)) i e = absurd (omega (arith, heads e))
+is-five (JobCircle j) i e = let z : j ≡ i = cc in ap JobCircle z
+is-five (PlanCircle j) i e = absurd (omega (arith, heads e))
+is-five (Overloaded k need set) i e = absurd (omega (arith, heads e))
+is-five (NoKind n) i e = absurd (omega (arith, heads e))
+is-five (Short n) i e = absurd (omega (arith, heads e))
+is-five (Lists m) i e = absurd (omega (arith, heads e))
+
+is-six : (c : Cause) (i : ℕ) → numbersOf c ≡ 6 ∷ i ∷ [] → c ≡ PlanCircle i
+is-six (Unreadable Length) i e = absurd (omega (arith, heads e))
+is-six (Unreadable (RecordType p)) i e = absurd (omega (arith, heads e))
+is-six (Unreadable (Field p)) i e = absurd (omega (arith, heads e))
+is-six (Unreadable (Spare p)) i e = absurd (omega (arith, heads e))
+is-six (JobCircle j) i e = absurd (omega (arith, heads e))
+is-six (PlanCircle j) i e = let z : j ≡ i = cc in ap PlanCircle z
+is-six (Overloaded k need set) i e = absurd (omega (arith, heads e))
+is-six (NoKind n) i e = absurd (omega (arith, heads e))
+is-six (Short n) i e = absurd (omega (arith, heads e))
+is-six (Lists m) i e = absurd (omega (arith, heads e))
+
+pub circles : (s : List ℕ) → Readable s → Circles ours s
+circles s r =
+    record {
+      five = λ i L. every-gives s (JobCircle (i + 1)) (means-job-circle s i r L);
+      five-means = λ i g.
+          let w = fault-gives 5 ((i + 1) ∷ []) (omega arith) (omega arith) s g in
+          job-circle-means s i (w .1 ∙ ap Refused (is-five (w .0) (i + 1) (w .2))) .1;
+      six = λ i free L. every-gives s (PlanCircle (i + 1)) (means-plan-circle s i r free L);
+      six-means = λ i g.
+          let w = fault-gives 6 ((i + 1) ∷ []) (omega arith) (omega arith) s g in
+          let v = plan-circle-means s i (w .1 ∙ ap Refused (is-six (w .0) (i + 1) (w .2))) in
+          (v .1, v .2);
+    }

@@ -1,0 +1,152 @@
+-- What Crew check answers, in the file's own terms, in both directions. Assumes nothing.
+use mathlib.Core.Path.{_≡_, refl, sym, ap, _∙_}
+use mathlib.Core.Bool.{Bool, false}
+use mathlib.Core.List.{List, [], _∷_}
+use mathlib.Core.Logic.{by-cases}
+use Prim.Native.Nat.{ℕ, zero, suc, _+_, _*_, _≤_, _<_}
+use native.Mathlib.Omega.{arith}
+use native.Mathlib.Decide.{decLt}
+use lib.ListN.{length, getD}
+use Rattle.words.proofs.Tests.{holds}
+use Rattle.order.specs.Stored.{elements}
+use Rattle.plan.specs.Meaning.{Readable, fileKinds, fileDemand, fileAvailable}
+use Rattle.plan.specs.Records.{activityCount}
+use Rattle.flow_math.specs.Need.{weight}
+use Rattle.flow_math.specs.Crew.{active}
+use Rattle.flow_math.proofs.Need.{weight-same}
+use Rattle.flow_math.proofs.Crew.{occupied-weight, none-occupied as none-at-first}
+use Rattle.schedule.specs.Checks.{Work, occupied, checkOf, Enough, FirstOver}
+use Rattle.schedule.specs.model.Arrays.{crewNet}
+use Rattle.schedule.specs.Lists.{at}
+use Rattle.schedule.specs.declared.Checked.{Checked}
+use Rattle.schedule.specs.declared.Checked.the-variants.{Fits, Broken, Overload}
+use Rattle.planner.specs.Open.{planIn, rowsOf, Opens}
+use Rattle.planner.specs.CrewCheck.{badLists, crewWork, crewFound}
+use Rattle.planner.specs.File.{crewOccupies}
+use Rattle.planner.proofs.OpenLaws.{said-in, opens-readable}
+use Rattle.planner.proofs.CrewCheckLaws.{bad-zero, lists-fine}
+use Rattle.planner.proofs.QuotedNeeds.{count-in, kinds-in, kinds-few, available-in}
+use Rattle.planner.specs.Numbers.{foundNumbers, crewCheckNumbers}
+use Rattle.promises.specs.Ours.{ours}
+use Rattle.promises.specs.Paper.{RightLists, NeverOver, FirstOverload, CrewCheck}
+use Rattle.promises.proofs.AnswersWhen.{crew-lists, crew-looks}
+use Rattle.promises.proofs.CrewCheckMeaning.{CrewRight, no-zero, crew-fits, crew-broken, crew-over, none-occupied, over-kind}
+use Rattle.promises.proofs.CrewFindings.{all-worked, means-fits, means-broken, means-over}
+
+-- a finding is no refusal as 10
+not-ten : (x : Checked) (m : ℕ) → foundNumbers x ≡ 10 ∷ m ∷ [] → ⊥
+not-ten Fits m e = let z : _≡_ {A = ℕ} 0 10 = cc in omega arith
+not-ten (Broken i j) m e = let z : _≡_ {A = ℕ} 254 10 = cc in omega arith
+not-ten (Overload t k) m e = let z : _≡_ {A = ℕ} 255 10 = cc in omega arith
+
+-- where something is occupied, it is in period 1 or later
+some-period : (c : Work) (t k : ℕ) → 0 < occupied c t k → 1 ≤ t
+some-period c zero k h = absurd (omega (arith, h, none-at-first (c .count) (c .demand k) (c .start) (c .worked)))
+some-period c (suc t) k h = omega arith
+
+module _ (s : List ℕ) (o : Opens s) (starts worked : List ℕ) where
+  readable : Readable s
+  readable = opens-readable s o
+
+  m : planIn s .count ≡ activityCount s
+  m = count-in s readable
+
+  -- ---- the lists are right, or the answer is 10
+
+  lists-right : badLists (planIn s .count) starts worked ≡ false → RightLists s starts worked
+  lists-right e =
+      let w = lists-fine (planIn s .count) starts worked e in
+      record { starts-all = w .0 ∙ m; worked-all = w .1 ∙ m; working = λ i h. no-zero worked (w .2) i (omega (arith, h, m, w .1)) }
+
+  module _ (R : RightLists s starts worked) where
+    starts-count : length starts ≡ planIn s .count
+    starts-count = R .starts-all ∙ sym m
+
+    worked-count : length worked ≡ planIn s .count
+    worked-count = R .worked-all ∙ sym m
+
+    working : (i : ℕ) → i < length worked → 1 ≤ getD worked i 0
+    working i h = R .working i (omega (arith, h, R .worked-all))
+
+    not-bad : badLists (planIn s .count) starts worked ≡ false
+    not-bad = sym (bad-zero (planIn s .count) starts worked starts-count worked-count (sym (all-worked worked working)))
+
+    looked : CrewRight s starts worked (checkOf (crewNet (rowsOf s) starts worked) (crewWork s starts worked))
+    looked = record { opens = o; starts-all = starts-count; worked-all = worked-count; working = working; finds = refl }
+
+    -- ---- more is occupied than there is: by the plan's demands, which are the file's
+
+    occupied-in : (t k : ℕ) → k < 8 → occupied (crewWork s starts worked) t k ≡ crewOccupies s k (at starts) (at worked) t
+    occupied-in t k h =
+        let d : ℕ → ℕ = λ i. at (planIn s .demand) (elements * k + i) in
+        let S : ℕ → Bool = active (at starts) (at worked) t in
+        occupied-weight (length starts) d (at starts) (at worked) t
+        ∙ weight-same (length starts) d (fileDemand s k) S (λ i l. said-in s readable .demand k i h (omega (arith, l, starts-count)))
+        ∙ ap (λ (n : ℕ). weight n (fileDemand s k) S) (R .starts-all)
+        ∙ sym (occupied-weight (activityCount s) (fileDemand s k) (at starts) (at worked) t)
+
+    kind-in : {k : ℕ} → k < fileKinds s → k < 8
+    kind-in h = omega (arith, h, kinds-in s readable, kinds-few s)
+
+    available-at : (k : ℕ) → k < 8 → at (planIn s .available) k ≡ fileAvailable s k
+    available-at = available-in s readable
+
+    never-over : Enough (crewWork s starts worked) → NeverOver s starts worked
+    never-over n t k p h = omega (arith, n t k (kind-in h), occupied-in t k (kind-in h), available-at k (kind-in h))
+
+    -- what is not over in the periods from 1 on and the file's kinds is not over at all
+    not-over : (t : ℕ) → (1 ≤ t → (k : ℕ) → k < fileKinds s → crewOccupies s k (at starts) (at worked) t ≤ fileAvailable s k)
+        → (k : ℕ) → k < 8 → occupied (crewWork s starts worked) t k ≤ at (planIn s .available) k
+    not-over zero n k h =
+        let c = crewWork s starts worked in
+        omega (arith, none-at-first (c .count) (c .demand k) (c .start) (c .worked))
+    not-over (suc t) n k h =
+        by-cases (decLt k (fileKinds s))
+        (λ l. omega (arith, n (omega arith) k l, occupied-in (suc t) k h, available-at k h))
+        (λ l. omega (arith, none-occupied s starts worked looked (suc t) k (omega (arith, l, kinds-in s readable)) h))
+
+    first-overload : (t k : ℕ) → FirstOver (crewWork s starts worked) t k → FirstOverload s starts worked t k
+    first-overload t k F =
+        let p : 1 ≤ t = some-period (crewWork s starts worked) t k (omega (arith, F .over)) in
+        let h : k < fileKinds s = omega (arith, over-kind s starts worked looked t k F, kinds-in s readable) in
+        record {
+          period = p;
+          kind = h;
+          over = omega (arith, F .over, occupied-in t k (F .kind), available-at k (F .kind));
+          sooner = λ u x q l b. omega (arith, F .quiet u l x (kind-in b), occupied-in u x (kind-in b), available-at x (kind-in b));
+          lower = λ x l.
+              let b : x < 8 = omega (arith, l, F .kind) in
+              omega (arith, F .lowest x l, occupied-in t x b, available-at x b);
+        }
+
+    first-over : (t k : ℕ) → FirstOverload s starts worked t k → FirstOver (crewWork s starts worked) t k
+    first-over t k F =
+        let h = kind-in (F .kind) in
+        record {
+          kind = h;
+          over = omega (arith, F .over, occupied-in t k h, available-at k h);
+          quiet = λ u l. not-over u (λ q x b. F .sooner u x q l b);
+          lowest = λ x l.
+              let b : x < 8 = omega (arith, l, h) in
+              omega (arith, F .lower x l, occupied-in t x b, available-at x b);
+        }
+
+  pub crew-check : CrewCheck ours s starts worked
+  crew-check =
+      record {
+        ten = (
+          (λ e R. not-ten (crewFound s starts worked) (activityCount s) (sym (ap crewCheckNumbers (crew-looks s starts worked o (not-bad R))) ∙ e)),
+          (λ n.
+              ap crewCheckNumbers (crew-lists s starts worked o (holds (badLists (planIn s .count) starts worked) (λ e. n (lists-right e))))
+              ∙ ap (λ (x : ℕ). 10 ∷ x ∷ []) m),
+        );
+        fits = λ R. (
+          (λ e. let w = crew-fits s starts worked e in (w .0, never-over R (w .1))),
+          (λ w. means-fits s starts worked o (starts-count R) (worked-count R) (working R) (w .0) (λ t. not-over R t (λ p k. w .1 t k p))),
+        );
+        broken = λ R i j. (crew-broken s starts worked i j, means-broken s starts worked o (starts-count R) (worked-count R) (working R) i j);
+        overload = λ R t k. (
+          (λ e. let w = crew-over s starts worked t k e in (w .0, first-overload R t k (w .1))),
+          (λ w. means-over s starts worked o (starts-count R) (worked-count R) (working R) t k (w .0) (first-over R t k (w .1))),
+        );
+      }

@@ -1,0 +1,170 @@
+-- DEMAND 1 HOLDS OF OURS: every answer is a result or a refusal by a number that document 01 gives the operation, and a refusal changes nothing. Assumes nothing.
+use mathlib.Core.Path.{_≡_, refl, subst}
+use mathlib.Core.Bool.{Bool, true, false, not, cond}
+use mathlib.Core.List.{List, [], _∷_, _++_}
+use mathlib.Core.Logic.{_⊎_, inl, inr}
+use Prim.Native.Nat.{ℕ, _+_, _-_}
+use native.Mathlib.Omega.{arith}
+use lib.Dec.{ltb}
+use lib.ListN.{length}
+use Rattle.order.specs.Stored.{elements}
+use Rattle.order.specs.Orders.{circleOf}
+use Rattle.order.specs.declared.Order.{Order}
+use Rattle.plan.specs.Causes.{answerOf}
+use Rattle.plan.specs.declared.Cause.{Cause as Unread}
+use Rattle.plan.specs.declared.Cause.the-variants.{Length, RecordType, Field, Spare}
+use Rattle.plan.specs.declared.Answer.{Answer}
+use Rattle.plan.specs.declared.Answer.the-variants as answer
+use Rattle.schedule.specs.declared.Checked.{Checked}
+use Rattle.planner.specs.Open.{planIn, circlesOf, orUnreadable, jobOrder, planOrder, faultOf, orCause}
+use Rattle.planner.specs.Output.{outputOf, lentAfter}
+use Rattle.planner.specs.Need.{isOverloaded, overCause}
+use Rattle.planner.specs.Verdict.{verdictFault, verdictOf}
+use Rattle.planner.specs.Needs.{needsFault, needNumbers, needsOut}
+use Rattle.planner.specs.Starts.{needed, startsFault, startNumbers, startsOut}
+use Rattle.planner.specs.Overload.{overloadFault, overCount, overBytes, overloadOut}
+use Rattle.planner.specs.Flow.{isKind, flowFault, flowCount, recordBytes, flowOut}
+use Rattle.planner.specs.File.{flowLength}
+use Rattle.planner.specs.CrewCheck.{badLists, crewCheckFault, crewFound, checkedOf}
+use Rattle.planner.specs.declared.Cause.{Cause}
+use Rattle.planner.specs.declared.Cause.the-variants.{Unreadable, JobCircle, PlanCircle, NoKind, Short, Lists}
+use Rattle.planner.specs.declared.Fault.{Fault}
+use Rattle.planner.specs.declared.Fault.the-variants.{Fine, Refused}
+use Rattle.planner.specs.declared.Decision.the-variants as verdict
+use Rattle.planner.specs.declared.Output.the-variants as output
+use Rattle.planner.specs.declared.CrewChecked.the-variants as crew
+use Rattle.planner.proofs.OutputLaws.{output-is-refused, lent-refused}
+use Rattle.planner.specs.Numbers.{causeNumber}
+use Rattle.promises.specs.Ours.{ours}
+use Rattle.promises.specs.EveryInput.{OneOf, opening, EveryInput}
+
+-- ---- one of more numbers
+
+one-more : (xs ys : List ℕ) (n : ℕ) → OneOf xs n → OneOf (xs ++ ys) n
+one-more [] ys n h = absurd h
+one-more (x ∷ xs) ys n (inl e) = inl e
+one-more (x ∷ xs) ys n (inr h) = inr (one-more xs ys n h)
+
+one-last : (xs : List ℕ) (n : ℕ) → OneOf (xs ++ n ∷ []) n
+one-last [] n = inl refl
+one-last (x ∷ xs) n = inr (one-last xs n)
+
+-- ---- a fault has one of these numbers
+
+abbrev Only : List ℕ → Fault → Type 0
+Only xs f = (c : Cause) → f ≡ Refused c → OneOf xs (causeNumber c)
+
+only-this : (xs : List ℕ) (d : Cause) → OneOf xs (causeNumber d) → Only xs (Refused d)
+only-this xs d o c e = let q : d ≡ c = cc in subst (λ (x : Cause). OneOf xs (causeNumber x)) q o
+
+only-fine : (xs : List ℕ) → Only xs Fine
+only-fine xs c e = absurd (let z : _≡_ {A = ℕ} 0 1 = cc in omega arith)
+
+only-cause : (xs : List ℕ) (f : Fault) (b : Bool) (d : Cause) → Only xs f → OneOf xs (causeNumber d) → Only xs (orCause f b d)
+only-cause xs Fine true d h o = only-this xs d o
+only-cause xs Fine false d h o = h
+only-cause xs (Refused x) b d h o = h
+
+only-more : (xs ys : List ℕ) (f : Fault) → Only xs f → Only (xs ++ ys) f
+only-more xs ys f h c e = one-more xs ys (causeNumber c) (h c e)
+
+-- ---- the causes 1 to 6
+
+unread-one : (u : Unread) → OneOf opening (causeNumber (Unreadable u))
+unread-one Length = inl refl
+unread-one (RecordType p) = inr (inl refl)
+unread-one (Field p) = inr (inr (inl refl))
+unread-one (Spare p) = inr (inr (inr (inl refl)))
+
+circles-only : (job whole : Order) → Only opening (circlesOf job whole)
+unfolding circlesOf
+circles-only job whole = go (ltb (circleOf job) elements) (ltb (circleOf whole) elements)
+  where
+    go : (a b : Bool) → Only opening (cond a (Refused (JobCircle (circleOf job + 1))) (cond b (Refused (PlanCircle (circleOf whole + 1))) Fine))
+    go true b = only-this opening (JobCircle (circleOf job + 1)) (inr (inr (inr (inr (inl refl)))))
+    go false true = only-this opening (PlanCircle (circleOf whole + 1)) (inr (inr (inr (inr (inr (inl refl))))))
+    go false false = only-fine opening
+
+fault-only : (s : List ℕ) → Only opening (faultOf s)
+unfolding faultOf
+fault-only s = go (answerOf s)
+  where
+    go : (a : Answer) → Only opening (orUnreadable a (circlesOf (jobOrder s) (planOrder s)))
+    go answer.Readable = circles-only (jobOrder s) (planOrder s)
+    go (answer.Refused u) = only-this opening (Unreadable u) (unread-one u)
+
+-- and one cause more
+then-only : (s : List ℕ) (b : Bool) (d : Cause) → Only (opening ++ causeNumber d ∷ []) (orCause (faultOf s) b d)
+then-only s b d = only-cause (opening ++ causeNumber d ∷ []) (faultOf s) b d (only-more opening (causeNumber d ∷ []) (faultOf s) (fault-only s)) (one-last opening (causeNumber d))
+
+-- ---- the answers
+
+output-by : (xs : List ℕ) (f : Fault) (v : ℕ) → Only xs f
+    → ((r : ℕ) × (outputOf f v ≡ output.Written r)) ⊎ ((c : Cause) × (outputOf f v ≡ output.Refused c) × OneOf xs (causeNumber c))
+output-by xs Fine v h = inl (v, refl)
+output-by xs (Refused c) v h = inr (c, refl, h c refl)
+
+verdict-by : (xs : List ℕ) (f : Fault) (m n : ℕ) → Only xs f
+    → ((p : ℕ) × (q : ℕ) × (verdictOf f m n ≡ verdict.Accepted p q)) ⊎ ((c : Cause) × (verdictOf f m n ≡ verdict.Refused c) × OneOf xs (causeNumber c))
+verdict-by xs Fine m n h = inl (m, n, refl)
+verdict-by xs (Refused c) m n h = inr (c, refl, h c refl)
+
+checked-by : (xs : List ℕ) (f : Fault) (x : Checked) → Only xs f
+    → ((y : Checked) × (checkedOf f x ≡ crew.Found y)) ⊎ ((c : Cause) × (checkedOf f x ≡ crew.Refused c) × OneOf xs (causeNumber c))
+checked-by xs Fine x h = inl (x, refl)
+checked-by xs (Refused c) x h = inr (c, refl, h c refl)
+
+kept : (f : Fault) (v : ℕ) (written out : List ℕ) (c : Cause) → outputOf f v ≡ output.Refused c → lentAfter f written out ≡ out
+kept f v written out c e = lent-refused f c written out (output-is-refused f v c e)
+
+-- ---- the faults of the operations
+
+verdict-only : (s : List ℕ) → Only (opening ++ 7 ∷ []) (verdictFault s)
+unfolding verdictFault overCause
+verdict-only s = then-only s (isOverloaded (planIn s)) (overCause (planIn s))
+
+needs-only : (s : List ℕ) (n : ℕ) → Only (opening ++ 9 ∷ []) (needsFault s n)
+unfolding needsFault
+needs-only s n = then-only s (ltb n (planIn s .kinds)) (Short (planIn s .kinds))
+
+starts-only : (s : List ℕ) (n : ℕ) → Only (opening ++ 9 ∷ []) (startsFault s n)
+unfolding startsFault
+starts-only s n = then-only s (ltb n (needed s)) (Short (needed s))
+
+overload-only : (s : List ℕ) (n : ℕ) → Only (opening ++ 9 ∷ []) (overloadFault s n)
+unfolding overloadFault
+overload-only s n = then-only s (ltb n 24) (Short 24)
+
+flow-only : (s : List ℕ) (kind n : ℕ) → Only (opening ++ 8 ∷ 9 ∷ 7 ∷ []) (flowFault s kind n)
+unfolding flowFault overCause
+flow-only s kind n =
+    let q = planIn s in
+    let L = opening ++ 8 ∷ 9 ∷ 7 ∷ [] in
+    let known = orCause (faultOf s) (not (isKind kind (q .kinds))) (NoKind (q .kinds)) in
+    let roomy = orCause known (ltb n (flowLength (q .count))) (Short (flowLength (q .count))) in
+    only-cause L roomy (isOverloaded q) (overCause q)
+    (only-cause L known (ltb n (flowLength (q .count))) (Short (flowLength (q .count)))
+    (only-cause L (faultOf s) (not (isKind kind (q .kinds))) (NoKind (q .kinds)) (only-more opening (8 ∷ 9 ∷ 7 ∷ []) (faultOf s) (fault-only s))
+    (inr (inr (inr (inr (inr (inr (inl refl))))))))
+    (inr (inr (inr (inr (inr (inr (inr (inl refl)))))))))
+    (inr (inr (inr (inr (inr (inr (inr (inr (inl refl)))))))))
+
+crew-only : (s starts worked : List ℕ) → Only (opening ++ 10 ∷ []) (crewCheckFault s starts worked)
+unfolding crewCheckFault
+crew-only s starts worked = then-only s (badLists (planIn s .count) starts worked) (Lists (planIn s .count))
+
+pub every-input : EveryInput ours
+unfolding needsOut startsOut overloadOut flowOut
+every-input =
+    record {
+      verdict = λ s. verdict-by (opening ++ 7 ∷ []) (verdictFault s) (planIn s .count) (planIn s .kinds) (verdict-only s);
+      needs = λ s n. output-by (opening ++ 9 ∷ []) (needsFault s n) (planIn s .kinds) (needs-only s n);
+      starts = λ s n. output-by (opening ++ 9 ∷ []) (startsFault s n) (needed s) (starts-only s n);
+      overload = λ s n. output-by (opening ++ 9 ∷ []) (overloadFault s n) (overCount (planIn s)) (overload-only s n);
+      flow = λ kind s n. output-by (opening ++ 8 ∷ 9 ∷ 7 ∷ []) (flowFault s kind n) (flowCount (planIn s) (kind - 1)) (flow-only s kind n);
+      crew-check = λ s starts worked. checked-by (opening ++ 10 ∷ []) (crewCheckFault s starts worked) (crewFound s starts worked) (crew-only s starts worked);
+      needs-kept = λ s out. kept (needsFault s (length out)) (planIn s .kinds) (needNumbers s) out;
+      starts-kept = λ s out. kept (startsFault s (length out)) (needed s) (startNumbers s) out;
+      overload-kept = λ s out. kept (overloadFault s (length out)) (overCount (planIn s)) (overBytes (planIn s)) out;
+      flow-kept = λ kind s out. kept (flowFault s kind (length out)) (flowCount (planIn s) (kind - 1)) (recordBytes (planIn s) (kind - 1)) out;
+    }

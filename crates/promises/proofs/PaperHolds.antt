@@ -1,0 +1,16 @@
+-- DEMAND 2 HOLDS OF OURS. It rests on Circling (causes 5 and 6), Earliest (starts), Checks (crew check) and Promise (flows). Assumes nothing.
+use Rattle.promises.specs.Ours.{ours}
+use Rattle.promises.specs.Paper.{PaperSentence}
+use Rattle.promises.proofs.CircleFaults.{opens-when}
+use Rattle.promises.proofs.PriceListHolds.{price-list}
+use Rattle.promises.proofs.CircleCauses.{circles}
+use Rattle.promises.proofs.EarliestStarts.{earliest-starts}
+use Rattle.promises.proofs.CrewCheckAnswers.{crew-check}
+
+pub paper : PaperSentence ours
+paper s small r = (
+  circles s r,
+  λ free.
+      let o = opens-when s .1 (r, free) in
+      record { flows = price-list s small r free .meets; starts = earliest-starts s o; crews = crew-check s o },
+)

@@ -1,0 +1,158 @@
+-- Which answer when: ours. Assumes nothing.
+use mathlib.Core.Path.{_≡_, refl, sym, ap, _∙_}
+use mathlib.Core.Bool.{Bool, true, false, not, cond}
+use mathlib.Core.List.{List, [], _∷_}
+use Prim.Native.Nat.{ℕ, _+_, _-_, _≤_, _<_}
+use native.Mathlib.Omega.{arith}
+use lib.Dec.{ltb, leb}
+use borrow.Author.Tests.{lt-ltb, le-ltb, le-leb, leb-true, ltb-true}
+use Rattle.words.proofs.Tests.{and-left, and-right, and-both, fails, not-of-false}
+use Rattle.records.specs.Bytes.{AreBytes}
+use Rattle.plan.specs.Meaning.{Readable, fileKinds}
+use Rattle.plan.specs.Records.{activityCount}
+use Rattle.plan.specs.declared.Cause.{Cause as Unread}
+use Rattle.plan.specs.declared.Answer.the-variants as answer
+use Rattle.planner.specs.Open.{planIn, isFine, faultOf, orCause, Opens}
+use Rattle.planner.specs.Numbers.{numbersOf, verdictNumbers, outputNumbers}
+use Rattle.planner.specs.Output.{outputOf}
+use Rattle.planner.specs.Need.{isOverloaded, overCause}
+use Rattle.planner.specs.Verdict.{verdictFault, verdictOf}
+use Rattle.planner.specs.Needs.{needsFault}
+use Rattle.planner.specs.Starts.{needed, startsFault}
+use Rattle.planner.specs.Overload.{overloadFault, overCount}
+use Rattle.planner.specs.Flow.{isKind, flowFault, flowCount}
+use Rattle.planner.specs.File.{flowLength}
+use Rattle.planner.specs.declared.Cause.{Cause}
+use Rattle.planner.specs.declared.Cause.the-variants.{Unreadable, JobCircle, PlanCircle, Overloaded, NoKind, Short, Lists}
+use Rattle.planner.specs.declared.Fault.{Fault}
+use Rattle.planner.specs.declared.Fault.the-variants.{Fine, Refused}
+use Rattle.planner.proofs.FaultLaws.{cause-before, cause-next, cause-none}
+use Rattle.planner.proofs.OpenLaws.{opens-readable}
+use Rattle.planner.proofs.QuotedNeeds.{count-in, kinds-in}
+use Rattle.promises.specs.Ours.{ours}
+use Rattle.promises.specs.PriceList.{Exceeds, Enough}
+use Rattle.promises.specs.Refusals.{Unreadables, Refusals, RefusalSentence}
+use Rattle.promises.proofs.CircleFaults.{opens-when, unreadable-means, means-unreadable}
+use Rattle.promises.proofs.OverloadShown.{over-when, enough-not}
+use Rattle.promises.proofs.CircleCauses.{every-gives, fault-gives, heads}
+
+-- ---- causes 1 to 4
+
+-- a cause with such a number is the reader's
+is-unread : (c : Cause) (n : ℕ) (values : List ℕ) → n ≤ 4 → numbersOf c ≡ n ∷ values → (u : Unread) × (c ≡ Unreadable u)
+is-unread (Unreadable u) n values h e = (u, refl)
+is-unread (JobCircle j) n values h e = absurd (omega (arith, h, heads e))
+is-unread (PlanCircle j) n values h e = absurd (omega (arith, h, heads e))
+is-unread (Overloaded k need set) n values h e = absurd (omega (arith, h, heads e))
+is-unread (NoKind k) n values h e = absurd (omega (arith, h, heads e))
+is-unread (Short k) n values h e = absurd (omega (arith, h, heads e))
+is-unread (Lists m) n values h e = absurd (omega (arith, h, heads e))
+
+unreadables : (s : List ℕ) → Unreadables ours s
+unreadables s =
+    record {
+      every = λ u e. every-gives s (Unreadable u) (means-unreadable s u e);
+      some = λ n values p q g.
+          let w = fault-gives n values p (omega (arith, q)) s g in
+          let v = is-unread (w .0) n values q (w .2) in
+          (v .0, unreadable-means s (v .0) (w .1 ∙ ap Refused (v .1)), sym (ap numbersOf (v .1)) ∙ w .2);
+    }
+
+-- ---- the other causes, of a plan that opens
+
+given : (f : Fault) (v : ℕ) (c : Cause) → f ≡ Refused c → outputNumbers (outputOf f v) ≡ numbersOf c
+given f v c e = ap (λ (x : Fault). outputNumbers (outputOf x v)) e
+
+done : (f : Fault) (v : ℕ) → f ≡ Fine → outputNumbers (outputOf f v) ≡ 0 ∷ v ∷ []
+done f v e = ap (λ (x : Fault). outputNumbers (outputOf x v)) e
+
+two : (x : ℕ) {a b : ℕ} → a ≡ b → _≡_ {A = List ℕ} (x ∷ a ∷ []) (x ∷ b ∷ [])
+two x e = ap (λ (y : ℕ). x ∷ y ∷ []) e
+
+module _ (s : List ℕ) (small : AreBytes s) (o : Opens s) where
+  readable : Readable s
+  readable = opens-readable s o
+
+  m : planIn s .count ≡ activityCount s
+  m = count-in s readable
+
+  K : planIn s .kinds ≡ fileKinds s
+  K = kinds-in s readable
+
+  -- an operation with one cause more, 9
+  short : (n length : ℕ) → n < length → orCause (faultOf s) (ltb n length) (Short length) ≡ Refused (Short length)
+  short n length h = cause-next (faultOf s) (ltb n length) (Short length) o (lt-ltb n length h)
+
+  roomy : (n length : ℕ) → length ≤ n → orCause (faultOf s) (ltb n length) (Short length) ≡ Fine
+  roomy n length h = cause-none (faultOf s) (ltb n length) (Short length) o (le-ltb n length h)
+
+  overloads : (k : ℕ) → Exceeds ours s k → overCount (planIn s) ≡ 1
+  unfolding overCount
+  overloads k x = ap (λ (b : Bool). cond b 1 0) (over-when s small o k x)
+
+  overloads-none : Enough ours s → overCount (planIn s) ≡ 0
+  unfolding overCount
+  overloads-none en = ap (λ (b : Bool). cond b 1 0) (enough-not s small o en)
+
+  -- ---- Flow
+
+  module _ (kind : ℕ) where
+    no-kind : ((1 ≤ kind) × (kind ≤ fileKinds s) → ⊥) → not (isKind kind (planIn s .kinds)) ≡ true
+    no-kind never =
+        not-of-false (isKind kind (planIn s .kinds))
+        (fails (isKind kind (planIn s .kinds))
+        (λ e. never (
+          omega (arith, ltb-true 0 kind (and-left (ltb 0 kind) (leb kind (planIn s .kinds)) e)),
+          omega (arith, leb-true kind (planIn s .kinds) (and-right (ltb 0 kind) (leb kind (planIn s .kinds)) e), K),
+        )))
+
+    a-kind : 1 ≤ kind → kind ≤ fileKinds s → not (isKind kind (planIn s .kinds)) ≡ false
+    a-kind p q =
+        ap not (and-both (ltb 0 kind) (leb kind (planIn s .kinds)) (lt-ltb 0 kind p) (le-leb kind (planIn s .kinds) (omega (arith, q, K))))
+
+  pub refusals-open : Refusals ours s
+  unfolding needsFault startsFault overloadFault flowFault verdictFault
+  refusals-open =
+      record {
+        needs-short = λ n h.
+            given (needsFault s n) (planIn s .kinds) (Short (planIn s .kinds)) (short n (planIn s .kinds) (omega (arith, h, K))) ∙ two 9 K;
+        needs = λ n h. done (needsFault s n) (planIn s .kinds) (roomy n (planIn s .kinds) (omega (arith, h, K))) ∙ two 0 K;
+        starts-short = λ n h.
+            given (startsFault s n) (needed s) (Short (needed s)) (short n (needed s) (omega (arith, h, m))) ∙ two 9 (ap (λ (x : ℕ). x + 1) m);
+        starts = λ n h. done (startsFault s n) (needed s) (roomy n (needed s) (omega (arith, h, m))) ∙ two 0 (ap (λ (x : ℕ). x + 1) m);
+        overload-short = λ n h. given (overloadFault s n) (overCount (planIn s)) (Short 24) (short n 24 h);
+        overload = λ n h k x. done (overloadFault s n) (overCount (planIn s)) (roomy n 24 h) ∙ two 0 (overloads k x);
+        overload-none = λ n h en. done (overloadFault s n) (overCount (planIn s)) (roomy n 24 h) ∙ two 0 (overloads-none en);
+        flow-no-kind = λ kind n never.
+            let q = planIn s in
+            let C = NoKind (q .kinds) in
+            given (flowFault s kind n) (flowCount q (kind - 1)) C
+            (cause-before _ (isOverloaded q) (overCause q) C
+            (cause-before _ (ltb n (flowLength (q .count))) (Short (flowLength (q .count))) C
+            (cause-next (faultOf s) (not (isKind kind (q .kinds))) C o (no-kind kind never))))
+            ∙ two 8 K;
+        flow-short = λ kind n p r h.
+            let q = planIn s in
+            let C = Short (flowLength (q .count)) in
+            let l : n < flowLength (q .count) = rw m h in
+            given (flowFault s kind n) (flowCount q (kind - 1)) C
+            (cause-before _ (isOverloaded q) (overCause q) C
+            (cause-next (orCause (faultOf s) (not (isKind kind (q .kinds))) (NoKind (q .kinds))) (ltb n (flowLength (q .count))) C
+            (ap isFine (cause-none (faultOf s) (not (isKind kind (q .kinds))) (NoKind (q .kinds)) o (a-kind kind p r)))
+            (lt-ltb n (flowLength (q .count)) l)))
+            ∙ two 9 (ap flowLength m);
+        flow-overloaded = λ kind n p r h k x.
+            let q = planIn s in
+            let C = overCause q in
+            let l : flowLength (q .count) ≤ n = rw m h in
+            let t = over-when s small o k x in
+            let known = orCause (faultOf s) (not (isKind kind (q .kinds))) (NoKind (q .kinds)) in
+            let known-fine = ap isFine (cause-none (faultOf s) (not (isKind kind (q .kinds))) (NoKind (q .kinds)) o (a-kind kind p r)) in
+            let room = orCause known (ltb n (flowLength (q .count))) (Short (flowLength (q .count))) in
+            let room-fine = ap isFine (cause-none known (ltb n (flowLength (q .count))) (Short (flowLength (q .count))) known-fine (le-ltb n (flowLength (q .count)) l)) in
+            given (flowFault s kind n) (flowCount q (kind - 1)) C (cause-next room (isOverloaded q) C room-fine t)
+            ∙ sym (ap (λ (f : Fault). verdictNumbers (verdictOf f (q .count) (q .kinds))) (cause-next (faultOf s) (isOverloaded q) C o t));
+      }
+
+pub refusals : RefusalSentence ours
+refusals s small = (unreadables s, λ r free. refusals-open s small (opens-when s .1 (r, free)))

@@ -1,0 +1,76 @@
+-- What a quote promises, it keeps: of every order without a circle, with demands of at most 65,535, of which those of the
+-- elements from m on are 0 (`Plan`). Assumes nothing.
+--
+--   sound               the quote is sound: its set is unrelated and weighs exactly the need, and its handover reaches it (specs/Sound.antt)
+--   ends                the rounds end by a search that found nothing: the number of rounds is never what stops them
+--   need-small          the need is at most elements times 65,535
+--   handed-small        no element hands over more than its demand
+--   crew-bound          no crew occupies more than the need, in any period
+--   crew-peak           for all durations from 1 to `gap` some crew occupies all of it in one period
+--   no-flow-frees-more  no resource flow of a units sends more than a - need straight from the start to the end
+use mathlib.Core.Path.{_≡_, sym, ap, _∙_, subst}
+use mathlib.Core.List.{List}
+use Prim.Native.Nat.{ℕ, suc, _*_, _+_, _≤_, _<_}
+use native.Mathlib.Omega.{arith}
+use Rattle.words.specs.Bits.{bit}
+use Rattle.words.proofs.Sums.{sum-term}
+use Rattle.order.specs.Stored.{elements}
+use Rattle.order.proofs.Stored.{number-set}
+use Rattle.order.specs.Arcs.{StrictOrder}
+use Rattle.order.specs.Orders.{afterRows, isBefore}
+use Rattle.order.specs.Rows.{after}
+use Rattle.order.specs.declared.Order.{Order}
+use Rattle.order.proofs.Orders.{after-member, after-row}
+use Rattle.flow_math.specs.Crew.{Crew, occupied}
+use Rattle.flow_math.specs.Peak.{Peak}
+use Rattle.flow_math.specs.Flow.{ResourceFlow}
+use Rattle.flow_math.specs.Handover.{row}
+use Rattle.flow_math.proofs.Theorems
+use Rattle.solver.specs.model.Network.{handed}
+use Rattle.solver.specs.model.Quote.{chosen, flowIn, flowOf, outcome, quoteIn, quoteOf}
+use Rattle.solver.specs.Sound.{Plan, Sound, SoundQuote, asked}
+use Rattle.solver.proofs.Outcome.{amount-small, outcome-ends, outcome-sound}
+use Rattle.solver.proofs.Carried.{sound-carried, strict-carried}
+
+-- the rows that the solver is given say what the order says
+rows-agree : (o : Order) (i j : ℕ) → i < elements → j < elements → after (afterRows o) i j ≡ isBefore o i j
+rows-agree o i j hi hj = ap (λ (w : ℕ). bit w j) (after-row o i) ∙ after-member o i j
+
+rows-strict : (o : Order) → StrictOrder elements (isBefore o) → StrictOrder elements (after (afterRows o))
+rows-strict o s = strict-carried elements (isBefore o) (after (afterRows o)) (λ i j hi hj. sym (rows-agree o i j hi hj)) s
+
+pub sound : (m : ℕ) (o : Order) (demand : List ℕ) → Plan m o demand → SoundQuote m o demand
+unfolding quoteIn flowIn
+sound m o demand P =
+    let s = rows-strict o (P .strict) in
+    let w = chosen m (outcome m (afterRows o) demand .search) demand in
+    subst (λ (x : ℕ). Sound elements (isBefore o) (asked demand) (quoteOf m o demand .need) (bit x) (handed (flowOf m o demand))) (sym (number-set w))
+    (sound-carried elements (after (afterRows o)) (isBefore o) (rows-agree o) s (outcome-sound m (P .within) (afterRows o) demand (P .idle) (P .small) s))
+
+pub ends : (m : ℕ) (o : Order) (demand : List ℕ) → Plan m o demand → elements ≤ outcome m (afterRows o) demand .search .at
+ends m o demand P = outcome-ends m (P .within) (afterRows o) demand (P .idle) (P .small)
+
+pub need-small : (m : ℕ) (o : Order) (demand : List ℕ) → Plan m o demand → quoteOf m o demand .need ≤ (elements * 65535)
+unfolding quoteIn
+need-small m o demand P = amount-small m (P .within) (afterRows o) demand (P .idle) (P .small)
+
+pub handed-small : (m : ℕ) (o : Order) (demand : List ℕ) → Plan m o demand → (i j : ℕ) → i < elements → j < elements → handed (flowOf m o demand) i j ≤ asked demand i
+unfolding row
+handed-small m o demand P i j hi hj =
+    omega (arith, sound m o demand P .handover .rows i hi, sum-term elements (λ k. handed (flowOf m o demand) i k) j hj)
+
+pub crew-bound : (m : ℕ) (o : Order) (demand : List ℕ) → Plan m o demand → (s w : ℕ → ℕ) → Crew elements (isBefore o) s w → (t : ℕ) → 1 ≤ t
+    → occupied elements (asked demand) s w t ≤ quoteOf m o demand .need
+crew-bound m o demand P s w c t h =
+    omega (arith, sound m o demand P .need, Theorems.crew-bound elements (isBefore o) (asked demand) s w t (P .strict) c h)
+
+pub crew-peak : (m : ℕ) (o : Order) (demand : List ℕ) → Plan m o demand → (w : ℕ → ℕ) (gap : ℕ) → ((i : ℕ) → i < elements → (1 ≤ w i) × (w i ≤ gap))
+    → (K : Peak elements (isBefore o) (asked demand) w gap) × (occupied elements (asked demand) (K .starts) w (K .period) ≡ quoteOf m o demand .need)
+crew-peak m o demand P w gap h =
+    let k = Theorems.crew-peak elements (isBefore o) (asked demand) w gap (P .strict) h in
+    (k, k .full ∙ sym (sound m o demand P .need))
+
+pub no-flow-frees-more : (m : ℕ) (o : Order) (demand : List ℕ) → Plan m o demand → (a : ℕ) (g : ℕ → ℕ → ℕ) → ResourceFlow elements (isBefore o) (asked demand) a g
+    → g 0 (suc elements) + quoteOf m o demand .need ≤ a
+no-flow-frees-more m o demand P a g G =
+    omega (arith, sound m o demand P .need, Theorems.no-flow-frees-more elements (isBefore o) (asked demand) a g (P .strict) G)

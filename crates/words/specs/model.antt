@@ -1,0 +1,2 @@
+-- For the code: loops as recursions.
+pub mod Loops
