@@ -5,11 +5,11 @@ mod open;
 mod ops;
 
 pub use ops::crew_check::crew_check;
-pub use ops::overload::overload;
 pub use ops::flow::flow;
-pub use ops::verdict::verdict;
 pub use ops::needs::needs;
+pub use ops::overload::overload;
 pub use ops::starts::starts;
+pub use ops::verdict::verdict;
 
 // Why an operation refuses, with the cause's own data. Activities and kinds count from 1.
 pub enum Cause {

@@ -8,9 +8,9 @@ ghost use Rattle.order.specs.Stored.{elements, numberOf};
 ghost use Rattle.planner.specs.Numbers.{unreadNumbers};
 ghost use Rattle.lines.specs.Text.{text, more};
 ghost use Rattle.report_lines.specs.Lines.{refusedNumbers, refusedLine, slots, refusedRoom};
-use planner::Cause;
 use order::ELEMENTS;
 use order::Set;
+use planner::Cause;
 
 // A number, two values, and the members of a set.
 const SLOTS: usize = 3 + ELEMENTS;

@@ -9,10 +9,10 @@ use crate::Cause;
 use crate::Output;
 use crate::answer::Counted;
 use crate::answer::output_of;
-use crate::ops::verdict::or_overloaded;
 use crate::open::is_fine;
 use crate::open::open_plan;
 use crate::open::or_cause;
+use crate::ops::verdict::or_overloaded;
 
 // Whether a kind is one of 1 to n.
 fn is_kind(kind: usize, n: usize) -> bool
