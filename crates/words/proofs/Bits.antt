@@ -7,7 +7,7 @@ use Prim.Native.Nat.{ℕ, zero, suc, _+_, _-_, _*_, _/_, _%_, _^_, _≤_, _<_, m
 use native.Mathlib.Nat.{one-mul, mod-lt, mod-eq-of-lt, zero-lt-suc, zero-max, zero-min, zero-sub, pow-suc, pow-succ', div-div-eq-div-mul, zero-div, div-one, lt-of-lt-of-le}
 use native.Mathlib.Omega.{arith}
 use lib.Dec.{lit<, eqb, eqb·suc-suc, eqb·zero-suc, eqb·suc-zero}
-use lib.Bits.{bitAnd, bitOr, bitXor, differ, and-step, or-step, xor-step, or-lt, and-le-l, and-shr, or-shr, xor-shr, block-odd, block-half}
+use lib.Bits.{bitAnd, bitOr, bitXor, differ, and-step, or-step, xor-step, or-lt, and-le-l, and-shr, or-shr, block-odd, block-half}
 use lib.Pow.{pow-mono, pow-lt, shr-shr, high}
 use lib.Arith.{lt-one}
 use borrow.Author.Tests.{eq-eqb, ne-eqb, eqb-true}
@@ -141,10 +141,6 @@ digit-and a b i = ap (λ (x : ℕ). x % 2) (and-shr a b i) ∙ and-low (a / 2 ^ 
 pub digit-or : (a b i : ℕ) → digit (bitOr a b) i ≡ max (digit a i) (digit b i)
 unfolding digit
 digit-or a b i = ap (λ (x : ℕ). x % 2) (or-shr a b i) ∙ or-low (a / 2 ^ i) (b / 2 ^ i)
-
-pub digit-xor : (a b i : ℕ) → digit (bitXor a b) i ≡ (digit a i + digit b i) % 2
-unfolding digit
-digit-xor a b i = ap (λ (x : ℕ). x % 2) (xor-shr a b i) ∙ xor-low (a / 2 ^ i) (b / 2 ^ i)
 
 pub digit-minus : (a b i : ℕ) → digit (minus a b) i ≡ digit a i - digit b i
 digit-minus a b zero =

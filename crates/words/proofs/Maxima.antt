@@ -22,9 +22,6 @@ maximum-least (suc n) f b h =
     let q : maximum n f ≤ b = maximum-least n f b (λ i l. h i (omega arith)) in
     omega (arith, h n (omega arith))
 
-pub maximum-mono : (n : ℕ) (f g : ℕ → ℕ) → ((i : ℕ) → i < n → f i ≤ g i) → maximum n f ≤ maximum n g
-maximum-mono n f g h = maximum-least n f (maximum n g) (λ i l. omega (arith, h i l, maximum-at n g i l))
-
 pub maximum-cong : (n : ℕ) (f g : ℕ → ℕ) → ((i : ℕ) → i < n → f i ≡ g i) → maximum n f ≡ maximum n g
 unfolding maximum
 maximum-cong zero f g h = refl

@@ -1,5 +1,5 @@
 -- Finite sums. Assumes nothing.
-use mathlib.Core.Path.{_≡_, refl, sym, _∙_, ap}
+use mathlib.Core.Path.{_≡_, refl, sym, ap}
 use mathlib.Core.Bool.{Bool, true, false, cond}
 use Prim.Native.Nat.{ℕ, zero, suc, _+_, _*_, _≤_, _<_}
 use native.Mathlib.Nat.{mul-zero, mul-add, suc-mul}
@@ -48,10 +48,6 @@ unfolding sum
 sum-term zero g k l = omega arith
 sum-term (suc n) g k l =
     by-cases (ℕ-discrete k n) (λ p. omega (arith, ap g p)) (λ p. omega (arith, sum-term n g k (omega arith)))
-
--- of a sum that is 0 each term is 0
-pub zero-sum : (n : ℕ) (g : ℕ → ℕ) → sum n g ≡ 0 → (i : ℕ) → i < n → g i ≡ 0
-zero-sum n g e i l = omega (arith, sum-term n g i l)
 
 -- a factor
 pub sum-mul : (n c : ℕ) (g : ℕ → ℕ) → sum n (λ i. c * g i) ≡ c * sum n g
@@ -140,12 +136,6 @@ sum-cond-not n false g = refl
 pub cond-split : (t : Bool) (a : ℕ) → cond t a 0 + cond t 0 a ≡ a
 cond-split true a = omega arith
 cond-split false a = omega arith
-
--- a test splits a sum in two
-pub sum-split : (n : ℕ) (t : ℕ → Bool) (g : ℕ → ℕ) → sum n (λ i. cond (t i) (g i) 0) + sum n (λ i. cond (t i) 0 (g i)) ≡ sum n g
-sum-split n t g =
-    sym (sum-add n (λ i. cond (t i) (g i) 0) (λ i. cond (t i) 0 (g i)))
-    ∙ sum-cong n (λ i. cond (t i) (g i) 0 + cond (t i) 0 (g i)) g (λ i l. cond-split (t i) (g i))
 
 -- terms of at most c
 pub sum-bound : (n c : ℕ) (g : ℕ → ℕ) → ((i : ℕ) → i < n → g i ≤ c) → sum n g ≤ n * c

@@ -7,7 +7,7 @@ use native.Mathlib.Omega.{arith}
 use native.Mathlib.Nat.{zero-add}
 use native.Mathlib.Numerals.{add-one}
 use lib.Dec.{ltb}
-use lib.ListN.{length, getD, set, take, drop, replicate, length-append, length-drop, length-set, length-replicate}
+use lib.ListN.{length, getD, set, take, drop, replicate, length-set, length-replicate}
 use lib.Seq.{ext-getD, getD-set-same, getD-set-other, paste-suc, length-take-le, take-length, take-at}
 use borrow.Author.Count.{below-more}
 use borrow.Author.Tests.{ltb-true, ltb-false}
@@ -43,9 +43,6 @@ pub over-turn : (i : ℕ) (r d : List ℕ) → i < length r → i < length d →
 over-turn i r d hr hd =
     let e : 0 + i < length d = omega arith in
     rw add-one (rw (zero-add i, zero-add (suc i)) at (paste-suc d 0 r i 0 e hr))
-
-pub length-over : (i : ℕ) (r d : List ℕ) → i ≤ length r → i ≤ length d → length (over i r d) ≡ length d
-length-over i r d hr hd = rw (length-append, length-take-le i r hr, length-drop) (omega arith)
 
 -- what is written over one front, and then from there over another
 pub over-again : (n : ℕ) (r z d : List ℕ) → n ≤ length r → over n (over n r z) d ≡ over n r d
