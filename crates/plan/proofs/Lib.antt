@@ -10,4 +10,3 @@ pub mod Phases
 pub mod ReaderLoops
 pub mod Said
 pub mod Refused
-pub mod Cases

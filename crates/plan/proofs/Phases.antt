@@ -16,7 +16,7 @@ use Rattle.plan.specs.declared.Answer.the-variants.{Readable, Refused}
 use Rattle.plan.specs.declared.Cause.the-variants.{Length, RecordType}
 use Rattle.plan.specs.declared.Plan.{Plan}
 use Rattle.plan.specs.declared.Reading.{Reading}
-use Rattle.plan.specs.Records.{recordAt, recordCount, activityCount, jobCount, leading, availableIn, dueType, activities, demandsOf}
+use Rattle.plan.specs.Records.{recordAt, recordCount, activityCount, jobCount, leading, availableIn, dueType, demandsOf}
 use Rattle.plan.specs.model.Plans.{planOf, emptyPlan, durationsOf, availableOf}
 use Rattle.plan.specs.Causes.{isReadable, activityCause, crewCause, arcCause, causeAt, firstRefusal, followedBy, recordsCause, isLength, answerOf}
 use Rattle.plan.specs.model.Reads.{readOf}

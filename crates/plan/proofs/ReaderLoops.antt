@@ -18,12 +18,12 @@ use Rattle.order.specs.Stored.{elements}
 use Rattle.plan.specs.declared.Answer.{Answer}
 use Rattle.plan.specs.declared.Answer.the-variants.{Readable, Refused}
 use Rattle.plan.specs.declared.Reading.{Reading}
-use Rattle.plan.specs.Records.{recordAt, leading, isEnd, arcFields, arcSpare, activities}
+use Rattle.plan.specs.Records.{recordAt, leading, isEnd, arcFields, activities}
 use Rattle.plan.specs.Causes.{isReadable, activityCause, arcCause, firstRefusal, isLength}
 use Rattle.plan.specs.model.Phases.{refusalOf, unlessRefused}
 use Rattle.records.proofs.Steps.{rest-of}
 use Rattle.plan.proofs.Places.{record-on}
-use Rattle.plan.proofs.RecordRules.{fields-kept, activity-kept, end-high}
+use Rattle.plan.proofs.RecordRules.{arc-fielded, activity-kept, end-high}
 use Rattle.plan.proofs.Refusals.{all-readable}
 
 -- ---- a test that the code made and negated, as the definition has it
@@ -147,10 +147,9 @@ module _ (m : ℕ) (r : List ℕ) (e : arcFields m r ≡ true) where
 
 pub arcs-kept : (type place m n : ℕ) (t : List ℕ) → m ≤ elements → isReadable (firstRefusal n (λ i. arcCause type (place + i) m (recordAt t i))) ≡ true
     → (i : ℕ) → i < n → arcFields elements (recordAt t i) ≡ true
-unfolding arcCause
 arcs-kept type place m n t h e i l =
     let r = recordAt t i in
-    arc-more m r (fields-kept (eqb (byte r 0) type) (arcFields m r) (arcSpare r) (place + i) (all-readable n (λ k. arcCause type (place + k) m (recordAt t k)) e i l)) elements h
+    arc-more m r (arc-fielded type (place + i) m r (all-readable n (λ k. arcCause type (place + k) m (recordAt t k)) e i l)) elements h
 
 -- a file of a right length has at most 49,152 bytes
 pub length-high : (n : ℕ) → isLength n ≡ true → n ≤ 49152

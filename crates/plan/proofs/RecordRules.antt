@@ -13,8 +13,11 @@ use Rattle.words.proofs.Tests.{clash, and-left, and-right, cond-true, cond-fals
 use Rattle.records.proofs.Zeros.{all-zero}
 use Rattle.records.specs.Bytes.{byte, field, zeros}
 use Rattle.order.specs.Stored.{elements}
-use Rattle.plan.specs.Records.{recordAt, activityCount, jobCount, dueType, activityFields, activitySpare, crewFields, crewSpare, isEnd, arcFields, arcSpare, activities, demandsOf}
-use Rattle.plan.specs.Causes.{firstCause, isReadable, activityCause, crewCause, arcCause, causeAt}
+use Rattle.plan.specs.declared.Answer.{Answer}
+use Rattle.plan.specs.declared.Answer.the-variants.{Readable, Refused}
+use Rattle.plan.specs.declared.Cause.{Cause}
+use Rattle.plan.specs.Records.{recordAt, activityCount, jobCount, dueType, activityFields, crewFields, isEnd, arcFields, activities, demandsOf}
+use Rattle.plan.specs.Causes.{rule, isReadable, activityCause, crewCause, arcCause, causeAt}
 
 -- ---- bytes that are zero
 
@@ -26,16 +29,18 @@ zeros-mean l a b i e lo hi =
     ∙ sym (getD-drop a (take b l) (i - a) 0)
     ∙ all-zero (slice a b l) e (i - a)
 
--- ---- the three tests of a record with no cause
+-- ---- a chain of rules with no cause: the last rule is kept, and the chain before it has no cause
 
-pub typed-kept : (t f s : Bool) (place : ℕ) → isReadable (firstCause t f s place) ≡ true → t ≡ true
-typed-kept true f s place e = refl
-typed-kept false f s place e = absurd (false≢true e)
+pub rule-kept : (answer : Answer) (kept : Bool) (cause : Cause) → isReadable (rule answer kept cause) ≡ true → kept ≡ true
+unfolding rule
+rule-kept Readable true cause e = refl
+rule-kept Readable false cause e = absurd (false≢true e)
+rule-kept (Refused c) kept cause e = absurd (false≢true e)
 
-pub fields-kept : (t f s : Bool) (place : ℕ) → isReadable (firstCause t f s place) ≡ true → f ≡ true
-fields-kept true true s place e = refl
-fields-kept true false s place e = absurd (false≢true e)
-fields-kept false f s place e = absurd (false≢true e)
+pub rule-before : (answer : Answer) (kept : Bool) (cause : Cause) → isReadable (rule answer kept cause) ≡ true → isReadable answer ≡ true
+unfolding rule
+rule-before Readable kept cause e = refl
+rule-before (Refused c) kept cause e = e
 
 -- an activity with no cause, at a place
 pub record ActivityKept (place : ℕ) (r : List ℕ) : Type 0 where
@@ -49,7 +54,7 @@ activity-kept place r e =
     let a : Bool = ltb place activities in
     let b : Bool = eqb (byte r 1) (place + 1) in
     let c : Bool = ltb 0 (field r 2 2) in
-    let f : a && (b && c) ≡ true = fields-kept true (a && (b && c)) (activitySpare r) place e in
+    let f : a && (b && c) ≡ true = rule-kept _ _ _ (rule-before _ _ _ e) in
     let g : b && c ≡ true = and-right a (b && c) f in
     record {
       few = ltb-true place activities (and-left a (b && c) f);
@@ -72,11 +77,11 @@ crew-kept place demand r e =
     let b : Bool = leb (byte r 1) 8 in
     let c : Bool = zeros (slice (4 + 2 * byte r 1) 20 r) in
     let d : Bool = zeros (slice (elements * byte r 1) (8 * elements) demand) in
-    let f : a && (b && (c && d)) ≡ true = fields-kept (eqb (byte r 0) 2) (a && (b && (c && d))) (crewSpare r) place e in
+    let f : a && (b && (c && d)) ≡ true = rule-kept _ _ _ (rule-before _ _ _ e) in
     let g : b && (c && d) ≡ true = and-right a (b && (c && d)) f in
     let h : c && d ≡ true = and-right b (c && d) g in
     record {
-      typed = eqb-true (byte r 0) 2 (typed-kept (eqb (byte r 0) 2) (a && (b && (c && d))) (crewSpare r) place e);
+      typed = eqb-true (byte r 0) 2 (rule-kept _ _ _ (rule-before _ _ _ (rule-before _ _ _ e)));
       some = ltb-true 0 (byte r 1) (and-left a (b && (c && d)) f);
       few = leb-true (byte r 1) 8 (and-left b (c && d) g);
       none = λ i lo hi. zeros-mean r (4 + 2 * byte r 1) 20 i (and-left c d h) lo hi;
@@ -98,16 +103,24 @@ end-low m i e = ltb-true 0 i (and-left (ltb 0 i) (leb i m) e)
 pub end-high : (m i : ℕ) → isEnd m i ≡ true → i ≤ m
 end-high m i e = leb-true i m (and-right (ltb 0 i) (leb i m) e)
 
+pub arc-typed : (type place m : ℕ) (r : List ℕ) → isReadable (arcCause type place m r) ≡ true → byte r 0 ≡ type
+unfolding arcCause
+arc-typed type place m r e = eqb-true (byte r 0) type (rule-kept _ _ _ (rule-before _ _ _ (rule-before _ _ _ e)))
+
+pub arc-fielded : (type place m : ℕ) (r : List ℕ) → isReadable (arcCause type place m r) ≡ true → arcFields m r ≡ true
+unfolding arcCause
+arc-fielded type place m r e = rule-kept _ _ _ (rule-before _ _ _ e)
+
 pub arc-kept : (type place m : ℕ) (r : List ℕ) → isReadable (arcCause type place m r) ≡ true → ArcKept type m r
-unfolding arcCause arcFields
+unfolding arcFields
 arc-kept type place m r e =
     let a : Bool = isEnd m (byte r 1) in
     let b : Bool = isEnd m (byte r 2) in
     let d : Bool = not (eqb (byte r 1) (byte r 2)) in
-    let f : a && (b && d) ≡ true = fields-kept (eqb (byte r 0) type) (a && (b && d)) (arcSpare r) place e in
+    let f : a && (b && d) ≡ true = arc-fielded type place m r e in
     let g : b && d ≡ true = and-right a (b && d) f in
     record {
-      typed = eqb-true (byte r 0) type (typed-kept (eqb (byte r 0) type) (a && (b && d)) (arcSpare r) place e);
+      typed = arc-typed type place m r e;
       from-low = end-low m (byte r 1) (and-left a (b && d) f);
       from-high = end-high m (byte r 1) (and-left a (b && d) f);
       to-low = end-low m (byte r 2) (and-left b d g);

@@ -1,5 +1,5 @@
 -- What a refusal means in plain words, and which files are refused and read. Assumes nothing.
-use mathlib.Core.Path.{_≡_, refl, sym, ap, _∙_}
+use mathlib.Core.Path.{_≡_, refl, sym, ap, _∙_, subst}
 use mathlib.Core.Bool.{Bool, true, false, cond, _&&_, false≢true}
 use mathlib.Core.List.{List}
 use mathlib.Core.Logic.{_⊎_, inl, inr, ⊎-elim, _↔_, _≢_}
@@ -13,9 +13,8 @@ use Rattle.plan.specs.declared.Answer.{Answer}
 use Rattle.plan.specs.declared.Answer.the-variants.{Readable, Refused}
 use Rattle.plan.specs.declared.Cause.{Cause}
 use Rattle.plan.specs.declared.Cause.the-variants.{Length, RecordType, Field, Spare}
-use Rattle.plan.specs.Records.{recordAt, recordCount, typeAt, activityCount, dueType, activityFields, activitySpare, crewFields, crewSpare, arcFields, arcSpare, demandsOf}
-use Rattle.records.specs.Bytes.{byte}
-use Rattle.plan.specs.Causes.{firstCause, isReadable, activityCause, crewCause, arcCause, causeAt, firstRefusal, followedBy, crewThere, recordsCause, isLength, answerOf}
+use Rattle.plan.specs.Records.{recordAt, recordCount, typeAt, activityCount, dueType, demandsOf}
+use Rattle.plan.specs.Causes.{rule, isReadable, activityCause, crewCause, arcCause, causeAt, firstRefusal, followedBy, crewThere, recordsCause, isLength, answerOf}
 use Rattle.plan.specs.Meaning
 use Rattle.plan.specs.Refused.{WrongLength, FirstFault, CrewMissing}
 use Rattle.plan.proofs.Refusals.{none-refused, refused-first, first-refused, all-readable}
@@ -44,31 +43,48 @@ pub refused-length : (s : List ℕ) → isLength (length s) ≡ false → answer
 unfolding answerOf
 refused-length s e = cond-false (recordsCause s) (Refused Length) e
 
--- ---- the place of a cause: a refusal at a record is a wrong type, field or spare byte of that record
+-- ---- the place of a cause: each rule of a record has the record's place
 
 abbrev pub Placed : ℕ → Cause → Type 0
-Placed p c = (c ≡ RecordType p) ⊎ ((c ≡ Field p) ⊎ (c ≡ Spare p))
+Placed p Length = ⊥
+Placed p (RecordType q) = q ≡ p
+Placed p (Field q) = q ≡ p
+Placed p (Spare q) = q ≡ p
 
-first-cause-place : (t f s : Bool) (place : ℕ) (c : Cause) → firstCause t f s place ≡ Refused c → Placed place c
-first-cause-place true true true place c e = absurd (let z : _≡_ {A = ℕ} 0 1 = cc in omega arith)
-first-cause-place true true false place c e = inr (inr (cc))
-first-cause-place true false s place c e = inr (inl (cc))
-first-cause-place false f s place c e = inl (cc)
+-- an answer whose cause, if it has one, is at p
+abbrev AllPlaced : ℕ → Answer → Type 0
+AllPlaced p Readable = Unit {0}
+AllPlaced p (Refused c) = Placed p c
+
+module _ (p : ℕ) where
+  rule-placed : (answer : Answer) (kept : Bool) (cause : Cause) → AllPlaced p answer → Placed p cause → AllPlaced p (rule answer kept cause)
+  unfolding rule
+  rule-placed Readable true cause h k = tt
+  rule-placed Readable false cause h k = k
+  rule-placed (Refused c) kept cause h k = h
+
+  activity-placed : (r : List ℕ) → AllPlaced p (activityCause p r)
+  unfolding activityCause
+  activity-placed r = rule-placed _ _ (Spare p) (rule-placed _ _ (Field p) tt refl) refl
+
+  crew-placed : (demand r : List ℕ) → AllPlaced p (crewCause p demand r)
+  unfolding crewCause
+  crew-placed demand r = rule-placed _ _ (Spare p) (rule-placed _ _ (Field p) (rule-placed _ _ (RecordType p) tt refl) refl) refl
+
+  arc-placed : (type m : ℕ) (r : List ℕ) → AllPlaced p (arcCause type p m r)
+  unfolding arcCause
+  arc-placed type m r = rule-placed _ _ (Spare p) (rule-placed _ _ (Field p) (rule-placed _ _ (RecordType p) tt refl) refl) refl
 
 pub cause-place : (s : List ℕ) (p : ℕ) (c : Cause) → causeAt s p ≡ Refused c → Placed p c
-unfolding causeAt activityCause crewCause arcCause
-cause-place s p c =
+unfolding causeAt
+cause-place s p c e =
     let m : ℕ = activityCount s in
     let r : List ℕ = recordAt s p in
-    cond-has P (ltb p m) (activityCause p r) (cond (eqb p m) (crewCause p (demandsOf s) r) (arcCause (dueType s p) p m r))
-    (λ t. first-cause-place true (activityFields p r) (activitySpare r) p c)
-    (λ t.
-    cond-has P (eqb p m) (crewCause p (demandsOf s) r) (arcCause (dueType s p) p m r)
-    (λ u. first-cause-place (eqb (byte r 0) 2) (crewFields (demandsOf s) r) (crewSpare r) p c)
-    (λ u. first-cause-place (eqb (byte r 0) (dueType s p)) (arcFields m r) (arcSpare r) p c))
-  where
-    P : Answer → Type 0
-    P a = a ≡ Refused c → Placed p c
+    let crew : Answer = crewCause p (demandsOf s) r in
+    let arc : Answer = arcCause (dueType s p) p m r in
+    subst (AllPlaced p) e
+    (cond-has (AllPlaced p) (ltb p m) (activityCause p r) (cond (eqb p m) crew arc) (λ t. activity-placed p r)
+    (λ t. cond-has (AllPlaced p) (eqb p m) crew arc (λ u. crew-placed p (demandsOf s) r) (λ u. arc-placed p (dueType s p) m r)))
 
 -- ---- which files are refused and read
 

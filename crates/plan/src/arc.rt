@@ -10,8 +10,9 @@ ghost use Rattle.plan.specs.model.Plans.{withArc};
 ghost use Rattle.plan.specs.Causes.{arcCause, firstRefusal};
 ghost use Rattle.plan.specs.model.Phases.{putArc};
 use crate::Answer;
-use crate::checks::first_cause;
+use crate::Cause;
 use crate::checks::is_readable;
+use crate::checks::rule;
 use crate::field::all_zero;
 use crate::field::index;
 use order::Rows;
@@ -45,7 +46,9 @@ fn arc_cause(m: usize, r: &[u8], of: u8, place: usize) -> Answer
     requires { ⌜ 24 ≤ length (now r) ⌝ }
     ensures { λ a. ⌜ a ≡ arcCause of place m (now (r .entry)) ⌝ }
 {
-    first_cause(r[0] == of, arc_fields(m, r), all_zero(r, 3, 24), place)
+    let typed = rule(Answer::Readable, r[0] == of, Cause::RecordType(place));
+    let fields = rule(typed, arc_fields(m, r), Cause::Field(place));
+    rule(fields, all_zero(r, 3, 24), Cause::Spare(place))
 }
 
 // The first cause among the first n records of t, which have to be arcs of a type; the first of them is at a place of the file.

@@ -22,7 +22,7 @@ use Rattle.order.specs.Orders.{extended, circleOf, orderOf, orderIn, joinedRows
 use Rattle.records.specs.Bytes.{AreBytes, field, zeros, bytes}
 use Rattle.plan.specs.Records.{activityCount, leading, activityFields, crewFields, arcFields, demandsOf}
 use Rattle.plan.specs.model.Plans.{durationsOf, availableOf, withArc, arcsUpTo, planOf}
-use Rattle.plan.specs.Causes.{activityCause, crewCause, arcCause, causeAt, firstRefusal, recordsCause, isLength, answerOf}
+use Rattle.plan.specs.Causes.{rule, activityCause, crewCause, arcCause, causeAt, firstRefusal, recordsCause, isLength, answerOf}
 use Rattle.plan.specs.model.Reads.{readOf}
 use Rattle.plan.specs.Meaning.{Readable, FileArc, fileKinds, fileDemand, fileAvailable}
 use Rattle.flow_math.specs.Heaviest.{heaviest, needOf}
@@ -83,7 +83,7 @@ record Computes : Type 0 where
   alike : unordered planA ≡ unordered planC
 
 computes : Computes
-unfolding row putRow rowTable cells digit bit each run upto first members count sum maximum table grow arcsFrom arcsIn circleIn extended circleOf orderOf orderIn joinedRows afterRows field zeros bytes leading activityFields crewFields arcFields durationsOf demandsOf availableOf withArc arcsUpTo planOf activityCause crewCause arcCause causeAt firstRefusal recordsCause isLength answerOf readOf heaviest needOf demandsFor circlesOf faultOf lentAfter needFor needsFault needNumbers needsOut flowLength
+unfolding row putRow rowTable cells digit bit each run upto first members count sum maximum table grow arcsFrom arcsIn circleIn extended circleOf orderOf orderIn joinedRows afterRows field zeros bytes leading activityFields crewFields arcFields durationsOf demandsOf availableOf withArc arcsUpTo planOf rule activityCause crewCause arcCause causeAt firstRefusal recordsCause isLength answerOf readOf heaviest needOf demandsFor circlesOf faultOf lentAfter needFor needsFault needNumbers needsOut flowLength
 computes =
     record {
       a-fault = refl;
