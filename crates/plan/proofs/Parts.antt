@@ -10,17 +10,18 @@ use lib.ListN.{replicate}
 use borrow.Author.Tests.{eq-eqb, ne-eqb}
 use Rattle.words.specs.model.Loops.{upto}
 use Rattle.words.proofs.Tests.{cond-true, cond-false}
+use Rattle.records.specs.Bytes.{byte}
 use Rattle.order.specs.Stored.{elements, cells}
 use Rattle.plan.specs.declared.Answer.{Answer}
 use Rattle.plan.specs.declared.Answer.the-variants.{Readable, Refused}
 use Rattle.plan.specs.declared.Cause.the-variants.{RecordType}
 use Rattle.plan.specs.Records.{recordAt, recordCount, typeAt, activityCount, jobCount, dueType, activities, demandsOf}
-use Rattle.plan.specs.model.Plans.{arcsUpTo, arcRows}
+use Rattle.plan.specs.model.ArcRows.{arcsUpTo, arcRows}
 use Rattle.plan.specs.Causes.{isReadable, activityCause, causeAt, firstRefusal, followedBy, crewThere, recordsCause}
 use Rattle.plan.specs.model.Phases.{putArc}
 use Rattle.plan.proofs.Refusals.{followed-left, followed-right, all-readable, none-refused}
-use Rattle.plan.proofs.Places.{leading-le, leading-typed}
-use Rattle.plan.proofs.RecordRules.{activity-kept, CrewKept, crew-kept, ArcKept, arc-kept, at-activity, at-crew, at-arc, due-job, due-extra}
+use Rattle.plan.proofs.Places.{record-on, leading-le, leading-typed}
+use Rattle.plan.proofs.RecordRules.{activity-kept, CrewKept, crew-kept, ArcKept, arc-kept, at-activity, at-crew, at-arc, due-extra}
 use Rattle.plan.proofs.Arcs.{arcs-none, arcs-run, arcs-start}
 
 -- no record has a cause, and the crew record is there
@@ -69,6 +70,12 @@ few-activities s h = go (activityCount s) h
 pub activity-typed : (s : List ℕ) (p : ℕ) → p < activityCount s → typeAt s p ≡ 1
 activity-typed s p h = leading-typed 1 (recordCount s) s p h
 
+-- the records after the crew record that are counted as job arcs
+job-typed : (s : List ℕ) (i : ℕ) → i < jobCount s → typeAt s (activityCount s + 1 + i) ≡ 3
+job-typed s i h =
+    let a : ℕ = activityCount s + 1 in
+    ap (λ (r : List ℕ). byte r 0) (sym (record-on s a i)) ∙ leading-typed 3 (recordCount s - a) (recordAt s a) i h
+
 module _ (s : List ℕ) (F : Faultless s) where
   pub activity-fine : (p : ℕ) → p < activityCount s → isReadable (activityCause p (recordAt s p)) ≡ true
   activity-fine p h = rw (at-activity s p h) at (F .fine p (omega (arith, F .crewed)))
@@ -82,9 +89,6 @@ module _ (s : List ℕ) (F : Faultless s) where
   pub arc-fine : (p : ℕ) → activityCount s < p → p < recordCount s → ArcKept (dueType s p) (activityCount s) (recordAt s p)
   arc-fine p h l = arc-kept (dueType s p) p (activityCount s) (recordAt s p) (rw (at-arc s p h) at (F .fine p l))
 
-  pub job-typed : (p : ℕ) → activityCount s < p → p < recordCount s → p < activityCount s + 1 + jobCount s → typeAt s p ≡ 3
-  job-typed p h l b = arc-fine p h l .typed ∙ due-job s p b
-
   pub extra-typed : (p : ℕ) → activityCount s < p → p < recordCount s → activityCount s + 1 + jobCount s ≤ p → typeAt s p ≡ 4
   extra-typed p h l b = arc-fine p h l .typed ∙ due-extra s p b
 
@@ -96,33 +100,27 @@ module _ (s : List ℕ) (F : Faultless s) where
       (λ l. omega (arith, activity-typed s p l))
       (eq-or-lt-of-le h)
 
-  -- ---- the rows of its arcs, as the loops store them
+  -- ---- the rows of its arcs, as the loop stores them
 
-  pub job-rows : (x : ℕ) → recordCount s ≡ activityCount s + 1 + jobCount s + x
-      → upto (putArc (recordAt s (activityCount s + 1))) (jobCount s) (replicate (cells elements) 0) ≡ arcRows s 3
-  job-rows x e =
+  none-before : (type : ℕ) → 3 ≤ type → arcsUpTo s type (activityCount s + 1) ≡ replicate (cells elements) 0
+  none-before type h =
       let m : ℕ = activityCount s in
-      let j : ℕ = jobCount s in
-      let f = upto (putArc (recordAt s (m + 1))) j in
-      let low : arcsUpTo s 3 (m + 1) ≡ replicate (cells elements) 0 =
-      ap (arcsUpTo s 3) (sym (zero-add (m + 1))) ∙ arcs-none s 3 0 (m + 1) (λ i l. no-arc 3 (0 + i) (omega arith) (omega arith)) ∙ arcs-start s 3 in
-      sym (
-      ap (arcsUpTo s 3) e
-      ∙ arcs-none s 3 (m + 1 + j) x (λ i l q. omega (arith, extra-typed (m + 1 + j + i) (omega arith) (omega arith) (omega arith)))
-      ∙ arcs-run s 3 (m + 1) j (λ i l. job-typed (m + 1 + i) (omega arith) (omega arith) (omega arith))
-      ∙ ap f low
-      )
+      ap (arcsUpTo s type) (sym (zero-add (m + 1))) ∙ arcs-none s type 0 (m + 1) (λ i l. no-arc type (0 + i) h (omega arith)) ∙ arcs-start s type
 
-  pub extra-rows : (x : ℕ) → recordCount s ≡ activityCount s + 1 + jobCount s + x
-      → upto (putArc (recordAt s (activityCount s + 1 + jobCount s))) x (replicate (cells elements) 0) ≡ arcRows s 4
-  extra-rows x e =
-      let m : ℕ = activityCount s in
-      let j : ℕ = jobCount s in
-      let f = upto (putArc (recordAt s (m + 1 + j))) x in
-      let low : arcsUpTo s 4 (m + 1) ≡ replicate (cells elements) 0 =
-      ap (arcsUpTo s 4) (sym (zero-add (m + 1))) ∙ arcs-none s 4 0 (m + 1) (λ i l. no-arc 4 (0 + i) (omega arith) (omega arith)) ∙ arcs-start s 4 in
-      sym (
-      ap (arcsUpTo s 4) e
-      ∙ arcs-run s 4 (m + 1 + j) x (λ i l. extra-typed (m + 1 + j + i) (omega arith) (omega arith) (omega arith))
-      ∙ ap f (arcs-none s 4 (m + 1) j (λ i l q. omega (arith, job-typed (m + 1 + i) (omega arith) (omega arith) (omega arith))) ∙ low)
-      )
+  module _ (x : ℕ) (e : recordCount s ≡ activityCount s + 1 + jobCount s + x) where
+    pub job-rows : upto (putArc 3 (recordAt s (activityCount s + 1))) (jobCount s) (replicate (cells elements) 0) ≡ arcRows s 3
+    job-rows =
+        let m : ℕ = activityCount s in
+        let j : ℕ = jobCount s in
+        sym (
+        ap (arcsUpTo s 3) e
+        ∙ arcs-none s 3 (m + 1 + j) x (λ i l q. omega (arith, extra-typed (m + 1 + j + i) (omega arith) (omega arith) (omega arith)))
+        ∙ arcs-run s 3 (m + 1) j
+        ∙ ap (upto (putArc 3 (recordAt s (m + 1))) j) (none-before 3 (omega arith))
+        )
+
+    pub extra-rows : upto (putArc 4 (recordAt s (activityCount s + 1 + jobCount s))) x (replicate (cells elements) 0) ≡ arcRows s 4
+    extra-rows =
+        let a : ℕ = activityCount s + 1 + jobCount s in
+        let low = arcs-none s 4 (activityCount s + 1) (jobCount s) (λ i l q. omega (arith, job-typed s i l)) ∙ none-before 4 (omega arith) in
+        sym (ap (arcsUpTo s 4) e ∙ arcs-run s 4 a x ∙ ap (upto (putArc 4 (recordAt s a)) x) low)

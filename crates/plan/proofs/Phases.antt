@@ -20,7 +20,7 @@ use Rattle.plan.specs.Records.{recordAt, recordCount, activityCount, job
 use Rattle.plan.specs.model.Plans.{planOf, emptyPlan, durationsOf, availableOf}
 use Rattle.plan.specs.Causes.{isReadable, activityCause, crewCause, arcCause, causeAt, firstRefusal, followedBy, recordsCause, isLength, answerOf}
 use Rattle.plan.specs.model.Reads.{readOf}
-use Rattle.plan.specs.model.Phases.{putDuration, putDemands, putArc, refusalOf, unlessRefused, restOf, fileOf}
+use Rattle.plan.specs.model.Phases.{putDuration, putDemands, putArc, arcsCause, refusalOf, unlessRefused, restOf, fileOf}
 use Rattle.plan.proofs.Refusals.{followed-assoc, followed-none, refusal-cong, refusal-split, refusal-one, all-readable}
 use Rattle.plan.proofs.Places.{record-on, record-next, leading-le}
 use Rattle.plan.proofs.RecordRules.{at-activity, at-crew, at-arc, due-job, due-extra}
@@ -46,14 +46,8 @@ outcome-cong (Refused c) h = refl
 
 -- ---- the rest of a file, as one answer and one plan
 
-abbrev jobsCause : ℕ → ℕ → List ℕ → Answer
-jobsCause m j arcs = firstRefusal j (λ i. arcCause 3 (m + 1 + i) m (recordAt arcs i))
-
-abbrev extrasCause : ℕ → ℕ → ℕ → List ℕ → Answer
-extrasCause m j x more = firstRefusal x (λ i. arcCause 4 (m + 1 + j + i) m (recordAt more i))
-
 abbrev restCause : ℕ → List ℕ → ℕ → ℕ → List ℕ → List ℕ → List ℕ → Answer
-restCause m demand j x t arcs more = followedBy (crewCause m demand t) (followedBy (jobsCause m j arcs) (extrasCause m j x more))
+restCause m demand j x t arcs more = followedBy (crewCause m demand t) (followedBy (arcsCause 3 (m + 1) m arcs j) (arcsCause 4 (m + 1 + j) m more x))
 
 abbrev restPlan : ℕ → List ℕ → List ℕ → ℕ → ℕ → List ℕ → List ℕ → List ℕ → Plan
 restPlan m duration demand j x t arcs more =
@@ -63,8 +57,8 @@ restPlan m duration demand j x t arcs more =
       duration = duration;
       demand = demand;
       available = table 8 (availableIn t);
-      job = upto (putArc arcs) j (replicate (cells elements) 0);
-      extra = upto (putArc more) x (replicate (cells elements) 0);
+      job = upto (putArc 3 arcs) j (replicate (cells elements) 0);
+      extra = upto (putArc 4 more) x (replicate (cells elements) 0);
     }
 
 -- `arcs` is what follows the crew record
@@ -80,7 +74,7 @@ rest-is m duration demand n t =
     let arcs : List ℕ = drop 24 t in
     let j : ℕ = leading 3 n arcs in
     let more : List ℕ = drop (24 * j) arcs in
-    go (crewCause m demand t) (jobsCause m j arcs) (extrasCause m j (n - j) more) (restPlan m duration demand j (n - j) t arcs more)
+    go (crewCause m demand t) (arcsCause 3 (m + 1) m arcs j) (arcsCause 4 (m + 1 + j) m more (n - j)) (restPlan m duration demand j (n - j) t arcs more)
   where
     go : (a b c : Answer) (q : Plan)
         → unlessRefused a (unlessRefused b (unlessRefused c (record { plan = q; answer = Readable }))) ≡ outcome (followedBy a (followedBy b c)) q
@@ -136,14 +130,14 @@ module _ (s : List ℕ) where
       ∙ ap (λ (d : ℕ). arcCause d (a + i) (activityCount s) (recordAt s (a + i))) e
       ∙ ap (arcCause type (a + i) (activityCount s)) (sym (record-on s a i))
 
-  jobs-phase : firstRefusal (jobCount s) (λ i. causeAt s (activityCount s + 1 + i)) ≡ jobsCause (activityCount s) (jobCount s) (recordAt s (activityCount s + 1))
+  jobs-phase : firstRefusal (jobCount s) (λ i. causeAt s (activityCount s + 1 + i)) ≡ arcsCause 3 (activityCount s + 1) (activityCount s) (recordAt s (activityCount s + 1)) (jobCount s)
   jobs-phase =
       let m : ℕ = activityCount s in
       refusal-cong (jobCount s) (λ i. causeAt s (m + 1 + i)) (λ i. arcCause 3 (m + 1 + i) m (recordAt (recordAt s (m + 1)) i))
       (λ i h. arc-phase 3 (m + 1) i (omega arith) (due-job s (m + 1 + i) (omega arith)))
 
   extras-phase : (x : ℕ) → firstRefusal x (λ i. causeAt s (activityCount s + 1 + jobCount s + i))
-      ≡ extrasCause (activityCount s) (jobCount s) x (recordAt s (activityCount s + 1 + jobCount s))
+      ≡ arcsCause 4 (activityCount s + 1 + jobCount s) (activityCount s) (recordAt s (activityCount s + 1 + jobCount s)) x
   extras-phase x =
       let m : ℕ = activityCount s in
       let a : ℕ = m + 1 + jobCount s in
@@ -179,7 +173,7 @@ module _ (s : List ℕ) where
       let J : Answer = firstRefusal j (λ i. f (m + 1 + i)) in
       let X : Answer = firstRefusal extraCount (λ i. f (m + 1 + j + i)) in
       let crew : Answer = crewCause m (demandsOf s) (recordAt s m) in
-      let jobs : Answer = jobsCause m j (recordAt s (m + 1)) in
+      let jobs : Answer = arcsCause 3 (m + 1) m (recordAt s (m + 1)) j in
       let arcs = ap (λ (y : Answer). followedBy y X) jobs-phase ∙ ap (followedBy jobs) (extras-phase extraCount) in
       let rest = ap (λ (y : Answer). followedBy y (followedBy J X)) crew-phase ∙ ap (followedBy crew) arcs in
       ap (followedBy (firstRefusal (recordCount s) f)) (crew-there s h)

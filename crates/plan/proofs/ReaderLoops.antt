@@ -20,11 +20,13 @@ use Rattle.plan.specs.declared.Answer.the-variants.{Readable, Refused}
 use Rattle.plan.specs.declared.Reading.{Reading}
 use Rattle.plan.specs.Records.{recordAt, leading, isEnd, arcFields, activities}
 use Rattle.plan.specs.Causes.{isReadable, activityCause, arcCause, firstRefusal, isLength}
+use Rattle.plan.specs.model.ArcRows.{withArc, arcsAfter}
 use Rattle.plan.specs.model.Phases.{refusalOf, unlessRefused}
 use Rattle.records.proofs.Steps.{rest-of}
 use Rattle.plan.proofs.Places.{record-on}
-use Rattle.plan.proofs.RecordRules.{arc-fielded, activity-kept, end-high}
+use Rattle.plan.proofs.RecordRules.{arc-fielded, arc-typed, activity-kept, end-high}
 use Rattle.plan.proofs.Refusals.{all-readable}
+use Rattle.plan.proofs.Arcs.{after-same}
 
 -- ---- a test that the code made and negated, as the definition has it
 
@@ -145,11 +147,13 @@ module _ (m : ℕ) (r : List ℕ) (e : arcFields m r ≡ true) where
       and-both (isEnd n (byte r 1)) (isEnd n (byte r 2) && differ r) (end-more m (byte r 1) n arc-from h)
       (and-both (isEnd n (byte r 2)) (differ r) (end-more m (byte r 2) n arc-to h) (and-right (isEnd m (byte r 2)) (differ r) both-to))
 
-pub arcs-kept : (type place m n : ℕ) (t : List ℕ) → m ≤ elements → isReadable (firstRefusal n (λ i. arcCause type (place + i) m (recordAt t i))) ≡ true
-    → (i : ℕ) → i < n → arcFields elements (recordAt t i) ≡ true
-arcs-kept type place m n t h e i l =
-    let r = recordAt t i in
-    arc-more m r (arc-fielded type (place + i) m r (all-readable n (λ k. arcCause type (place + k) m (recordAt t k)) e i l)) elements h
+-- a record that the loop has looked at and found to be an arc of the type: its ends are elements, and the loop stores what the definition says
+module _ (type place m : ℕ) (r : List ℕ) (few : m ≤ elements) (e : isReadable (arcCause type place m r) ≡ true) where
+  pub arc-storable : arcFields elements r ≡ true
+  arc-storable = arc-more m r (arc-fielded type place m r e) elements few
+
+  pub arc-stored : (rows : List ℕ) {now : List ℕ} → now ≡ withArc r rows → now ≡ arcsAfter type r rows
+  arc-stored rows g = g ∙ sym (after-same type r rows (arc-typed type place m r e))
 
 -- a file of a right length has at most 49,152 bytes
 pub length-high : (n : ℕ) → isLength n ≡ true → n ≤ 49152

@@ -23,7 +23,8 @@ use Rattle.order.specs.Stored.{elements}
 use Rattle.plan.specs.declared.Answer.the-variants.{Refused}
 use Rattle.plan.specs.declared.Cause.the-variants.{Length}
 use Rattle.plan.specs.Records.{recordAt, recordCount, typeAt, activityCount, dueType, durationIn, demandIn, availableIn, demandsOf}
-use Rattle.plan.specs.model.Plans.{durationsOf, availableOf, arcsUpTo, arcRows, planOf}
+use Rattle.plan.specs.model.ArcRows.{arcsUpTo, arcRows}
+use Rattle.plan.specs.model.Plans.{durationsOf, availableOf, planOf}
 use Rattle.plan.specs.Causes.{isReadable, recordsCause, isLength, answerOf}
 use Rattle.plan.specs.Meaning.{Readable}
 use Rattle.plan.specs.model.Said.{ArcsOf, Said}

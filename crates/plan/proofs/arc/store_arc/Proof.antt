@@ -4,7 +4,7 @@ use lib.ListN.{getD}
 use borrow.Author.Needs.{needs}
 use Rattle.order.specs.Stored.{elements}
 use Rattle.order.proofs.Stored.{number-of}
-use Rattle.plan.specs.model.Plans.{withArc}
+use Rattle.plan.specs.model.ArcRows.{withArc}
 use Rattle.plan.proofs.RecordRules.{end-low, end-high}
 use Rattle.plan.proofs.ReaderLoops.{arc-from, arc-to}
 use Rattle.plan.proofs.arc.store_arc.Statement.{statement}
