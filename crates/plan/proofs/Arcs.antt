@@ -12,12 +12,12 @@ use lib.Dec.{eqb}
 use borrow.Author.Tests.{eqb-true, eqb-false, eq-eqb, ne-eqb}
 use Rattle.words.specs.Bits.{bit, withBit}
 use Rattle.words.specs.model.Loops.{upto}
-use Rattle.words.proofs.Bits.{bit-or, bit-single}
+use Rattle.words.proofs.Bits.{bit-or, bit-single, with-lt}
 use Rattle.words.proofs.Tests.{or-says, by-test, cond-true, cond-false}
 use Rattle.order.specs.Rows.{after}
 use Rattle.records.specs.Bytes.{byte}
-use Rattle.order.specs.Stored.{elements, cells, row, putRow}
-use Rattle.order.proofs.Stored.{length-put, length-blank, row-put-same, row-put-other}
+use Rattle.order.specs.Stored.{elements, cells, row, putRow, RowsFit}
+use Rattle.order.proofs.Stored.{length-put, length-blank, row-put-same, row-put-other, row-fit, fit-put}
 use Rattle.plan.specs.Records.{recordAt, typeAt}
 use Rattle.plan.specs.model.ArcRows.{withArc, arcsAfter, arcsUpTo}
 use Rattle.plan.specs.model.Phases.{putArc}
@@ -77,6 +77,13 @@ length-arcs s type (suc p) =
     by-test (eqb (typeAt s p) type)
     (λ t. ap length (arcs-more s type p (eqb-true (typeAt s p) type t)) ∙ length-with-arc (recordAt s p) (arcsUpTo s type p) ∙ ih)
     (λ t. ap length (arcs-skip s type p (eqb-false (typeAt s p) type t)) ∙ ih)
+
+pub with-arc-fits : (r rows : List ℕ) → length rows ≡ cells elements → 1 ≤ byte r 1 → byte r 1 ≤ elements → 1 ≤ byte r 2 → byte r 2 ≤ elements
+    → RowsFit elements rows → RowsFit elements (withArc r rows)
+unfolding withArc
+with-arc-fits r rows long la ha lb hb fit =
+    fit-put elements rows (byte r 1 - 1) (withBit (row rows (byte r 1 - 1)) (byte r 2 - 1)) long (omega arith) fit
+    (with-lt (row rows (byte r 1 - 1)) (byte r 2 - 1) elements (omega arith) (row-fit elements rows fit (byte r 1 - 1)))
 
 -- it has the arcs that were there, and its own
 pub with-arc : (r rows : List ℕ) (i j : ℕ) → length rows ≡ cells elements → 1 ≤ byte r 1 → byte r 1 ≤ elements → 1 ≤ byte r 2

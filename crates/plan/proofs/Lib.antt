@@ -8,5 +8,6 @@ pub mod Arcs
 pub mod Parts
 pub mod Phases
 pub mod ReaderLoops
+pub mod NamedArcs
 pub mod Said
 pub mod Refused

@@ -3,7 +3,7 @@ use mathlib.Core.Path.{_≡_, refl, sym, ap, _∙_, subst}
 use mathlib.Core.Bool.{true, false, false≢true}
 use mathlib.Core.List.{List}
 use mathlib.Core.Logic.{_⊎_, ⊎-elim, _≢_}
-use Prim.Native.Nat.{ℕ, zero, suc, _+_, _-_, _≤_, _<_}
+use Prim.Native.Nat.{ℕ, _+_, _-_, _≤_, _<_}
 use native.Mathlib.Nat.{zero-add, eq-or-lt-of-le}
 use native.Mathlib.Omega.{arith}
 use lib.ListN.{replicate}
@@ -12,16 +12,15 @@ use Rattle.words.specs.model.Loops.{upto}
 use Rattle.words.proofs.Tests.{cond-true, cond-false}
 use Rattle.records.specs.Bytes.{byte}
 use Rattle.order.specs.Stored.{elements, cells}
-use Rattle.plan.specs.declared.Answer.{Answer}
 use Rattle.plan.specs.declared.Answer.the-variants.{Readable, Refused}
 use Rattle.plan.specs.declared.Cause.the-variants.{RecordType}
 use Rattle.plan.specs.Records.{recordAt, recordCount, typeAt, activityCount, jobCount, dueType, activities, demandsOf}
 use Rattle.plan.specs.model.ArcRows.{arcsUpTo, arcRows}
-use Rattle.plan.specs.Causes.{isReadable, activityCause, causeAt, firstRefusal, followedBy, crewThere, recordsCause}
+use Rattle.plan.specs.Causes.{isReadable, activityCause, causeAt, firstRefusal, crewThere, recordsCause}
 use Rattle.plan.specs.model.Phases.{putArc}
-use Rattle.plan.proofs.Refusals.{followed-left, followed-right, all-readable, none-refused}
+use Rattle.plan.proofs.Refusals.{followed-left, followed-right, all-readable}
 use Rattle.plan.proofs.Places.{record-on, leading-le, leading-typed}
-use Rattle.plan.proofs.RecordRules.{activity-kept, CrewKept, crew-kept, ArcKept, arc-kept, at-activity, at-crew, at-arc, due-extra}
+use Rattle.plan.proofs.RecordRules.{few-activities, CrewKept, crew-kept, ArcKept, arc-kept, at-activity, at-crew, at-arc, due-extra}
 use Rattle.plan.proofs.Arcs.{arcs-none, arcs-run, arcs-start}
 
 -- no record has a cause, and the crew record is there
@@ -53,19 +52,7 @@ faultless s e =
       crewed = ⊎-elim (λ q. absurd (false≢true (sym (ap isReadable (crew-missing s q)) ∙ c))) (λ l. l) (crew-or-missing s);
     }
 
-pub faultless-read : (s : List ℕ) → Faultless s → recordsCause s ≡ Readable
-unfolding recordsCause
-faultless-read s F =
-    ap (λ (a : Answer). followedBy a (crewThere s)) (none-refused (recordCount s) (causeAt s) (F .fine)) ∙ crew-there s (F .crewed)
-
 -- ---- the records, by their places
-
-pub few-activities : (s : List ℕ) → ((p : ℕ) → p < activityCount s → isReadable (activityCause p (recordAt s p)) ≡ true) → activityCount s ≤ activities
-few-activities s h = go (activityCount s) h
-  where
-    go : (m : ℕ) → ((p : ℕ) → p < m → isReadable (activityCause p (recordAt s p)) ≡ true) → m ≤ activities
-    go zero h = omega arith
-    go (suc m) h = activity-kept m (recordAt s m) (h m (omega arith)) .few
 
 pub activity-typed : (s : List ℕ) (p : ℕ) → p < activityCount s → typeAt s p ≡ 1
 activity-typed s p h = leading-typed 1 (recordCount s) s p h
@@ -81,7 +68,7 @@ module _ (s : List ℕ) (F : Faultless s) where
   activity-fine p h = rw (at-activity s p h) at (F .fine p (omega (arith, F .crewed)))
 
   pub few : activityCount s ≤ activities
-  few = few-activities s activity-fine
+  few = few-activities (activityCount s) s activity-fine
 
   pub crew-fine : CrewKept (demandsOf s) (recordAt s (activityCount s))
   crew-fine = crew-kept (activityCount s) (demandsOf s) (recordAt s (activityCount s)) (rw (at-crew s (activityCount s) refl) at (F .fine (activityCount s) (F .crewed)))

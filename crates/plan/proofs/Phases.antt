@@ -17,15 +17,16 @@ use Rattle.plan.specs.declared.Cause.the-variants.{Length, RecordType}
 use Rattle.plan.specs.declared.Plan.{Plan}
 use Rattle.plan.specs.declared.Reading.{Reading}
 use Rattle.plan.specs.Records.{recordAt, recordCount, activityCount, jobCount, leading, availableIn, dueType, demandsOf}
+use Rattle.plan.specs.Meaning.{fileKinds, fileAvailable}
 use Rattle.plan.specs.model.Plans.{planOf, emptyPlan, durationsOf, availableOf}
 use Rattle.plan.specs.Causes.{isReadable, activityCause, crewCause, arcCause, causeAt, firstRefusal, followedBy, recordsCause, isLength, answerOf}
 use Rattle.plan.specs.model.Reads.{readOf}
 use Rattle.plan.specs.model.Phases.{putDuration, putDemands, putArc, arcsCause, refusalOf, unlessRefused, restOf, fileOf}
 use Rattle.plan.proofs.Refusals.{followed-assoc, followed-none, refusal-cong, refusal-split, refusal-one, all-readable}
 use Rattle.plan.proofs.Places.{record-on, record-next, leading-le}
-use Rattle.plan.proofs.RecordRules.{at-activity, at-crew, at-arc, due-job, due-extra}
-use Rattle.plan.proofs.Stores.{durations-stored, demands-stored}
-use Rattle.plan.proofs.Parts.{Faultless, faultless, crew-missing, crew-there, crew-or-missing, few-activities, job-rows, extra-rows}
+use Rattle.plan.proofs.RecordRules.{few-activities, at-activity, at-crew, at-arc, due-job, due-extra}
+use Rattle.plan.proofs.Stores.{durations-stored, demands-stored, demands-told}
+use Rattle.plan.proofs.Parts.{Faultless, faultless, crew-missing, crew-there, crew-or-missing, job-rows, extra-rows}
 
 -- ---- an answer, and the plan that stands beside it
 
@@ -185,20 +186,10 @@ module _ (s : List ℕ) where
 
   -- a file with no cause: its plan is the one that the phases stored
   last-plan : Faultless s → lastPlan ≡ planOf s
-  unfolding planOf availableOf
+  unfolding planOf availableOf fileKinds fileAvailable
   last-plan F =
-      let m : ℕ = activityCount s in
-      let r : List ℕ = recordAt s m in
-      let of : List ℕ → List ℕ → Plan = λ job extra. record {
-        count = m;
-        kinds = byte r 1;
-        duration = durationsOf s;
-        demand = demandsOf s;
-        available = table 8 (availableIn r);
-        job = job;
-        extra = extra;
-      } in
-      ap₂ of (job-rows s F extraCount (counted (F .crewed))) (extra-rows s F extraCount (counted (F .crewed)))
+      let all = counted (F .crewed) in
+      rw (demands-told s, job-rows s F extraCount all, extra-rows s F extraCount all)
 
   -- ---- the reading
 
@@ -232,7 +223,7 @@ module _ (s : List ℕ) where
   with-crew : activityCount s < recordCount s → fileOf (recordCount s) s ≡ outcome (recordsCause s) (planOf s)
   with-crew h =
       let m : ℕ = activityCount s in
-      let few : isReadable activitiesCause ≡ true → m ≤ elements = λ e. omega (arith, few-activities s (all-readable m (λ i. activityCause i (recordAt s i)) e)) in
+      let few : isReadable activitiesCause ≡ true → m ≤ elements = λ e. omega (arith, few-activities m s (all-readable m (λ i. activityCause i (recordAt s i)) e)) in
       let on : List ℕ → List ℕ → Reading = λ d q. restOf m d q (recordCount s - m) (recordAt s m) in
       file-is
       ∙ unless-cong activitiesCause (λ e. ap₂ on (durations-stored s (few e)) (demands-stored s (few e)) ∙ rest-at s m (durationsOf s) (demandsOf s) h)

@@ -1,4 +1,4 @@
--- What a refusal means in plain words, and which files are refused and read. Assumes nothing.
+-- What a refusal means in plain words. Assumes nothing.
 use mathlib.Core.Path.{_≡_, refl, sym, ap, _∙_, subst}
 use mathlib.Core.Bool.{Bool, true, false, cond, _&&_, false≢true}
 use mathlib.Core.List.{List}
@@ -17,9 +17,9 @@ use Rattle.plan.specs.Records.{recordAt, recordCount, typeAt, activityCo
 use Rattle.plan.specs.Causes.{rule, isReadable, activityCause, crewCause, arcCause, causeAt, firstRefusal, followedBy, crewThere, recordsCause, isLength, answerOf}
 use Rattle.plan.specs.Meaning
 use Rattle.plan.specs.Refused.{WrongLength, FirstFault, CrewMissing}
-use Rattle.plan.proofs.Refusals.{none-refused, refused-first, first-refused, all-readable}
+use Rattle.plan.proofs.Refusals.{first-refused, all-readable}
 use Rattle.plan.proofs.Places.{leading-ends}
-use Rattle.plan.proofs.Parts.{faultless-read, crew-missing, crew-there, crew-or-missing, activity-typed}
+use Rattle.plan.proofs.Parts.{crew-missing, crew-there, crew-or-missing, activity-typed}
 
 -- ---- the length
 
@@ -43,50 +43,44 @@ pub refused-length : (s : List ℕ) → isLength (length s) ≡ false → answer
 unfolding answerOf
 refused-length s e = cond-false (recordsCause s) (Refused Length) e
 
--- ---- the place of a cause: each rule of a record has the record's place
+-- ---- what all causes of a record have in common
 
-abbrev pub Placed : ℕ → Cause → Type 0
-Placed p Length = ⊥
-Placed p (RecordType q) = q ≡ p
-Placed p (Field q) = q ≡ p
-Placed p (Spare q) = q ≡ p
+module _ (p : ℕ) (P : Cause → Type 0) (typed : P (RecordType p)) (fields : P (Field p)) (spare : P (Spare p)) where
+  -- an answer whose cause, if it has one, has it
+  abbrev Has : Answer → Type 0
+  Has Readable = Unit {0}
+  Has (Refused c) = P c
 
--- an answer whose cause, if it has one, is at p
-abbrev AllPlaced : ℕ → Answer → Type 0
-AllPlaced p Readable = Unit {0}
-AllPlaced p (Refused c) = Placed p c
-
-module _ (p : ℕ) where
-  rule-placed : (answer : Answer) (kept : Bool) (cause : Cause) → AllPlaced p answer → Placed p cause → AllPlaced p (rule answer kept cause)
+  rule-has : (answer : Answer) (kept : Bool) (cause : Cause) → Has answer → P cause → Has (rule answer kept cause)
   unfolding rule
-  rule-placed Readable true cause h k = tt
-  rule-placed Readable false cause h k = k
-  rule-placed (Refused c) kept cause h k = h
+  rule-has Readable true cause h k = tt
+  rule-has Readable false cause h k = k
+  rule-has (Refused c) kept cause h k = h
 
-  activity-placed : (r : List ℕ) → AllPlaced p (activityCause p r)
+  activity-has : (r : List ℕ) → Has (activityCause p r)
   unfolding activityCause
-  activity-placed r = rule-placed _ _ (Spare p) (rule-placed _ _ (Field p) tt refl) refl
+  activity-has r = rule-has _ _ (Spare p) (rule-has _ _ (Field p) tt fields) spare
 
-  crew-placed : (demand r : List ℕ) → AllPlaced p (crewCause p demand r)
+  crew-has : (demand r : List ℕ) → Has (crewCause p demand r)
   unfolding crewCause
-  crew-placed demand r = rule-placed _ _ (Spare p) (rule-placed _ _ (Field p) (rule-placed _ _ (RecordType p) tt refl) refl) refl
+  crew-has demand r = rule-has _ _ (Spare p) (rule-has _ _ (Field p) (rule-has _ _ (RecordType p) tt typed) fields) spare
 
-  arc-placed : (type m : ℕ) (r : List ℕ) → AllPlaced p (arcCause type p m r)
+  arc-has : (type m : ℕ) (r : List ℕ) → Has (arcCause type p m r)
   unfolding arcCause
-  arc-placed type m r = rule-placed _ _ (Spare p) (rule-placed _ _ (Field p) (rule-placed _ _ (RecordType p) tt refl) refl) refl
+  arc-has type m r = rule-has _ _ (Spare p) (rule-has _ _ (Field p) (rule-has _ _ (RecordType p) tt typed) fields) spare
 
-pub cause-place : (s : List ℕ) (p : ℕ) (c : Cause) → causeAt s p ≡ Refused c → Placed p c
-unfolding causeAt
-cause-place s p c e =
-    let m : ℕ = activityCount s in
-    let r : List ℕ = recordAt s p in
-    let crew : Answer = crewCause p (demandsOf s) r in
-    let arc : Answer = arcCause (dueType s p) p m r in
-    subst (AllPlaced p) e
-    (cond-has (AllPlaced p) (ltb p m) (activityCause p r) (cond (eqb p m) crew arc) (λ t. activity-placed p r)
-    (λ t. cond-has (AllPlaced p) (eqb p m) crew arc (λ u. crew-placed p (demandsOf s) r) (λ u. arc-placed p (dueType s p) m r)))
+  pub cause-has : (s : List ℕ) (c : Cause) → causeAt s p ≡ Refused c → P c
+  unfolding causeAt
+  cause-has s c e =
+      let m : ℕ = activityCount s in
+      let r : List ℕ = recordAt s p in
+      let crew : Answer = crewCause p (demandsOf s) r in
+      let arc : Answer = arcCause (dueType s p) p m r in
+      subst Has e
+      (cond-has Has (ltb p m) (activityCause p r) (cond (eqb p m) crew arc) (λ t. activity-has r)
+      (λ t. cond-has Has (eqb p m) crew arc (λ u. crew-has (demandsOf s) r) (λ u. arc-has (dueType s p) m r)))
 
--- ---- which files are refused and read
+-- ---- what a refusal means
 
 -- each record is an activity, so the crew record is missing
 pub all-activities : (s : List ℕ) → ((p : ℕ) → p < recordCount s → typeAt s p ≡ 1) ↔ (activityCount s ≡ recordCount s)
@@ -94,37 +88,6 @@ all-activities s = (
   (λ h. ⊎-elim (λ e. e) (λ l. absurd (leading-ends 1 (recordCount s) s l (h (activityCount s) l))) (crew-or-missing s)),
   (λ e p l. activity-typed s p (omega arith)),
 )
-
-module _ (s : List ℕ) (legal : isLength (length s) ≡ true) where
-  -- the first record with a fault, by its first fault
-  pub refused-fault : (p : ℕ) (a : Answer) → FirstFault s p a → answerOf s ≡ a
-  unfolding recordsCause
-  refused-fault p a F =
-      let first : firstRefusal (recordCount s) (causeAt s) ≡ a =
-      refused-first (recordCount s) (causeAt s) p (F .there) (ap isReadable (F .fault) ∙ F .refused) (F .before) ∙ F .fault in
-      answer-records s legal ∙ ap (λ (x : Answer). followedBy x (crewThere s)) first ∙ stays a (F .refused)
-    where
-      stays : (a : Answer) → isReadable a ≡ false → followedBy a (crewThere s) ≡ a
-      stays Readable e = absurd (false≢true (sym e))
-      stays (Refused c) e = refl
-
-  module _ (fine : (p : ℕ) → p < recordCount s → isReadable (causeAt s p) ≡ true) where
-    -- no record has a fault, and each is an activity
-    pub refused-crew : ((p : ℕ) → p < recordCount s → typeAt s p ≡ 1) → answerOf s ≡ Refused (RecordType (recordCount s))
-    unfolding recordsCause
-    refused-crew h =
-        answer-records s legal
-        ∙ ap (λ (x : Answer). followedBy x (crewThere s)) (none-refused (recordCount s) (causeAt s) fine)
-        ∙ crew-missing s (all-activities s .0 h)
-
-    -- no record has a fault, and one is a crew record
-    pub readable-fine : (p : ℕ) → p < recordCount s → typeAt s p ≡ 2 → Meaning.Readable s
-    readable-fine p l e =
-        let crewed : activityCount s < recordCount s =
-        ⊎-elim (λ q. absurd (omega (arith, all-activities s .1 q p l))) (λ h. h) (crew-or-missing s) in
-        ap isReadable (answer-records s legal ∙ faultless-read s (record { fine = fine; crewed = crewed }))
-
--- ---- what a refusal means
 
 records-refused : (s : List ℕ) (c : Cause) → isLength (length s) ≡ true → recordsCause s ≡ Refused c → ((p : ℕ) × FirstFault s p (Refused c)) ⊎ CrewMissing s c
 unfolding recordsCause

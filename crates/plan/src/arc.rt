@@ -4,6 +4,7 @@ ghost use mathlib.Core.Bool.{true};
 ghost use Prim.Native.Nat.{_+_, _*_, _≤_};
 ghost use lib.ListN.{length};
 ghost use Rattle.words.specs.model.Loops.{upto};
+ghost use Rattle.records.specs.Bytes.{byte};
 ghost use Rattle.order.specs.Stored.{elements};
 ghost use Rattle.plan.specs.Records.{isEnd, arcFields};
 ghost use Rattle.plan.specs.model.ArcRows.{withArc};
@@ -53,7 +54,7 @@ fn arc_cause(m: usize, r: &[u8], of: u8, place: usize) -> Answer
 
 // The arc of a record, whose ends are 1 to ELEMENTS.
 fn store_arc(r: &[u8], rows: &mut Rows)
-    requires { ⌜ (24 ≤ length (now r)) × (arcFields elements (now r) ≡ true) ⌝ }
+    requires { ⌜ (24 ≤ length (now r)) × (1 ≤ byte (now r) 1) × (byte (now r) 1 ≤ elements) × (1 ≤ byte (now r) 2) × (byte (now r) 2 ≤ elements) ⌝ }
     ensures { λ _. ⌜ now (rows .exit) ≡ withArc (now (r .entry)) (now (rows .entry)) ⌝ }
 {
     let i = index(r[1]) - 1;

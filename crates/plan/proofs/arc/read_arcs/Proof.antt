@@ -11,7 +11,8 @@ use Rattle.plan.specs.Records.{recordAt}
 use Rattle.plan.specs.Causes.{isReadable}
 use Rattle.plan.specs.model.Phases.{putArc, arcIn}
 use Rattle.records.proofs.Steps.{rest-of}
-use Rattle.plan.proofs.ReaderLoops.{told-not, record-left, refusal-stop, refusal-again, refusal-end, accepted, arc-storable, arc-stored}
+use Rattle.plan.proofs.ReaderLoops.{told-not, record-left, refusal-stop, refusal-again, refusal-end, accepted, arc-stored}
+use Rattle.plan.proofs.RecordRules.{arc-kept}
 use Rattle.plan.proofs.arc.read_arcs.Statement.{statement}
 use Rattle.plan.proofs.arc.read_arcs.Tie as tie
 
@@ -46,10 +47,12 @@ store-arc-requires c κs =
     let b = test .before .before .before .before .before in
     let start = b .before .before in
     let a = start .args in
-    let found = accepted (rw rest-of at (test .before .before .arc-cause .ensures)) (test .before .is-readable .ensures) (test .if1 .left) in (
-      record-left (a .n) (b .loop .i) (a .t .now) (omega arith) (omega arith),
-      rw rest-of (arc-storable (a .of) (a .place + b .loop .i) (a .m) (recordAt (a .t .now) (b .loop .i)) (start .pre .2) found),
-    )
+    let r = recordAt (a .t .now) (b .loop .i) in
+    let found = accepted (rw rest-of at (test .before .before .arc-cause .ensures)) (test .before .is-readable .ensures) (test .if1 .left) in
+    let K = arc-kept (a .of) (a .place + b .loop .i) (a .m) r found in
+    let few = start .pre .2 in
+    let left = record-left (a .n) (b .loop .i) (a .t .now) (omega arith) (omega arith) in
+    (left, rw rest-of (K .from-low), rw rest-of (omega (arith, K .from-high)), rw rest-of (K .to-low), rw rest-of (omega (arith, K .to-high)))
 
 loop-again : tie.Need-loop-again Inv-loop μ-loop
 loop-again c =
@@ -60,7 +63,7 @@ loop-again c =
     let i = b .loop .i in
     let answer = rw rest-of at (test .before .before .arc-cause .ensures) in
     let found = accepted answer (test .before .is-readable .ensures) (test .if1 .left) in
-    let stored = arc-stored (a .of) (a .place + i) (a .m) (recordAt (a .t .now) i) (start .pre .2) found (b .loop .rows) (rw rest-of at (c .store-arc .ensures)) in (
+    let stored = arc-stored (a .of) (a .place + i) (a .m) (recordAt (a .t .now) i) (b .loop .rows) found (rw rest-of at (c .store-arc .ensures)) in (
       up-again (putArc (a .of) (a .t .now)) (a .n) i (a .rows .now) (omega arith) (b .loop .inv .0) stored,
       refusal-again (a .n) (arcIn (a .of) (a .place) (a .m) (a .t .now)) i (b .loop .inv .1) answer (test .before .is-readable .ensures) (test .if1 .left),
     )
