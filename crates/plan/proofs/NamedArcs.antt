@@ -21,7 +21,7 @@ use Rattle.plan.specs.Meaning.{Names}
 use Rattle.plan.specs.model.Said.{ArcsOf}
 use Rattle.plan.proofs.RecordRules.{ArcKept}
 use Rattle.plan.proofs.Arcs.{arcs-skip, arcs-more, arcs-start, length-arcs, with-arc, with-arc-fits}
-use Rattle.plan.proofs.Parts.{Faultless, few, arc-fine, no-arc}
+use Rattle.plan.proofs.Parts.{Faultless, few, crew-fine, arc-fine, no-arc}
 
 module _ (s : List ℕ) (F : Faultless s) (type : ℕ) (some : 3 ≤ type) where
   -- each record of the type keeps the rules of arcs
@@ -29,7 +29,7 @@ module _ (s : List ℕ) (F : Faultless s) (type : ℕ) (some : 3 ≤ type) where
   named-kept p l e =
       by-test (ltb (activityCount s) p)
       (λ t. arc-fine s F p (ltb-true (activityCount s) p t) l)
-      (λ t. absurd (no-arc s F type p some (ltb-false (activityCount s) p t) e))
+      (λ t. absurd (no-arc s (crew-fine s F .typed) type p some (ltb-false (activityCount s) p t) e))
 
   wider : {p i j : ℕ} → Names s p type i j → Names s (suc p) type i j
   wider n = record { place = n .place; there = omega (arith, n .there); typed = n .typed; from = n .from; to = n .to }
@@ -82,7 +82,7 @@ module _ (s : List ℕ) (F : Faultless s) (type : ℕ) (some : 3 ≤ type) where
       let ih = means p (omega arith) in
       by-test (eqb (typeAt s p) type) (λ t. means-more p h (eqb-true (typeAt s p) type t) ih) (λ t. means-skip p (eqb-false (typeAt s p) type t) ih)
 
-  -- ALL RECORDS: the rows hold what they name, the ends are activities, and no row is too large
+  -- ALL RECORDS: the rows hold what they name, and the ends are activities
   pub arcs-said : ArcsOf (Names s (recordCount s) type) (activityCount s) (arcRows s type)
   arcs-said =
       record {
@@ -101,6 +101,7 @@ module _ (s : List ℕ) (F : Faultless s) (type : ℕ) (some : 3 ≤ type) where
           let K = named-kept (n .place) (n .there) (n .typed) in
           (omega (arith, K .from-high, n .from), omega (arith, K .to-high, n .to))
 
+  -- no row is too large
   fits : (p : ℕ) → p ≤ recordCount s → RowsFit elements (arcsUpTo s type p)
   fits zero h = rw (arcs-start s type) (fit-blank elements)
   fits (suc p) h =

@@ -63,6 +63,26 @@ job-typed s i h =
     let a : ℕ = activityCount s + 1 in
     ap (λ (r : List ℕ). byte r 0) (sym (record-on s a i)) ∙ leading-typed 3 (recordCount s - a) (recordAt s a) i h
 
+-- where the record after the activities is a crew record, no arc stands before the first that is due
+module _ (s : List ℕ) (crewed : typeAt s (activityCount s) ≡ 2) where
+  pub no-arc : (type p : ℕ) → 3 ≤ type → p ≤ activityCount s → typeAt s p ≢ type
+  no-arc type p t h e =
+      ⊎-elim
+      (λ q. omega (arith, subst (λ (x : ℕ). typeAt s x ≡ 2) (sym q) crewed))
+      (λ l. omega (arith, activity-typed s p l))
+      (eq-or-lt-of-le h)
+
+  none-before : (type : ℕ) → 3 ≤ type → arcsUpTo s type (activityCount s + 1) ≡ replicate (cells elements) 0
+  none-before type h =
+      let m : ℕ = activityCount s in
+      ap (arcsUpTo s type) (sym (zero-add (m + 1))) ∙ arcs-none s type 0 (m + 1) (λ i l. no-arc type (0 + i) h (omega arith)) ∙ arcs-start s type
+
+  no-job-before : arcsUpTo s 3 (activityCount s + 1) ≡ replicate (cells elements) 0
+  no-job-before = none-before 3 (omega arith)
+
+  no-extra-before : arcsUpTo s 4 (activityCount s + 1 + jobCount s) ≡ replicate (cells elements) 0
+  no-extra-before = arcs-none s 4 (activityCount s + 1) (jobCount s) (λ i l q. omega (arith, job-typed s i l)) ∙ none-before 4 (omega arith)
+
 module _ (s : List ℕ) (F : Faultless s) where
   pub activity-fine : (p : ℕ) → p < activityCount s → isReadable (activityCause p (recordAt s p)) ≡ true
   activity-fine p h = rw (at-activity s p h) at (F .fine p (omega (arith, F .crewed)))
@@ -79,20 +99,7 @@ module _ (s : List ℕ) (F : Faultless s) where
   pub extra-typed : (p : ℕ) → activityCount s < p → p < recordCount s → activityCount s + 1 + jobCount s ≤ p → typeAt s p ≡ 4
   extra-typed p h l b = arc-fine p h l .typed ∙ due-extra s p b
 
-  -- up to the crew record there is no arc
-  pub no-arc : (type p : ℕ) → 3 ≤ type → p ≤ activityCount s → typeAt s p ≢ type
-  no-arc type p t h e =
-      ⊎-elim
-      (λ q. omega (arith, subst (λ (x : ℕ). typeAt s x ≡ 2) (sym q) (crew-fine .typed)))
-      (λ l. omega (arith, activity-typed s p l))
-      (eq-or-lt-of-le h)
-
   -- ---- the rows of its arcs, as the loop stores them
-
-  none-before : (type : ℕ) → 3 ≤ type → arcsUpTo s type (activityCount s + 1) ≡ replicate (cells elements) 0
-  none-before type h =
-      let m : ℕ = activityCount s in
-      ap (arcsUpTo s type) (sym (zero-add (m + 1))) ∙ arcs-none s type 0 (m + 1) (λ i l. no-arc type (0 + i) h (omega arith)) ∙ arcs-start s type
 
   module _ (x : ℕ) (e : recordCount s ≡ activityCount s + 1 + jobCount s + x) where
     pub job-rows : upto (putArc 3 (recordAt s (activityCount s + 1))) (jobCount s) (replicate (cells elements) 0) ≡ arcRows s 3
@@ -103,11 +110,10 @@ module _ (s : List ℕ) (F : Faultless s) where
         ap (arcsUpTo s 3) e
         ∙ arcs-none s 3 (m + 1 + j) x (λ i l q. omega (arith, extra-typed (m + 1 + j + i) (omega arith) (omega arith) (omega arith)))
         ∙ arcs-run s 3 (m + 1) j
-        ∙ ap (upto (putArc 3 (recordAt s (m + 1))) j) (none-before 3 (omega arith))
+        ∙ ap (upto (putArc 3 (recordAt s (m + 1))) j) (no-job-before s (crew-fine .typed))
         )
 
     pub extra-rows : upto (putArc 4 (recordAt s (activityCount s + 1 + jobCount s))) x (replicate (cells elements) 0) ≡ arcRows s 4
     extra-rows =
         let a : ℕ = activityCount s + 1 + jobCount s in
-        let low = arcs-none s 4 (activityCount s + 1) (jobCount s) (λ i l q. omega (arith, job-typed s i l)) ∙ none-before 4 (omega arith) in
-        sym (ap (arcsUpTo s 4) e ∙ arcs-run s 4 a x ∙ ap (upto (putArc 4 (recordAt s a)) x) low)
+        sym (ap (arcsUpTo s 4) e ∙ arcs-run s 4 a x ∙ ap (upto (putArc 4 (recordAt s a)) x) (no-extra-before s (crew-fine .typed)))
