@@ -3,7 +3,7 @@ use mathlib.Core.Path.{_≡_, refl, sym, ap, _∙_}
 use mathlib.Core.Bool.{true}
 use mathlib.Core.List.{List}
 use Prim.Native.Nat.{ℕ, _-_, _^_, _≤_, _<_}
-use native.Mathlib.Decide.{decLt}
+use native.Mathlib.Decide.{decLt, ℕ-discrete}
 use native.Mathlib.Omega.{arith}
 use lib.Pow.{pow-pos, ones-lt}
 use lib.ListN.{length, getD, replicate, length-set, length-replicate, List·getD-eq-default}
@@ -121,6 +121,14 @@ fit-table n f h i = at (decLt i n)
 pub fit-blank : (n : ℕ) → RowsFit n (replicate (cells n) 0)
 unfolding RowsFit
 fit-blank n i = rw (row-blank n i) (pow-pos n)
+
+pub fit-put : (n : ℕ) (rows : List ℕ) (i w : ℕ) → length rows ≡ cells n → i < n → RowsFit n rows → w < 2 ^ n → RowsFit n (putRow rows i w)
+unfolding RowsFit
+fit-put n rows i w e l fit h k = at (ℕ-discrete k i)
+  where
+    at : Dec (k ≡ i) → row (putRow rows i w) k < 2 ^ n
+    at (yes q) = rw (q, row-put-same n rows i w e l) h
+    at (no ne) = rw (row-put-other rows i k w ne) (fit k)
 
 -- an array of words is such a table
 pub words-fit : (rows : List ℕ) → ((k : ℕ) → getD rows k 0 < 2 ^ wordBits) → RowsFit elements rows

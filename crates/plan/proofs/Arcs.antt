@@ -12,26 +12,37 @@ use lib.Dec.{eqb}
 use borrow.Author.Tests.{eqb-true, eqb-false, eq-eqb, ne-eqb}
 use Rattle.words.specs.Bits.{bit, withBit}
 use Rattle.words.specs.model.Loops.{upto}
-use Rattle.words.proofs.Bits.{bit-or, bit-single}
+use Rattle.words.proofs.Bits.{bit-or, bit-single, with-lt}
 use Rattle.words.proofs.Tests.{or-says, by-test, cond-true, cond-false}
 use Rattle.order.specs.Rows.{after}
 use Rattle.records.specs.Bytes.{byte}
-use Rattle.order.specs.Stored.{elements, cells, row, putRow}
-use Rattle.order.proofs.Stored.{length-put, length-blank, row-put-same, row-put-other}
+use Rattle.order.specs.Stored.{elements, cells, row, putRow, RowsFit}
+use Rattle.order.proofs.Stored.{length-put, length-blank, row-put-same, row-put-other, row-fit, fit-put}
 use Rattle.plan.specs.Records.{recordAt, typeAt}
-use Rattle.plan.specs.model.Plans.{withArc, arcsUpTo}
+use Rattle.plan.specs.model.ArcRows.{withArc, arcsAfter, arcsUpTo}
 use Rattle.plan.specs.model.Phases.{putArc}
 use Rattle.plan.proofs.Places.{record-on}
 
 -- ---- runs of records
 
-pub arcs-skip : (s : List ℕ) (type p : ℕ) → typeAt s p ≢ type → arcsUpTo s type (suc p) ≡ arcsUpTo s type p
+-- a record of another type, and one of the type
+pub after-other : (type : ℕ) (r rows : List ℕ) → byte r 0 ≢ type → arcsAfter type r rows ≡ rows
+unfolding arcsAfter
+after-other type r rows ne = cond-false _ _ (ne-eqb (byte r 0) type ne)
+
+pub after-same : (type : ℕ) (r rows : List ℕ) → byte r 0 ≡ type → arcsAfter type r rows ≡ withArc r rows
+unfolding arcsAfter
+after-same type r rows e = cond-true _ _ (eq-eqb (byte r 0) type e)
+
+pub arcs-suc : (s : List ℕ) (type p : ℕ) → arcsUpTo s type (suc p) ≡ arcsAfter type (recordAt s p) (arcsUpTo s type p)
 unfolding arcsUpTo
-arcs-skip s type p ne = cond-false _ _ (ne-eqb (typeAt s p) type ne)
+arcs-suc s type p = refl
+
+pub arcs-skip : (s : List ℕ) (type p : ℕ) → typeAt s p ≢ type → arcsUpTo s type (suc p) ≡ arcsUpTo s type p
+arcs-skip s type p ne = arcs-suc s type p ∙ after-other type (recordAt s p) (arcsUpTo s type p) ne
 
 pub arcs-more : (s : List ℕ) (type p : ℕ) → typeAt s p ≡ type → arcsUpTo s type (suc p) ≡ withArc (recordAt s p) (arcsUpTo s type p)
-unfolding arcsUpTo
-arcs-more s type p e = cond-true _ _ (eq-eqb (typeAt s p) type e)
+arcs-more s type p e = arcs-suc s type p ∙ after-same type (recordAt s p) (arcsUpTo s type p) e
 
 -- n records of other types
 pub arcs-none : (s : List ℕ) (type a n : ℕ) → ((i : ℕ) → i < n → typeAt s (a + i) ≢ type) → arcsUpTo s type (a + n) ≡ arcsUpTo s type a
@@ -39,16 +50,15 @@ arcs-none s type a zero h = ap (arcsUpTo s type) (add-zero a)
 arcs-none s type a (suc n) h =
     ap (arcsUpTo s type) (add-suc a n) ∙ arcs-skip s type (a + n) (h n (omega arith)) ∙ arcs-none s type a n (λ i l. h i (omega arith))
 
--- n records of the type, as the loop stores them
-pub arcs-run : (s : List ℕ) (type a n : ℕ) → ((i : ℕ) → i < n → typeAt s (a + i) ≡ type)
-    → arcsUpTo s type (a + n) ≡ upto (putArc (recordAt s a)) n (arcsUpTo s type a)
+-- n records, whatever they are, as the loop stores them
+pub arcs-run : (s : List ℕ) (type a n : ℕ) → arcsUpTo s type (a + n) ≡ upto (putArc type (recordAt s a)) n (arcsUpTo s type a)
 unfolding upto
-arcs-run s type a zero h = ap (arcsUpTo s type) (add-zero a)
-arcs-run s type a (suc n) h =
+arcs-run s type a zero = ap (arcsUpTo s type) (add-zero a)
+arcs-run s type a (suc n) =
     ap (arcsUpTo s type) (add-suc a n)
-    ∙ arcs-more s type (a + n) (h n (omega arith))
-    ∙ ap (λ (r : List ℕ). withArc r (arcsUpTo s type (a + n))) (sym (record-on s a n))
-    ∙ ap (withArc (recordAt (recordAt s a) n)) (arcs-run s type a n (λ i l. h i (omega arith)))
+    ∙ arcs-suc s type (a + n)
+    ∙ ap (λ (r : List ℕ). arcsAfter type r (arcsUpTo s type (a + n))) (sym (record-on s a n))
+    ∙ ap (arcsAfter type (recordAt (recordAt s a) n)) (arcs-run s type a n)
 
 pub arcs-start : (s : List ℕ) (type : ℕ) → arcsUpTo s type 0 ≡ replicate (cells elements) 0
 unfolding arcsUpTo
@@ -67,6 +77,13 @@ length-arcs s type (suc p) =
     by-test (eqb (typeAt s p) type)
     (λ t. ap length (arcs-more s type p (eqb-true (typeAt s p) type t)) ∙ length-with-arc (recordAt s p) (arcsUpTo s type p) ∙ ih)
     (λ t. ap length (arcs-skip s type p (eqb-false (typeAt s p) type t)) ∙ ih)
+
+pub with-arc-fits : (r rows : List ℕ) → length rows ≡ cells elements → 1 ≤ byte r 1 → byte r 1 ≤ elements → 1 ≤ byte r 2 → byte r 2 ≤ elements
+    → RowsFit elements rows → RowsFit elements (withArc r rows)
+unfolding withArc
+with-arc-fits r rows long la ha lb hb fit =
+    fit-put elements rows (byte r 1 - 1) (withBit (row rows (byte r 1 - 1)) (byte r 2 - 1)) long (omega arith) fit
+    (with-lt (row rows (byte r 1 - 1)) (byte r 2 - 1) elements (omega arith) (row-fit elements rows fit (byte r 1 - 1)))
 
 -- it has the arcs that were there, and its own
 pub with-arc : (r rows : List ℕ) (i j : ℕ) → length rows ≡ cells elements → 1 ≤ byte r 1 → byte r 1 ≤ elements → 1 ≤ byte r 2

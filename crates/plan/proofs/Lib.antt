@@ -1,5 +1,5 @@
--- Laws of the definitions of `specs/`. Callers cite Said and Refused; the proofs of the code cite ReaderLoops and `file-read` of Phases; the others lead
--- up to these.
+-- Laws of the definitions of `specs/`. Callers cite Said and Refused, and `readable-is` of Refusals; the proofs of the code cite ReaderLoops and `file-read` of
+-- Phases; the others lead up to these.
 pub mod Refusals
 pub mod Places
 pub mod RecordRules
@@ -8,6 +8,6 @@ pub mod Arcs
 pub mod Parts
 pub mod Phases
 pub mod ReaderLoops
+pub mod NamedArcs
 pub mod Said
 pub mod Refused
-pub mod Cases

@@ -3,24 +3,24 @@ use mathlib.Core.Path.{_≡_, refl, sym, ap, _∙_, subst}
 use mathlib.Core.Bool.{true, false, false≢true}
 use mathlib.Core.List.{List}
 use mathlib.Core.Logic.{_⊎_, ⊎-elim, _≢_}
-use Prim.Native.Nat.{ℕ, zero, suc, _+_, _-_, _≤_, _<_}
+use Prim.Native.Nat.{ℕ, _+_, _-_, _≤_, _<_}
 use native.Mathlib.Nat.{zero-add, eq-or-lt-of-le}
 use native.Mathlib.Omega.{arith}
 use lib.ListN.{replicate}
 use borrow.Author.Tests.{eq-eqb, ne-eqb}
 use Rattle.words.specs.model.Loops.{upto}
 use Rattle.words.proofs.Tests.{cond-true, cond-false}
+use Rattle.records.specs.Bytes.{byte}
 use Rattle.order.specs.Stored.{elements, cells}
-use Rattle.plan.specs.declared.Answer.{Answer}
 use Rattle.plan.specs.declared.Answer.the-variants.{Readable, Refused}
 use Rattle.plan.specs.declared.Cause.the-variants.{RecordType}
 use Rattle.plan.specs.Records.{recordAt, recordCount, typeAt, activityCount, jobCount, dueType, activities, demandsOf}
-use Rattle.plan.specs.model.Plans.{arcsUpTo, arcRows}
-use Rattle.plan.specs.Causes.{isReadable, activityCause, causeAt, firstRefusal, followedBy, crewThere, recordsCause}
+use Rattle.plan.specs.model.ArcRows.{arcsUpTo, arcRows}
+use Rattle.plan.specs.Causes.{isReadable, activityCause, causeAt, firstRefusal, crewThere, recordsCause}
 use Rattle.plan.specs.model.Phases.{putArc}
-use Rattle.plan.proofs.Refusals.{followed-left, followed-right, all-readable, none-refused}
-use Rattle.plan.proofs.Places.{leading-le, leading-typed}
-use Rattle.plan.proofs.RecordRules.{activity-kept, CrewKept, crew-kept, ArcKept, arc-kept, at-activity, at-crew, at-arc, due-job, due-extra}
+use Rattle.plan.proofs.Refusals.{followed-left, followed-right, all-readable}
+use Rattle.plan.proofs.Places.{record-on, leading-le, leading-typed}
+use Rattle.plan.proofs.RecordRules.{few-activities, CrewKept, crew-kept, ArcKept, arc-kept, at-activity, at-crew, at-arc, due-extra}
 use Rattle.plan.proofs.Arcs.{arcs-none, arcs-run, arcs-start}
 
 -- no record has a cause, and the crew record is there
@@ -52,29 +52,43 @@ faultless s e =
       crewed = ⊎-elim (λ q. absurd (false≢true (sym (ap isReadable (crew-missing s q)) ∙ c))) (λ l. l) (crew-or-missing s);
     }
 
-pub faultless-read : (s : List ℕ) → Faultless s → recordsCause s ≡ Readable
-unfolding recordsCause
-faultless-read s F =
-    ap (λ (a : Answer). followedBy a (crewThere s)) (none-refused (recordCount s) (causeAt s) (F .fine)) ∙ crew-there s (F .crewed)
-
 -- ---- the records, by their places
-
-pub few-activities : (s : List ℕ) → ((p : ℕ) → p < activityCount s → isReadable (activityCause p (recordAt s p)) ≡ true) → activityCount s ≤ activities
-few-activities s h = go (activityCount s) h
-  where
-    go : (m : ℕ) → ((p : ℕ) → p < m → isReadable (activityCause p (recordAt s p)) ≡ true) → m ≤ activities
-    go zero h = omega arith
-    go (suc m) h = activity-kept m (recordAt s m) (h m (omega arith)) .few
 
 pub activity-typed : (s : List ℕ) (p : ℕ) → p < activityCount s → typeAt s p ≡ 1
 activity-typed s p h = leading-typed 1 (recordCount s) s p h
+
+-- the records after the crew record that are counted as job arcs
+job-typed : (s : List ℕ) (i : ℕ) → i < jobCount s → typeAt s (activityCount s + 1 + i) ≡ 3
+job-typed s i h =
+    let a : ℕ = activityCount s + 1 in
+    ap (λ (r : List ℕ). byte r 0) (sym (record-on s a i)) ∙ leading-typed 3 (recordCount s - a) (recordAt s a) i h
+
+-- where the record after the activities is a crew record, no arc stands before the first that is due
+module _ (s : List ℕ) (crewed : typeAt s (activityCount s) ≡ 2) where
+  pub no-arc : (type p : ℕ) → 3 ≤ type → p ≤ activityCount s → typeAt s p ≢ type
+  no-arc type p t h e =
+      ⊎-elim
+      (λ q. omega (arith, subst (λ (x : ℕ). typeAt s x ≡ 2) (sym q) crewed))
+      (λ l. omega (arith, activity-typed s p l))
+      (eq-or-lt-of-le h)
+
+  none-before : (type : ℕ) → 3 ≤ type → arcsUpTo s type (activityCount s + 1) ≡ replicate (cells elements) 0
+  none-before type h =
+      let m : ℕ = activityCount s in
+      ap (arcsUpTo s type) (sym (zero-add (m + 1))) ∙ arcs-none s type 0 (m + 1) (λ i l. no-arc type (0 + i) h (omega arith)) ∙ arcs-start s type
+
+  no-job-before : arcsUpTo s 3 (activityCount s + 1) ≡ replicate (cells elements) 0
+  no-job-before = none-before 3 (omega arith)
+
+  no-extra-before : arcsUpTo s 4 (activityCount s + 1 + jobCount s) ≡ replicate (cells elements) 0
+  no-extra-before = arcs-none s 4 (activityCount s + 1) (jobCount s) (λ i l q. omega (arith, job-typed s i l)) ∙ none-before 4 (omega arith)
 
 module _ (s : List ℕ) (F : Faultless s) where
   pub activity-fine : (p : ℕ) → p < activityCount s → isReadable (activityCause p (recordAt s p)) ≡ true
   activity-fine p h = rw (at-activity s p h) at (F .fine p (omega (arith, F .crewed)))
 
   pub few : activityCount s ≤ activities
-  few = few-activities s activity-fine
+  few = few-activities (activityCount s) s activity-fine
 
   pub crew-fine : CrewKept (demandsOf s) (recordAt s (activityCount s))
   crew-fine = crew-kept (activityCount s) (demandsOf s) (recordAt s (activityCount s)) (rw (at-crew s (activityCount s) refl) at (F .fine (activityCount s) (F .crewed)))
@@ -82,47 +96,24 @@ module _ (s : List ℕ) (F : Faultless s) where
   pub arc-fine : (p : ℕ) → activityCount s < p → p < recordCount s → ArcKept (dueType s p) (activityCount s) (recordAt s p)
   arc-fine p h l = arc-kept (dueType s p) p (activityCount s) (recordAt s p) (rw (at-arc s p h) at (F .fine p l))
 
-  pub job-typed : (p : ℕ) → activityCount s < p → p < recordCount s → p < activityCount s + 1 + jobCount s → typeAt s p ≡ 3
-  job-typed p h l b = arc-fine p h l .typed ∙ due-job s p b
-
   pub extra-typed : (p : ℕ) → activityCount s < p → p < recordCount s → activityCount s + 1 + jobCount s ≤ p → typeAt s p ≡ 4
   extra-typed p h l b = arc-fine p h l .typed ∙ due-extra s p b
 
-  -- up to the crew record there is no arc
-  pub no-arc : (type p : ℕ) → 3 ≤ type → p ≤ activityCount s → typeAt s p ≢ type
-  no-arc type p t h e =
-      ⊎-elim
-      (λ q. omega (arith, subst (λ (x : ℕ). typeAt s x ≡ 2) (sym q) (crew-fine .typed)))
-      (λ l. omega (arith, activity-typed s p l))
-      (eq-or-lt-of-le h)
+  -- ---- the rows of its arcs, as the loop stores them
 
-  -- ---- the rows of its arcs, as the loops store them
+  module _ (x : ℕ) (e : recordCount s ≡ activityCount s + 1 + jobCount s + x) where
+    pub job-rows : upto (putArc 3 (recordAt s (activityCount s + 1))) (jobCount s) (replicate (cells elements) 0) ≡ arcRows s 3
+    job-rows =
+        let m : ℕ = activityCount s in
+        let j : ℕ = jobCount s in
+        sym (
+        ap (arcsUpTo s 3) e
+        ∙ arcs-none s 3 (m + 1 + j) x (λ i l q. omega (arith, extra-typed (m + 1 + j + i) (omega arith) (omega arith) (omega arith)))
+        ∙ arcs-run s 3 (m + 1) j
+        ∙ ap (upto (putArc 3 (recordAt s (m + 1))) j) (no-job-before s (crew-fine .typed))
+        )
 
-  pub job-rows : (x : ℕ) → recordCount s ≡ activityCount s + 1 + jobCount s + x
-      → upto (putArc (recordAt s (activityCount s + 1))) (jobCount s) (replicate (cells elements) 0) ≡ arcRows s 3
-  job-rows x e =
-      let m : ℕ = activityCount s in
-      let j : ℕ = jobCount s in
-      let f = upto (putArc (recordAt s (m + 1))) j in
-      let low : arcsUpTo s 3 (m + 1) ≡ replicate (cells elements) 0 =
-      ap (arcsUpTo s 3) (sym (zero-add (m + 1))) ∙ arcs-none s 3 0 (m + 1) (λ i l. no-arc 3 (0 + i) (omega arith) (omega arith)) ∙ arcs-start s 3 in
-      sym (
-      ap (arcsUpTo s 3) e
-      ∙ arcs-none s 3 (m + 1 + j) x (λ i l q. omega (arith, extra-typed (m + 1 + j + i) (omega arith) (omega arith) (omega arith)))
-      ∙ arcs-run s 3 (m + 1) j (λ i l. job-typed (m + 1 + i) (omega arith) (omega arith) (omega arith))
-      ∙ ap f low
-      )
-
-  pub extra-rows : (x : ℕ) → recordCount s ≡ activityCount s + 1 + jobCount s + x
-      → upto (putArc (recordAt s (activityCount s + 1 + jobCount s))) x (replicate (cells elements) 0) ≡ arcRows s 4
-  extra-rows x e =
-      let m : ℕ = activityCount s in
-      let j : ℕ = jobCount s in
-      let f = upto (putArc (recordAt s (m + 1 + j))) x in
-      let low : arcsUpTo s 4 (m + 1) ≡ replicate (cells elements) 0 =
-      ap (arcsUpTo s 4) (sym (zero-add (m + 1))) ∙ arcs-none s 4 0 (m + 1) (λ i l. no-arc 4 (0 + i) (omega arith) (omega arith)) ∙ arcs-start s 4 in
-      sym (
-      ap (arcsUpTo s 4) e
-      ∙ arcs-run s 4 (m + 1 + j) x (λ i l. extra-typed (m + 1 + j + i) (omega arith) (omega arith) (omega arith))
-      ∙ ap f (arcs-none s 4 (m + 1) j (λ i l q. omega (arith, job-typed (m + 1 + i) (omega arith) (omega arith) (omega arith))) ∙ low)
-      )
+    pub extra-rows : upto (putArc 4 (recordAt s (activityCount s + 1 + jobCount s))) x (replicate (cells elements) 0) ≡ arcRows s 4
+    extra-rows =
+        let a : ℕ = activityCount s + 1 + jobCount s in
+        sym (ap (arcsUpTo s 4) e ∙ arcs-run s 4 a x ∙ ap (upto (putArc 4 (recordAt s a)) x) (no-extra-before s (crew-fine .typed)))

@@ -17,15 +17,16 @@ use Rattle.plan.specs.declared.Cause.the-variants.{Length, RecordType}
 use Rattle.plan.specs.declared.Plan.{Plan}
 use Rattle.plan.specs.declared.Reading.{Reading}
 use Rattle.plan.specs.Records.{recordAt, recordCount, activityCount, jobCount, leading, availableIn, dueType, demandsOf}
+use Rattle.plan.specs.Meaning.{fileKinds, fileAvailable}
 use Rattle.plan.specs.model.Plans.{planOf, emptyPlan, durationsOf, availableOf}
 use Rattle.plan.specs.Causes.{isReadable, activityCause, crewCause, arcCause, causeAt, firstRefusal, followedBy, recordsCause, isLength, answerOf}
 use Rattle.plan.specs.model.Reads.{readOf}
-use Rattle.plan.specs.model.Phases.{putDuration, putDemands, putArc, refusalOf, unlessRefused, restOf, fileOf}
+use Rattle.plan.specs.model.Phases.{putDuration, putDemands, putArc, arcsCause, refusalOf, unlessRefused, restOf, fileOf}
 use Rattle.plan.proofs.Refusals.{followed-assoc, followed-none, refusal-cong, refusal-split, refusal-one, all-readable}
 use Rattle.plan.proofs.Places.{record-on, record-next, leading-le}
-use Rattle.plan.proofs.RecordRules.{at-activity, at-crew, at-arc, due-job, due-extra}
-use Rattle.plan.proofs.Stores.{durations-stored, demands-stored}
-use Rattle.plan.proofs.Parts.{Faultless, faultless, crew-missing, crew-there, crew-or-missing, few-activities, job-rows, extra-rows}
+use Rattle.plan.proofs.RecordRules.{few-activities, at-activity, at-crew, at-arc, due-job, due-extra}
+use Rattle.plan.proofs.Stores.{durations-stored, demands-stored, demands-told}
+use Rattle.plan.proofs.Parts.{Faultless, faultless, crew-missing, crew-there, crew-or-missing, job-rows, extra-rows}
 
 -- ---- an answer, and the plan that stands beside it
 
@@ -46,14 +47,8 @@ outcome-cong (Refused c) h = refl
 
 -- ---- the rest of a file, as one answer and one plan
 
-abbrev jobsCause : ℕ → ℕ → List ℕ → Answer
-jobsCause m j arcs = firstRefusal j (λ i. arcCause 3 (m + 1 + i) m (recordAt arcs i))
-
-abbrev extrasCause : ℕ → ℕ → ℕ → List ℕ → Answer
-extrasCause m j x more = firstRefusal x (λ i. arcCause 4 (m + 1 + j + i) m (recordAt more i))
-
 abbrev restCause : ℕ → List ℕ → ℕ → ℕ → List ℕ → List ℕ → List ℕ → Answer
-restCause m demand j x t arcs more = followedBy (crewCause m demand t) (followedBy (jobsCause m j arcs) (extrasCause m j x more))
+restCause m demand j x t arcs more = followedBy (crewCause m demand t) (followedBy (arcsCause 3 (m + 1) m arcs j) (arcsCause 4 (m + 1 + j) m more x))
 
 abbrev restPlan : ℕ → List ℕ → List ℕ → ℕ → ℕ → List ℕ → List ℕ → List ℕ → Plan
 restPlan m duration demand j x t arcs more =
@@ -63,8 +58,8 @@ restPlan m duration demand j x t arcs more =
       duration = duration;
       demand = demand;
       available = table 8 (availableIn t);
-      job = upto (putArc arcs) j (replicate (cells elements) 0);
-      extra = upto (putArc more) x (replicate (cells elements) 0);
+      job = upto (putArc 3 arcs) j (replicate (cells elements) 0);
+      extra = upto (putArc 4 more) x (replicate (cells elements) 0);
     }
 
 -- `arcs` is what follows the crew record
@@ -80,7 +75,7 @@ rest-is m duration demand n t =
     let arcs : List ℕ = drop 24 t in
     let j : ℕ = leading 3 n arcs in
     let more : List ℕ = drop (24 * j) arcs in
-    go (crewCause m demand t) (jobsCause m j arcs) (extrasCause m j (n - j) more) (restPlan m duration demand j (n - j) t arcs more)
+    go (crewCause m demand t) (arcsCause 3 (m + 1) m arcs j) (arcsCause 4 (m + 1 + j) m more (n - j)) (restPlan m duration demand j (n - j) t arcs more)
   where
     go : (a b c : Answer) (q : Plan)
         → unlessRefused a (unlessRefused b (unlessRefused c (record { plan = q; answer = Readable }))) ≡ outcome (followedBy a (followedBy b c)) q
@@ -136,14 +131,14 @@ module _ (s : List ℕ) where
       ∙ ap (λ (d : ℕ). arcCause d (a + i) (activityCount s) (recordAt s (a + i))) e
       ∙ ap (arcCause type (a + i) (activityCount s)) (sym (record-on s a i))
 
-  jobs-phase : firstRefusal (jobCount s) (λ i. causeAt s (activityCount s + 1 + i)) ≡ jobsCause (activityCount s) (jobCount s) (recordAt s (activityCount s + 1))
+  jobs-phase : firstRefusal (jobCount s) (λ i. causeAt s (activityCount s + 1 + i)) ≡ arcsCause 3 (activityCount s + 1) (activityCount s) (recordAt s (activityCount s + 1)) (jobCount s)
   jobs-phase =
       let m : ℕ = activityCount s in
       refusal-cong (jobCount s) (λ i. causeAt s (m + 1 + i)) (λ i. arcCause 3 (m + 1 + i) m (recordAt (recordAt s (m + 1)) i))
       (λ i h. arc-phase 3 (m + 1) i (omega arith) (due-job s (m + 1 + i) (omega arith)))
 
   extras-phase : (x : ℕ) → firstRefusal x (λ i. causeAt s (activityCount s + 1 + jobCount s + i))
-      ≡ extrasCause (activityCount s) (jobCount s) x (recordAt s (activityCount s + 1 + jobCount s))
+      ≡ arcsCause 4 (activityCount s + 1 + jobCount s) (activityCount s) (recordAt s (activityCount s + 1 + jobCount s)) x
   extras-phase x =
       let m : ℕ = activityCount s in
       let a : ℕ = m + 1 + jobCount s in
@@ -179,7 +174,7 @@ module _ (s : List ℕ) where
       let J : Answer = firstRefusal j (λ i. f (m + 1 + i)) in
       let X : Answer = firstRefusal extraCount (λ i. f (m + 1 + j + i)) in
       let crew : Answer = crewCause m (demandsOf s) (recordAt s m) in
-      let jobs : Answer = jobsCause m j (recordAt s (m + 1)) in
+      let jobs : Answer = arcsCause 3 (m + 1) m (recordAt s (m + 1)) j in
       let arcs = ap (λ (y : Answer). followedBy y X) jobs-phase ∙ ap (followedBy jobs) (extras-phase extraCount) in
       let rest = ap (λ (y : Answer). followedBy y (followedBy J X)) crew-phase ∙ ap (followedBy crew) arcs in
       ap (followedBy (firstRefusal (recordCount s) f)) (crew-there s h)
@@ -191,20 +186,10 @@ module _ (s : List ℕ) where
 
   -- a file with no cause: its plan is the one that the phases stored
   last-plan : Faultless s → lastPlan ≡ planOf s
-  unfolding planOf availableOf
+  unfolding planOf availableOf fileKinds fileAvailable
   last-plan F =
-      let m : ℕ = activityCount s in
-      let r : List ℕ = recordAt s m in
-      let of : List ℕ → List ℕ → Plan = λ job extra. record {
-        count = m;
-        kinds = byte r 1;
-        duration = durationsOf s;
-        demand = demandsOf s;
-        available = table 8 (availableIn r);
-        job = job;
-        extra = extra;
-      } in
-      ap₂ of (job-rows s F extraCount (counted (F .crewed))) (extra-rows s F extraCount (counted (F .crewed)))
+      let all = counted (F .crewed) in
+      rw (demands-told s, job-rows s F extraCount all, extra-rows s F extraCount all)
 
   -- ---- the reading
 
@@ -238,7 +223,7 @@ module _ (s : List ℕ) where
   with-crew : activityCount s < recordCount s → fileOf (recordCount s) s ≡ outcome (recordsCause s) (planOf s)
   with-crew h =
       let m : ℕ = activityCount s in
-      let few : isReadable activitiesCause ≡ true → m ≤ elements = λ e. omega (arith, few-activities s (all-readable m (λ i. activityCause i (recordAt s i)) e)) in
+      let few : isReadable activitiesCause ≡ true → m ≤ elements = λ e. omega (arith, few-activities m s (all-readable m (λ i. activityCause i (recordAt s i)) e)) in
       let on : List ℕ → List ℕ → Reading = λ d q. restOf m d q (recordCount s - m) (recordAt s m) in
       file-is
       ∙ unless-cong activitiesCause (λ e. ap₂ on (durations-stored s (few e)) (demands-stored s (few e)) ∙ rest-at s m (durationsOf s) (demandsOf s) h)

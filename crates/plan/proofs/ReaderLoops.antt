@@ -1,30 +1,30 @@
 -- What the proofs of the reader's functions share: a turn of each loop, the tests that the code makes, and what follows a test. Assumes nothing.
 use mathlib.Core.Path.{_≡_, refl, sym, ap, _∙_}
-use mathlib.Core.Bool.{Bool, true, false, not, _&&_}
+use mathlib.Core.Bool.{Bool, true, false, not}
 use mathlib.Core.List.{List}
-use Prim.Native.Nat.{ℕ, zero, suc, _+_, _-_, _*_, _%_, _≤_, _<_}
+use Prim.Native.Nat.{ℕ, suc, _+_, _-_, _*_, _≤_, _<_}
 use native.Mathlib.Nat.{add-zero}
 use native.Mathlib.Omega.{arith}
-use lib.Dec.{eqb, leb, ltb}
 use lib.ListN.{length, getD, take, drop, length-drop}
 use lib.Seq.{getD-drop}
 use borrow.Author.Count.{below-more}
-use borrow.Author.Tests.{eq-eqb, ne-eqb, lt-ltb, le-ltb, le-leb, leb-true, not-true, not-false}
+use borrow.Author.Tests.{eq-eqb, ne-eqb, lt-ltb, le-ltb, not-true, not-false}
 use Rattle.words.specs.Members.{first}
-use Rattle.words.proofs.Tests.{clash, and-left, and-right, and-both, cond-true, cond-false}
+use Rattle.words.proofs.Tests.{clash, cond-true, cond-false}
 use Rattle.words.proofs.Firsts.{first-stop, first-end}
 use Rattle.records.specs.Bytes.{byte}
-use Rattle.order.specs.Stored.{elements}
 use Rattle.plan.specs.declared.Answer.{Answer}
 use Rattle.plan.specs.declared.Answer.the-variants.{Readable, Refused}
 use Rattle.plan.specs.declared.Reading.{Reading}
-use Rattle.plan.specs.Records.{recordAt, leading, isEnd, arcFields, arcSpare, activities}
-use Rattle.plan.specs.Causes.{isReadable, activityCause, arcCause, firstRefusal, isLength}
+use Rattle.plan.specs.Records.{recordAt, leading, activities}
+use Rattle.plan.specs.Causes.{isReadable, activityCause, arcCause, firstRefusal}
+use Rattle.plan.specs.model.ArcRows.{withArc, arcsAfter}
 use Rattle.plan.specs.model.Phases.{refusalOf, unlessRefused}
 use Rattle.records.proofs.Steps.{rest-of}
 use Rattle.plan.proofs.Places.{record-on}
-use Rattle.plan.proofs.RecordRules.{fields-kept, activity-kept, end-high}
+use Rattle.plan.proofs.RecordRules.{few-activities, arc-kept}
 use Rattle.plan.proofs.Refusals.{all-readable}
+use Rattle.plan.proofs.Arcs.{after-same}
 
 -- ---- a test that the code made and negated, as the definition has it
 
@@ -112,47 +112,9 @@ module _ {answer cause : Answer} {b : Bool} (found : answer ≡ cause) (test : b
 
 -- ---- what a run of records with no cause tells
 
--- an activity is one of as many first records as a file may have activities
-pub few-activities : (m : ℕ) (s : List ℕ) → isReadable (firstRefusal m (λ i. activityCause i (recordAt s i))) ≡ true → m ≤ activities
-few-activities zero s e = omega arith
-few-activities (suc k) s e =
-    let h = activity-kept k (recordAt s k) (all-readable (suc k) (λ i. activityCause i (recordAt s i)) e k (omega arith)) .few in omega arith
+pub run-few : (m : ℕ) (s : List ℕ) → isReadable (firstRefusal m (λ i. activityCause i (recordAt s i))) ≡ true → m ≤ activities
+run-few m s e = few-activities m s (all-readable m (λ i. activityCause i (recordAt s i)) e)
 
--- an end of an arc is one of more activities too
-end-more : (m i n : ℕ) → isEnd m i ≡ true → m ≤ n → isEnd n i ≡ true
-end-more m i n e h = and-both (ltb 0 i) (leb i n) (and-left (ltb 0 i) (leb i m) e) (le-leb i n (omega (arith, end-high m i e)))
-
-abbrev differ : List ℕ → Bool
-differ r = not (eqb (byte r 1) (byte r 2))
-
--- the ends of an arc whose fields keep their rules in a plan of m activities
-module _ (m : ℕ) (r : List ℕ) (e : arcFields m r ≡ true) where
-  pub arc-from : isEnd m (byte r 1) ≡ true
-  unfolding arcFields
-  arc-from = and-left (isEnd m (byte r 1)) (isEnd m (byte r 2) && differ r) e
-
-  both-to : isEnd m (byte r 2) && differ r ≡ true
-  unfolding arcFields
-  both-to = and-right (isEnd m (byte r 1)) (isEnd m (byte r 2) && differ r) e
-
-  pub arc-to : isEnd m (byte r 2) ≡ true
-  arc-to = and-left (isEnd m (byte r 2)) (differ r) both-to
-
-  -- they keep them in a plan of more activities
-  arc-more : (n : ℕ) → m ≤ n → arcFields n r ≡ true
-  unfolding arcFields
-  arc-more n h =
-      and-both (isEnd n (byte r 1)) (isEnd n (byte r 2) && differ r) (end-more m (byte r 1) n arc-from h)
-      (and-both (isEnd n (byte r 2)) (differ r) (end-more m (byte r 2) n arc-to h) (and-right (isEnd m (byte r 2)) (differ r) both-to))
-
-pub arcs-kept : (type place m n : ℕ) (t : List ℕ) → m ≤ elements → isReadable (firstRefusal n (λ i. arcCause type (place + i) m (recordAt t i))) ≡ true
-    → (i : ℕ) → i < n → arcFields elements (recordAt t i) ≡ true
-unfolding arcCause
-arcs-kept type place m n t h e i l =
-    let r = recordAt t i in
-    arc-more m r (fields-kept (eqb (byte r 0) type) (arcFields m r) (arcSpare r) (place + i) (all-readable n (λ k. arcCause type (place + k) m (recordAt t k)) e i l)) elements h
-
--- a file of a right length has at most 49,152 bytes
-pub length-high : (n : ℕ) → isLength n ≡ true → n ≤ 49152
-unfolding isLength
-length-high n e = leb-true n 49152 (and-left (leb n 49152) (eqb (n % 24) 0) (and-right (ltb 0 n) (leb n 49152 && eqb (n % 24) 0) e))
+-- a record that the loop has looked at and found to be an arc of the type: the loop stores what the definition says
+pub arc-stored : (type place m : ℕ) (r rows : List ℕ) {now : List ℕ} → isReadable (arcCause type place m r) ≡ true → now ≡ withArc r rows → now ≡ arcsAfter type r rows
+arc-stored type place m r rows e g = g ∙ sym (after-same type r rows (arc-kept type place m r e .typed))

@@ -3,18 +3,21 @@ use mathlib.Core.Path.{_≡_, refl, sym, ap, _∙_}
 use mathlib.Core.Bool.{Bool, true, false, not, _&&_, false≢true}
 use mathlib.Core.List.{List}
 use mathlib.Core.Logic.{_≢_}
-use Prim.Native.Nat.{ℕ, _+_, _-_, _*_, _≤_, _<_}
+use Prim.Native.Nat.{ℕ, zero, suc, _+_, _-_, _*_, _≤_, _<_}
 use native.Mathlib.Omega.{arith}
 use lib.ListN.{getD, take}
 use lib.Seq.{slice, getD-take, getD-drop}
 use lib.Dec.{eqb, leb, ltb}
-use borrow.Author.Tests.{ltb-true, leb-true, eqb-true, eq-eqb, not-true, lt-ltb, le-ltb, ne-eqb}
-use Rattle.words.proofs.Tests.{clash, and-left, and-right, cond-true, cond-false}
+use borrow.Author.Tests.{ltb-true, leb-true, eqb-true, eq-eqb, lt-ltb, le-ltb, ne-eqb}
+use Rattle.words.proofs.Tests.{and-left, and-right, cond-true, cond-false}
 use Rattle.records.proofs.Zeros.{all-zero}
 use Rattle.records.specs.Bytes.{byte, field, zeros}
 use Rattle.order.specs.Stored.{elements}
-use Rattle.plan.specs.Records.{recordAt, activityCount, jobCount, dueType, activityFields, activitySpare, crewFields, crewSpare, isEnd, arcFields, arcSpare, activities, demandsOf}
-use Rattle.plan.specs.Causes.{firstCause, isReadable, activityCause, crewCause, arcCause, causeAt}
+use Rattle.plan.specs.declared.Answer.{Answer}
+use Rattle.plan.specs.declared.Answer.the-variants.{Readable, Refused}
+use Rattle.plan.specs.declared.Cause.{Cause}
+use Rattle.plan.specs.Records.{recordAt, activityCount, jobCount, dueType, activityFields, crewFields, isEnd, arcFields, activities, demandsOf}
+use Rattle.plan.specs.Causes.{rule, isReadable, activityCause, crewCause, arcCause, causeAt}
 
 -- ---- bytes that are zero
 
@@ -26,43 +29,31 @@ zeros-mean l a b i e lo hi =
     ∙ sym (getD-drop a (take b l) (i - a) 0)
     ∙ all-zero (slice a b l) e (i - a)
 
--- ---- the three tests of a record with no cause
+-- ---- a chain of rules with no cause: the last rule is kept, and the chain before it has no cause
 
-pub typed-kept : (t f s : Bool) (place : ℕ) → isReadable (firstCause t f s place) ≡ true → t ≡ true
-typed-kept true f s place e = refl
-typed-kept false f s place e = absurd (false≢true e)
+pub rule-kept : (answer : Answer) (kept : Bool) (cause : Cause) → isReadable (rule answer kept cause) ≡ true → kept ≡ true
+unfolding rule
+rule-kept Readable true cause e = refl
+rule-kept Readable false cause e = absurd (false≢true e)
+rule-kept (Refused c) kept cause e = absurd (false≢true e)
 
-pub fields-kept : (t f s : Bool) (place : ℕ) → isReadable (firstCause t f s place) ≡ true → f ≡ true
-fields-kept true true s place e = refl
-fields-kept true false s place e = absurd (false≢true e)
-fields-kept false f s place e = absurd (false≢true e)
+pub rule-before : (answer : Answer) (kept : Bool) (cause : Cause) → isReadable (rule answer kept cause) ≡ true → isReadable answer ≡ true
+unfolding rule
+rule-before Readable kept cause e = refl
+rule-before (Refused c) kept cause e = e
 
--- an activity with no cause, at a place
-pub record ActivityKept (place : ℕ) (r : List ℕ) : Type 0 where
-  pub few : place < activities
-  pub number : byte r 1 ≡ place + 1
-  pub lasts : 1 ≤ field r 2 2
-
-pub activity-kept : (place : ℕ) (r : List ℕ) → isReadable (activityCause place r) ≡ true → ActivityKept place r
+-- m activities with no cause: each stands at one of the places that a file has for activities
+pub few-activities : (m : ℕ) (s : List ℕ) → ((p : ℕ) → p < m → isReadable (activityCause p (recordAt s p)) ≡ true) → m ≤ activities
 unfolding activityCause activityFields
-activity-kept place r e =
-    let a : Bool = ltb place activities in
-    let b : Bool = eqb (byte r 1) (place + 1) in
-    let c : Bool = ltb 0 (field r 2 2) in
-    let f : a && (b && c) ≡ true = fields-kept true (a && (b && c)) (activitySpare r) place e in
-    let g : b && c ≡ true = and-right a (b && c) f in
-    record {
-      few = ltb-true place activities (and-left a (b && c) f);
-      number = eqb-true (byte r 1) (place + 1) (and-left b c g);
-      lasts = ltb-true 0 (field r 2 2) (and-right b c g);
-    }
+few-activities zero s h = omega arith
+few-activities (suc m) s h =
+    let r = recordAt s m in
+    ltb-true m activities (and-left (ltb m activities) (eqb (byte r 1) (m + 1) && ltb 0 (field r 2 2)) (rule-kept _ _ _ (rule-before _ _ _ (h m (omega arith)))))
 
 -- the crew record with no cause
 pub record CrewKept (demand r : List ℕ) : Type 0 where
   pub typed : byte r 0 ≡ 2
-  pub some : 1 ≤ byte r 1
   pub few : byte r 1 ≤ 8
-  pub none : (i : ℕ) → 4 + 2 * byte r 1 ≤ i → i < 20 → byte r i ≡ 0
   pub no-demand : (i : ℕ) → elements * byte r 1 ≤ i → i < 8 * elements → getD demand i 0 ≡ 0
 
 pub crew-kept : (place : ℕ) (demand r : List ℕ) → isReadable (crewCause place demand r) ≡ true → CrewKept demand r
@@ -72,15 +63,12 @@ crew-kept place demand r e =
     let b : Bool = leb (byte r 1) 8 in
     let c : Bool = zeros (slice (4 + 2 * byte r 1) 20 r) in
     let d : Bool = zeros (slice (elements * byte r 1) (8 * elements) demand) in
-    let f : a && (b && (c && d)) ≡ true = fields-kept (eqb (byte r 0) 2) (a && (b && (c && d))) (crewSpare r) place e in
+    let f : a && (b && (c && d)) ≡ true = rule-kept _ _ _ (rule-before _ _ _ e) in
     let g : b && (c && d) ≡ true = and-right a (b && (c && d)) f in
-    let h : c && d ≡ true = and-right b (c && d) g in
     record {
-      typed = eqb-true (byte r 0) 2 (typed-kept (eqb (byte r 0) 2) (a && (b && (c && d))) (crewSpare r) place e);
-      some = ltb-true 0 (byte r 1) (and-left a (b && (c && d)) f);
+      typed = eqb-true (byte r 0) 2 (rule-kept _ _ _ (rule-before _ _ _ (rule-before _ _ _ e)));
       few = leb-true (byte r 1) 8 (and-left b (c && d) g);
-      none = λ i lo hi. zeros-mean r (4 + 2 * byte r 1) 20 i (and-left c d h) lo hi;
-      no-demand = λ i lo hi. zeros-mean demand (elements * byte r 1) (8 * elements) i (and-right c d h) lo hi;
+      no-demand = λ i lo hi. zeros-mean demand (elements * byte r 1) (8 * elements) i (and-right c d (and-right b (c && d) g)) lo hi;
     }
 
 -- an arc with no cause, of the type that is due, among m activities
@@ -90,13 +78,6 @@ pub record ArcKept (type m : ℕ) (r : List ℕ) : Type 0 where
   pub from-high : byte r 1 ≤ m
   pub to-low : 1 ≤ byte r 2
   pub to-high : byte r 2 ≤ m
-  pub differ : byte r 1 ≢ byte r 2
-
-pub end-low : (m i : ℕ) → isEnd m i ≡ true → 1 ≤ i
-end-low m i e = ltb-true 0 i (and-left (ltb 0 i) (leb i m) e)
-
-pub end-high : (m i : ℕ) → isEnd m i ≡ true → i ≤ m
-end-high m i e = leb-true i m (and-right (ltb 0 i) (leb i m) e)
 
 pub arc-kept : (type place m : ℕ) (r : List ℕ) → isReadable (arcCause type place m r) ≡ true → ArcKept type m r
 unfolding arcCause arcFields
@@ -104,15 +85,15 @@ arc-kept type place m r e =
     let a : Bool = isEnd m (byte r 1) in
     let b : Bool = isEnd m (byte r 2) in
     let d : Bool = not (eqb (byte r 1) (byte r 2)) in
-    let f : a && (b && d) ≡ true = fields-kept (eqb (byte r 0) type) (a && (b && d)) (arcSpare r) place e in
-    let g : b && d ≡ true = and-right a (b && d) f in
+    let f : a && (b && d) ≡ true = rule-kept _ _ _ (rule-before _ _ _ e) in
+    let from = and-left a (b && d) f in
+    let to = and-left b d (and-right a (b && d) f) in
     record {
-      typed = eqb-true (byte r 0) type (typed-kept (eqb (byte r 0) type) (a && (b && d)) (arcSpare r) place e);
-      from-low = end-low m (byte r 1) (and-left a (b && d) f);
-      from-high = end-high m (byte r 1) (and-left a (b && d) f);
-      to-low = end-low m (byte r 2) (and-left b d g);
-      to-high = end-high m (byte r 2) (and-left b d g);
-      differ = λ q. clash (eq-eqb (byte r 1) (byte r 2) q) (not-true (eqb (byte r 1) (byte r 2)) (and-right b d g));
+      typed = eqb-true (byte r 0) type (rule-kept _ _ _ (rule-before _ _ _ (rule-before _ _ _ e)));
+      from-low = ltb-true 0 (byte r 1) (and-left (ltb 0 (byte r 1)) (leb (byte r 1) m) from);
+      from-high = leb-true (byte r 1) m (and-right (ltb 0 (byte r 1)) (leb (byte r 1) m) from);
+      to-low = ltb-true 0 (byte r 2) (and-left (ltb 0 (byte r 2)) (leb (byte r 2) m) to);
+      to-high = leb-true (byte r 2) m (and-right (ltb 0 (byte r 2)) (leb (byte r 2) m) to);
     }
 
 -- ---- which rules a record has, by its place

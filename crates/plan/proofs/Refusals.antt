@@ -8,7 +8,7 @@ use lib.Dec.{ltb, leb·suc-suc}
 use borrow.Author.Tests.{lt-ltb, ltb-true, not-false}
 use Rattle.words.specs.Members.{first}
 use Rattle.words.proofs.Tests.{by-test, cond-true, cond-false}
-use Rattle.words.proofs.Firsts.{first-is, before-first}
+use Rattle.words.proofs.Firsts.{before-first}
 use Rattle.plan.specs.declared.Answer.{Answer}
 use Rattle.plan.specs.declared.Answer.the-variants.{Readable, Refused}
 use Rattle.plan.specs.Causes.{isReadable, firstRefusal, followedBy}
@@ -34,11 +34,6 @@ followed-assoc (Refused x) b c = refl
 pub followed-none : (a : Answer) → followedBy a Readable ≡ a
 followed-none Readable = refl
 followed-none (Refused x) = refl
-
--- what comes after a refusal does not matter
-pub followed-cong : (a : Answer) {b c : Answer} → (isReadable a ≡ true → b ≡ c) → followedBy a b ≡ followedBy a c
-followed-cong Readable h = h refl
-followed-cong (Refused x) h = refl
 
 -- ---- the first refusal, as a recursion
 
@@ -102,22 +97,6 @@ all-readable zero f e i l = absurd (omega arith)
 all-readable (suc n) f e zero l = followed-left (f 0) (firstRefusal n (λ i. f (suc i))) (rw (refusal-suc n f) at e)
 all-readable (suc n) f e (suc i) l =
     all-readable n (λ x. f (suc x)) (followed-right (f 0) (firstRefusal n (λ x. f (suc x))) (rw (refusal-suc n f) at e)) i (omega arith)
-
-pub none-refused : (n : ℕ) (f : ℕ → Answer) → ((i : ℕ) → i < n → isReadable (f i) ≡ true) → firstRefusal n f ≡ Readable
-none-refused zero f h = refusal-zero f
-none-refused (suc n) f h =
-    refusal-suc n f
-    ∙ ap (λ (a : Answer). followedBy a (firstRefusal n (λ i. f (suc i)))) (readable-is (f 0) (h 0 (omega arith)))
-    ∙ none-refused n (λ i. f (suc i)) (λ i l. h (suc i) (omega arith))
-
--- the answer at p is the first refusal where it is one and those before it are none
-pub refused-first :
-    (n : ℕ) (f : ℕ → Answer) (p : ℕ) → p < n → isReadable (f p) ≡ false → ((i : ℕ) → i < p → isReadable (f i) ≡ true) → firstRefusal n f ≡ f p
-unfolding firstRefusal
-refused-first n f p l r h =
-    let e : first n (λ i. not (isReadable (f i))) ≡ p =
-    first-is n (λ i. not (isReadable (f i))) p (omega arith) (λ i m. ap not (h i m)) (λ m. ap not r) in
-    ap (λ (x : ℕ). cond (ltb x n) (f x) Readable) e ∙ cond-true (f p) Readable (lt-ltb p n l)
 
 -- a refusal is the answer at some place, and before it there is none
 pub first-refused : (n : ℕ) (f : ℕ → Answer) → isReadable (firstRefusal n f) ≡ false

@@ -1,5 +1,5 @@
--- What a refusal means in plain words, and which files are refused and read. Assumes nothing.
-use mathlib.Core.Path.{_≡_, refl, sym, ap, _∙_}
+-- What a refusal means in plain words. Assumes nothing.
+use mathlib.Core.Path.{_≡_, refl, sym, ap, _∙_, subst}
 use mathlib.Core.Bool.{Bool, true, false, cond, _&&_, false≢true}
 use mathlib.Core.List.{List}
 use mathlib.Core.Logic.{_⊎_, inl, inr, ⊎-elim, _↔_, _≢_}
@@ -13,14 +13,13 @@ use Rattle.plan.specs.declared.Answer.{Answer}
 use Rattle.plan.specs.declared.Answer.the-variants.{Readable, Refused}
 use Rattle.plan.specs.declared.Cause.{Cause}
 use Rattle.plan.specs.declared.Cause.the-variants.{Length, RecordType, Field, Spare}
-use Rattle.plan.specs.Records.{recordAt, recordCount, typeAt, activityCount, dueType, activityFields, activitySpare, crewFields, crewSpare, arcFields, arcSpare, demandsOf}
-use Rattle.records.specs.Bytes.{byte}
-use Rattle.plan.specs.Causes.{firstCause, isReadable, activityCause, crewCause, arcCause, causeAt, firstRefusal, followedBy, crewThere, recordsCause, isLength, answerOf}
+use Rattle.plan.specs.Records.{recordAt, recordCount, typeAt, activityCount, dueType, demandsOf}
+use Rattle.plan.specs.Causes.{rule, isReadable, activityCause, crewCause, arcCause, causeAt, firstRefusal, followedBy, crewThere, recordsCause, isLength, answerOf}
 use Rattle.plan.specs.Meaning
 use Rattle.plan.specs.Refused.{WrongLength, FirstFault, CrewMissing}
-use Rattle.plan.proofs.Refusals.{none-refused, refused-first, first-refused, all-readable}
+use Rattle.plan.proofs.Refusals.{first-refused, all-readable}
 use Rattle.plan.proofs.Places.{leading-ends}
-use Rattle.plan.proofs.Parts.{faultless-read, crew-missing, crew-there, crew-or-missing, activity-typed}
+use Rattle.plan.proofs.Parts.{crew-missing, crew-there, crew-or-missing, activity-typed}
 
 -- ---- the length
 
@@ -44,33 +43,44 @@ pub refused-length : (s : List ℕ) → isLength (length s) ≡ false → answer
 unfolding answerOf
 refused-length s e = cond-false (recordsCause s) (Refused Length) e
 
--- ---- the place of a cause: a refusal at a record is a wrong type, field or spare byte of that record
+-- ---- what all causes of a record have in common
 
-abbrev pub Placed : ℕ → Cause → Type 0
-Placed p c = (c ≡ RecordType p) ⊎ ((c ≡ Field p) ⊎ (c ≡ Spare p))
+module _ (p : ℕ) (P : Cause → Type 0) (typed : P (RecordType p)) (fields : P (Field p)) (spare : P (Spare p)) where
+  -- an answer whose cause, if it has one, has it
+  abbrev Has : Answer → Type 0
+  Has Readable = Unit {0}
+  Has (Refused c) = P c
 
-first-cause-place : (t f s : Bool) (place : ℕ) (c : Cause) → firstCause t f s place ≡ Refused c → Placed place c
-first-cause-place true true true place c e = absurd (let z : _≡_ {A = ℕ} 0 1 = cc in omega arith)
-first-cause-place true true false place c e = inr (inr (cc))
-first-cause-place true false s place c e = inr (inl (cc))
-first-cause-place false f s place c e = inl (cc)
+  rule-has : (answer : Answer) (kept : Bool) (cause : Cause) → Has answer → P cause → Has (rule answer kept cause)
+  unfolding rule
+  rule-has Readable true cause h k = tt
+  rule-has Readable false cause h k = k
+  rule-has (Refused c) kept cause h k = h
 
-pub cause-place : (s : List ℕ) (p : ℕ) (c : Cause) → causeAt s p ≡ Refused c → Placed p c
-unfolding causeAt activityCause crewCause arcCause
-cause-place s p c =
-    let m : ℕ = activityCount s in
-    let r : List ℕ = recordAt s p in
-    cond-has P (ltb p m) (activityCause p r) (cond (eqb p m) (crewCause p (demandsOf s) r) (arcCause (dueType s p) p m r))
-    (λ t. first-cause-place true (activityFields p r) (activitySpare r) p c)
-    (λ t.
-    cond-has P (eqb p m) (crewCause p (demandsOf s) r) (arcCause (dueType s p) p m r)
-    (λ u. first-cause-place (eqb (byte r 0) 2) (crewFields (demandsOf s) r) (crewSpare r) p c)
-    (λ u. first-cause-place (eqb (byte r 0) (dueType s p)) (arcFields m r) (arcSpare r) p c))
-  where
-    P : Answer → Type 0
-    P a = a ≡ Refused c → Placed p c
+  activity-has : (r : List ℕ) → Has (activityCause p r)
+  unfolding activityCause
+  activity-has r = rule-has _ _ (Spare p) (rule-has _ _ (Field p) tt fields) spare
 
--- ---- which files are refused and read
+  crew-has : (demand r : List ℕ) → Has (crewCause p demand r)
+  unfolding crewCause
+  crew-has demand r = rule-has _ _ (Spare p) (rule-has _ _ (Field p) (rule-has _ _ (RecordType p) tt typed) fields) spare
+
+  arc-has : (type m : ℕ) (r : List ℕ) → Has (arcCause type p m r)
+  unfolding arcCause
+  arc-has type m r = rule-has _ _ (Spare p) (rule-has _ _ (Field p) (rule-has _ _ (RecordType p) tt typed) fields) spare
+
+  pub cause-has : (s : List ℕ) (c : Cause) → causeAt s p ≡ Refused c → P c
+  unfolding causeAt
+  cause-has s c e =
+      let m : ℕ = activityCount s in
+      let r : List ℕ = recordAt s p in
+      let crew : Answer = crewCause p (demandsOf s) r in
+      let arc : Answer = arcCause (dueType s p) p m r in
+      subst Has e
+      (cond-has Has (ltb p m) (activityCause p r) (cond (eqb p m) crew arc) (λ t. activity-has r)
+      (λ t. cond-has Has (eqb p m) crew arc (λ u. crew-has (demandsOf s) r) (λ u. arc-has (dueType s p) m r)))
+
+-- ---- what a refusal means
 
 -- each record is an activity, so the crew record is missing
 pub all-activities : (s : List ℕ) → ((p : ℕ) → p < recordCount s → typeAt s p ≡ 1) ↔ (activityCount s ≡ recordCount s)
@@ -78,37 +88,6 @@ all-activities s = (
   (λ h. ⊎-elim (λ e. e) (λ l. absurd (leading-ends 1 (recordCount s) s l (h (activityCount s) l))) (crew-or-missing s)),
   (λ e p l. activity-typed s p (omega arith)),
 )
-
-module _ (s : List ℕ) (legal : isLength (length s) ≡ true) where
-  -- the first record with a fault, by its first fault
-  pub refused-fault : (p : ℕ) (a : Answer) → FirstFault s p a → answerOf s ≡ a
-  unfolding recordsCause
-  refused-fault p a F =
-      let first : firstRefusal (recordCount s) (causeAt s) ≡ a =
-      refused-first (recordCount s) (causeAt s) p (F .there) (ap isReadable (F .fault) ∙ F .refused) (F .before) ∙ F .fault in
-      answer-records s legal ∙ ap (λ (x : Answer). followedBy x (crewThere s)) first ∙ stays a (F .refused)
-    where
-      stays : (a : Answer) → isReadable a ≡ false → followedBy a (crewThere s) ≡ a
-      stays Readable e = absurd (false≢true (sym e))
-      stays (Refused c) e = refl
-
-  module _ (fine : (p : ℕ) → p < recordCount s → isReadable (causeAt s p) ≡ true) where
-    -- no record has a fault, and each is an activity
-    pub refused-crew : ((p : ℕ) → p < recordCount s → typeAt s p ≡ 1) → answerOf s ≡ Refused (RecordType (recordCount s))
-    unfolding recordsCause
-    refused-crew h =
-        answer-records s legal
-        ∙ ap (λ (x : Answer). followedBy x (crewThere s)) (none-refused (recordCount s) (causeAt s) fine)
-        ∙ crew-missing s (all-activities s .0 h)
-
-    -- no record has a fault, and one is a crew record
-    pub readable-fine : (p : ℕ) → p < recordCount s → typeAt s p ≡ 2 → Meaning.Readable s
-    readable-fine p l e =
-        let crewed : activityCount s < recordCount s =
-        ⊎-elim (λ q. absurd (omega (arith, all-activities s .1 q p l))) (λ h. h) (crew-or-missing s) in
-        ap isReadable (answer-records s legal ∙ faultless-read s (record { fine = fine; crewed = crewed }))
-
--- ---- what a refusal means
 
 records-refused : (s : List ℕ) (c : Cause) → isLength (length s) ≡ true → recordsCause s ≡ Refused c → ((p : ℕ) × FirstFault s p (Refused c)) ⊎ CrewMissing s c
 unfolding recordsCause

@@ -14,13 +14,14 @@ use Rattle.words.specs.Tables.{table}
 use Rattle.words.proofs.Tests.{by-test, below-suc, cond-true, cond-false}
 use Rattle.words.proofs.Tables.{is-table, stored, getD-zeros}
 use Rattle.order.specs.Stored.{elements}
-use Rattle.plan.specs.Records.{recordAt, activityCount, durationIn, demandIn, demandsOf}
-use Rattle.plan.specs.model.Plans.{durationsOf}
+use Rattle.plan.specs.Records.{recordAt, activityCount, demandIn, demandsOf}
+use Rattle.plan.specs.Meaning.{fileDuration, fileDemand}
+use Rattle.plan.specs.model.Plans.{durationsOf, demandTable}
 use Rattle.plan.specs.model.Phases.{putDuration, putDemand, putDemands}
 
 pub durations-stored : (s : List ℕ) → activityCount s ≤ elements → upto (putDuration s) (activityCount s) (replicate elements 0) ≡ durationsOf s
-unfolding durationsOf
-durations-stored s h = stored (λ i. durationIn (recordAt s i)) elements (activityCount s) h
+unfolding durationsOf fileDuration
+durations-stored s h = stored (fileDuration s) elements (activityCount s) h
 
 -- ---- the demands of one activity, of which the first n are stored
 
@@ -84,3 +85,8 @@ demands-stored s h = go (activityCount s) h
         ∙ by-test (ltb (x % elements) m)
         (λ t. u .done (x / elements) (x % elements) (omega arith) (ltb-true (x % elements) m t) ∙ sym (cond-true (demandIn (recordAt s (x % elements)) (x / elements)) 0 t))
         (λ t. u .left (x / elements) (x % elements) (omega arith) (ltb-false (x % elements) m t) (omega arith) ∙ sym (cond-false (demandIn (recordAt s (x % elements)) (x / elements)) 0 t)))
+
+-- THE DEMANDS IN FORCE are those of the activity records, by which the crew record is checked
+pub demands-told : (s : List ℕ) → demandsOf s ≡ demandTable s
+unfolding demandsOf demandTable fileDemand
+demands-told s = refl

@@ -8,16 +8,15 @@ use Rattle.words.specs.Members.{first}
 use Rattle.records.specs.Bytes.{byte}
 use Rattle.plan.specs.declared.Answer.{Answer}
 use Rattle.plan.specs.declared.Answer.the-variants.{Readable, Refused}
+use Rattle.plan.specs.declared.Cause.{Cause}
 use Rattle.plan.specs.declared.Cause.the-variants.{Length, RecordType, Field, Spare}
 use Rattle.plan.specs.Records.{recordAt, recordCount, activityCount, activityFields, activitySpare, crewFields, crewSpare, arcFields, arcSpare, dueType, demandsOf}
 
--- "records in file order, 2, 3, 4 within each": the causes of one record, in the order in which they are tested.
--- typed: its type is the one that is due; fields: each field keeps its rule; spare: its spare bytes are zero.
-abbrev pub firstCause : Bool → Bool → Bool → ℕ → Answer
-firstCause true true true place = Readable
-firstCause true true false place = Refused (Spare place)
-firstCause true false spare place = Refused (Field place)
-firstCause false fields spare place = Refused (RecordType place)
+-- "records in file order, 2, 3, 4 within each": the rules of a record are tested in turn. Where none before it was broken, a broken rule gives its cause.
+unfoldable pub rule : Answer → Bool → Cause → Answer
+rule Readable true cause = Readable
+rule Readable false cause = Refused cause
+rule (Refused c) kept cause = Refused c
 
 abbrev pub isReadable : Answer → Bool
 isReadable Readable = true
@@ -25,15 +24,23 @@ isReadable (Refused c) = false
 
 -- one of the activity records that the file begins with; its type is 1
 unfoldable pub activityCause : ℕ → List ℕ → Answer
-activityCause place r = firstCause true (activityFields place r) (activitySpare r) place
+activityCause place r =
+    let fields = rule Readable (activityFields place r) (Field place) in
+    rule fields (activitySpare r) (Spare place)
 
 -- the record after them, which has to be the crew record
 unfoldable pub crewCause : ℕ → List ℕ → List ℕ → Answer
-crewCause place demand r = firstCause (eqb (byte r 0) 2) (crewFields demand r) (crewSpare r) place
+crewCause place demand r =
+    let typed = rule Readable (eqb (byte r 0) 2) (RecordType place) in
+    let fields = rule typed (crewFields demand r) (Field place) in
+    rule fields (crewSpare r) (Spare place)
 
 -- a record after that, which has to be an arc of the type that is due
 unfoldable pub arcCause : ℕ → ℕ → ℕ → List ℕ → Answer
-arcCause type place m r = firstCause (eqb (byte r 0) type) (arcFields m r) (arcSpare r) place
+arcCause type place m r =
+    let typed = rule Readable (eqb (byte r 0) type) (RecordType place) in
+    let fields = rule typed (arcFields m r) (Field place) in
+    rule fields (arcSpare r) (Spare place)
 
 -- the cause of the record at a place
 unfoldable pub causeAt : List ℕ → ℕ → Answer

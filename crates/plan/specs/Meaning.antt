@@ -1,32 +1,18 @@
--- What a file says, in plain words: when it is readable, which arcs, and which durations, demands and availabilities. THE ONE HOME of what is in force: everything above
+-- What a file says, in plain words: when it is readable, which durations, demands and availabilities, and which arcs. THE ONE HOME of what is in force: everything above
 -- speaks of a file in these words, and no table of a plan is needed for them. What a refusal says is Refused. Element i is activity i + 1, kind k is kind k + 1.
--- Whoever uses a plan cites the laws of `proofs/Said.antt` and `proofs/Refused.antt`, and not the reader's text. Assumes nothing.
+-- Whoever uses a plan cites the laws of `proofs/Said.antt` and `proofs/Refused.antt`; the words stay shut, so that none of it goes by where a record stands. Assumes nothing.
 use mathlib.Core.Path.{_≡_}
 use mathlib.Core.Bool.{true}
 use mathlib.Core.List.{List}
-use Prim.Native.Nat.{ℕ, _+_, _*_, _<_}
+use Prim.Native.Nat.{ℕ, _+_, _<_}
 use Rattle.order.specs.Before.{Joined}
-use Rattle.records.specs.Bytes.{byte, field}
-use Rattle.plan.specs.Records.{recordAt, recordCount, typeAt, activityCount}
+use Rattle.records.specs.Bytes.{byte}
+use Rattle.plan.specs.Records.{recordAt, recordCount, typeAt, activityCount, durationIn, demandIn, availableIn}
 use Rattle.plan.specs.Causes.{isReadable, answerOf}
 
 -- "It is readable when it meets none of causes 1 to 4"
 abbrev pub Readable : List ℕ → Type 0
 Readable s = isReadable (answerOf s) ≡ true
-
--- ---- the arcs of a file
-
--- some record of a type names the arc from element i to element j (activity i + 1 to activity j + 1): type 3 for job arcs, 4 for extra arcs
-pub record Names (s : List ℕ) (type i j : ℕ) : Type 0 where
-  pub place : ℕ
-  pub there : place < recordCount s
-  pub typed : typeAt s place ≡ type
-  pub from : byte (recordAt s place) 1 ≡ i + 1
-  pub to : byte (recordAt s place) 2 ≡ j + 1
-
--- a job arc record or an extra arc record names the pair
-abbrev pub FileArc : List ℕ → ℕ → ℕ → Type 0
-FileArc s = Joined (Names s 3) (Names s 4)
 
 -- ---- the activities and the crew of a file
 
@@ -39,17 +25,38 @@ abbrev pub crewRecord : List ℕ → List ℕ
 crewRecord s = recordAt s (activityCount s)
 
 -- "2–3 duration": that of element i
-abbrev pub fileDuration : List ℕ → ℕ → ℕ
-fileDuration s i = field (activityRecord s i) 2 2
+unfoldable pub fileDuration : List ℕ → ℕ → ℕ
+fileDuration s i = durationIn (activityRecord s i)
 
 -- "4–19 eight demands of two bytes, kinds 1 to 8": what element i demands of kind k
-abbrev pub fileDemand : List ℕ → ℕ → ℕ → ℕ
-fileDemand s k i = field (activityRecord s i) (4 + 2 * k) 2
+unfoldable pub fileDemand : List ℕ → ℕ → ℕ → ℕ
+fileDemand s k i = demandIn (activityRecord s i) k
 
 -- "byte 1 the count K of kinds"
-abbrev pub fileKinds : List ℕ → ℕ
+unfoldable pub fileKinds : List ℕ → ℕ
 fileKinds s = byte (crewRecord s) 1
 
 -- "4–19 eight availabilities": how much of kind k is available
-abbrev pub fileAvailable : List ℕ → ℕ → ℕ
-fileAvailable s k = field (crewRecord s) (4 + 2 * k) 2
+unfoldable pub fileAvailable : List ℕ → ℕ → ℕ
+fileAvailable s k = availableIn (crewRecord s) k
+
+-- ---- the arcs of a file
+
+-- one of the first n records is of a type and names the arc from element i to element j (activity i + 1 to activity j + 1)
+pub record Names (s : List ℕ) (n type i j : ℕ) : Type 0 where
+  pub place : ℕ
+  pub there : place < n
+  pub typed : typeAt s place ≡ type
+  pub from : byte (recordAt s place) 1 ≡ i + 1
+  pub to : byte (recordAt s place) 2 ≡ j + 1
+
+-- a job arc record names the pair
+unfoldable pub JobArc : List ℕ → ℕ → ℕ → Type 0
+JobArc s i j = Names s (recordCount s) 3 i j
+
+-- an extra arc record names the pair
+unfoldable pub ExtraArc : List ℕ → ℕ → ℕ → Type 0
+ExtraArc s i j = Names s (recordCount s) 4 i j
+
+abbrev pub FileArc : List ℕ → ℕ → ℕ → Type 0
+FileArc s = Joined (JobArc s) (ExtraArc s)

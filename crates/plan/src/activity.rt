@@ -9,8 +9,9 @@ ghost use Rattle.plan.specs.Causes.{activityCause, firstRefusal};
 ghost use Rattle.plan.specs.model.Phases.{putDuration, putDemand, putDemands};
 use crate::ACTIVITIES;
 use crate::Answer;
-use crate::checks::first_cause;
+use crate::Cause;
 use crate::checks::is_readable;
+use crate::checks::rule;
 use crate::field::all_zero;
 use crate::field::half;
 use order::ELEMENTS;
@@ -35,7 +36,12 @@ fn activity_cause(r: &[u8], place: usize) -> Answer
     requires { ⌜ 24 ≤ length (now r) ⌝ }
     ensures { λ a. ⌜ a ≡ activityCause place (now (r .entry)) ⌝ }
 {
-    first_cause(true, activity_fields(r, place), all_zero(r, 20, 24), place)
+    let fields = rule(
+        Answer::Readable,
+        activity_fields(r, place),
+        Cause::Field(place),
+    );
+    rule(fields, all_zero(r, 20, 24), Cause::Spare(place))
 }
 
 // The first cause among the first m records, which are activities.

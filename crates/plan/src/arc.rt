@@ -1,17 +1,19 @@
 // Arc records, types 3 and 4.
 ghost use mathlib.Core.Path.{_≡_};
 ghost use mathlib.Core.Bool.{true};
-ghost use Prim.Native.Nat.{ℕ, _+_, _*_, _≤_, _<_};
+ghost use Prim.Native.Nat.{_+_, _*_, _≤_};
 ghost use lib.ListN.{length};
 ghost use Rattle.words.specs.model.Loops.{upto};
+ghost use Rattle.records.specs.Bytes.{byte};
 ghost use Rattle.order.specs.Stored.{elements};
-ghost use Rattle.plan.specs.Records.{isEnd, arcFields, recordAt};
-ghost use Rattle.plan.specs.model.Plans.{withArc};
-ghost use Rattle.plan.specs.Causes.{arcCause, firstRefusal};
-ghost use Rattle.plan.specs.model.Phases.{putArc};
+ghost use Rattle.plan.specs.Records.{isEnd, arcFields};
+ghost use Rattle.plan.specs.model.ArcRows.{withArc};
+ghost use Rattle.plan.specs.Causes.{arcCause, isReadable};
+ghost use Rattle.plan.specs.model.Phases.{putArc, arcsCause};
 use crate::Answer;
-use crate::checks::first_cause;
+use crate::Cause;
 use crate::checks::is_readable;
+use crate::checks::rule;
 use crate::field::all_zero;
 use crate::field::index;
 use order::Rows;
@@ -45,28 +47,14 @@ fn arc_cause(m: usize, r: &[u8], of: u8, place: usize) -> Answer
     requires { ⌜ 24 ≤ length (now r) ⌝ }
     ensures { λ a. ⌜ a ≡ arcCause of place m (now (r .entry)) ⌝ }
 {
-    first_cause(r[0] == of, arc_fields(m, r), all_zero(r, 3, 24), place)
-}
-
-// The first cause among the first n records of t, which have to be arcs of a type; the first of them is at a place of the file.
-pub fn arcs_cause(m: usize, t: &[u8], of: u8, n: usize, place: usize) -> Answer
-    requires { ⌜ (24 * n ≤ length (now t)) × (place + n ≤ 2048) ⌝ }
-    ensures { λ a. ⌜ a ≡ firstRefusal n (λ i. arcCause of (place + i) m (recordAt (now (t .entry)) i)) ⌝ }
-{
-    let mut i: usize = 0;
-    while i < n {
-        let answer = arc_cause(m, &t[24 * i..], of, place + i);
-        if !is_readable(answer) {
-            return answer;
-        }
-        i += 1;
-    }
-    Answer::Readable
+    let typed = rule(Answer::Readable, r[0] == of, Cause::RecordType(place));
+    let fields = rule(typed, arc_fields(m, r), Cause::Field(place));
+    rule(fields, all_zero(r, 3, 24), Cause::Spare(place))
 }
 
 // The arc of a record, whose ends are 1 to ELEMENTS.
 fn store_arc(r: &[u8], rows: &mut Rows)
-    requires { ⌜ (24 ≤ length (now r)) × (arcFields elements (now r) ≡ true) ⌝ }
+    requires { ⌜ (24 ≤ length (now r)) × (1 ≤ byte (now r) 1) × (byte (now r) 1 ≤ elements) × (1 ≤ byte (now r) 2) × (byte (now r) 2 ≤ elements) ⌝ }
     ensures { λ _. ⌜ now (rows .exit) ≡ withArc (now (r .entry)) (now (rows .entry)) ⌝ }
 {
     let i = index(r[1]) - 1;
@@ -75,14 +63,21 @@ fn store_arc(r: &[u8], rows: &mut Rows)
     order::put_row(rows, i, arcs);
 }
 
-// The arcs of the first n records of t.
-pub fn store_arcs(t: &[u8], n: usize, rows: &mut Rows)
-    requires { ⌜ (24 * n ≤ length (now t)) × (n ≤ 2048) × ((i : ℕ) → i < n → arcFields elements (recordAt (now t) i) ≡ true) ⌝ }
-    ensures { λ _. ⌜ now (rows .exit) ≡ upto (putArc (now (t .entry))) n (now (rows .entry)) ⌝ }
+// Reads the first n records of t, which have to be arcs of a type; the first of them is at a place of the file. Each is looked at, and then its arc is stored:
+// the rows so far are the state in which the next one is looked at.
+pub fn read_arcs(m: usize, t: &[u8], of: u8, n: usize, place: usize, rows: &mut Rows) -> Answer
+    requires { ⌜ (24 * n ≤ length (now t)) × (place + n ≤ 2048) × (m ≤ elements) ⌝ }
+    ensures { λ a. ⌜ a ≡ arcsCause of place m (now (t .entry)) n ⌝ }
+    ensures { λ a. ⌜ (isReadable a ≡ true → now (rows .exit) ≡ upto (putArc of (now (t .entry))) n (now (rows .entry))) ⌝ }
 {
     let mut i: usize = 0;
     while i < n {
+        let answer = arc_cause(m, &t[24 * i..], of, place + i);
+        if !is_readable(answer) {
+            return answer;
+        }
         store_arc(&t[24 * i..], rows);
         i += 1;
     }
+    Answer::Readable
 }

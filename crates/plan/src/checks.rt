@@ -1,23 +1,21 @@
-// The causes of a record, in order.
+// The rules of a record, in turn.
 ghost use mathlib.Core.Path.{_≡_};
-ghost use Rattle.plan.specs.Causes.{firstCause, isReadable};
+ghost use Rattle.plan.specs.Causes.{rule, isReadable};
 use crate::Answer;
 use crate::Cause;
 
-// The causes of a record, in the order in which they are tested.
-pub fn first_cause(typed: bool, fields: bool, spare: bool, place: usize) -> Answer
-    ensures { λ a. ⌜ a ≡ firstCause typed fields spare place ⌝ }
+// The next rule in turn: where none before it was broken, a broken rule gives its cause.
+pub fn rule(answer: Answer, kept: bool, cause: Cause) -> Answer
+    ensures { λ a. ⌜ a ≡ rule answer kept cause ⌝ }
 {
-    if !typed {
-        return Answer::Refused(Cause::RecordType(place));
+    match answer {
+        Answer::Readable => if kept {
+            Answer::Readable
+        } else {
+            Answer::Refused(cause)
+        },
+        Answer::Refused(c) => Answer::Refused(c),
     }
-    if !fields {
-        return Answer::Refused(Cause::Field(place));
-    }
-    if !spare {
-        return Answer::Refused(Cause::Spare(place));
-    }
-    Answer::Readable
 }
 
 pub fn is_readable(answer: Answer) -> bool

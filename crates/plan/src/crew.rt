@@ -9,7 +9,8 @@ ghost use Rattle.order.specs.Stored.{elements};
 ghost use Rattle.plan.specs.Records.{crewFields, crewSpare, availableIn};
 ghost use Rattle.plan.specs.Causes.{crewCause};
 use crate::Answer;
-use crate::checks::first_cause;
+use crate::Cause;
+use crate::checks::rule;
 use crate::field::all_zero;
 use crate::field::half;
 use order::ELEMENTS;
@@ -66,7 +67,9 @@ pub fn crew_cause(demand: &[u32; 8 * ELEMENTS], r: &[u8], place: usize) -> Answe
     requires { ⌜ 24 ≤ length (now r) ⌝ }
     ensures { λ a. ⌜ a ≡ crewCause place (now (demand .entry)) (now (r .entry)) ⌝ }
 {
-    first_cause(r[0] == 2, crew_fields(demand, r), crew_spare(r), place)
+    let typed = rule(Answer::Readable, r[0] == 2, Cause::RecordType(place));
+    let fields = rule(typed, crew_fields(demand, r), Cause::Field(place));
+    rule(fields, crew_spare(r), Cause::Spare(place))
 }
 
 // The eight availabilities.

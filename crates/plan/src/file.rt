@@ -14,8 +14,7 @@ use crate::Reading;
 use crate::activity::activities_cause;
 use crate::activity::store_demands;
 use crate::activity::store_durations;
-use crate::arc::arcs_cause;
-use crate::arc::store_arcs;
+use crate::arc::read_arcs;
 use crate::checks::is_readable;
 use crate::crew::available;
 use crate::crew::crew_cause;
@@ -83,19 +82,17 @@ fn read_rest(
     }
     let arcs = &t[24..];
     let j = leading_records(arcs, 3, n - 1);
-    let jobs = arcs_cause(m, arcs, 3, j, m + 1);
+    let mut job = [0; CELLS];
+    let jobs = read_arcs(m, arcs, 3, j, m + 1, &mut job);
     if !is_readable(jobs) {
         return refusal(jobs);
     }
     let more = &arcs[24 * j..];
-    let extras = arcs_cause(m, more, 4, n - 1 - j, m + 1 + j);
+    let mut extra = [0; CELLS];
+    let extras = read_arcs(m, more, 4, n - 1 - j, m + 1 + j, &mut extra);
     if !is_readable(extras) {
         return refusal(extras);
     }
-    let mut job = [0; CELLS];
-    store_arcs(arcs, j, &mut job);
-    let mut extra = [0; CELLS];
-    store_arcs(more, n - 1 - j, &mut extra);
     Reading {
         plan: Plan {
             count: m,

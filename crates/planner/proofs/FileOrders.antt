@@ -17,7 +17,7 @@ use Rattle.schedule.specs.Network.{Keeps}
 use Rattle.schedule.specs.Lists.{LargestOr0, at}
 use Rattle.schedule.specs.model.Arrays.{netOf, byDuration}
 use Rattle.schedule.proofs.Arrays as arrays
-use Rattle.plan.specs.Meaning.{Readable, Names, FileArc, fileDuration}
+use Rattle.plan.specs.Meaning.{Readable, JobArc, ExtraArc, FileArc, fileDuration}
 use Rattle.planner.specs.Open.{planIn, rowsOf, jobOrder, planOrder, Opens}
 use Rattle.planner.specs.Starts.{firstStarts, endStart, startNumbers}
 use Rattle.planner.specs.Times.{KeepsFile, FinishesBefore, FinishesOf}
@@ -27,10 +27,10 @@ use Rattle.planner.proofs.StartsLaws.{before-end, at-end}
 -- ---- the arcs of the rows are the arcs of the file
 
 module _ (s : List ℕ) (e : Readable s) where
-  pub job-arcs : (i j : ℕ) → Direct (planIn s .job) i j ↔ Names s 3 i j
+  pub job-arcs : (i j : ℕ) → Direct (planIn s .job) i j ↔ JobArc s i j
   job-arcs = said-in s e .job .named
 
-  pub extra-arcs : (i j : ℕ) → Direct (planIn s .extra) i j ↔ Names s 4 i j
+  pub extra-arcs : (i j : ℕ) → Direct (planIn s .extra) i j ↔ ExtraArc s i j
   extra-arcs = said-in s e .extra .named
 
   pub plan-arcs : (i j : ℕ) → Direct (rowsOf s) i j ↔ FileArc s i j
@@ -38,14 +38,11 @@ module _ (s : List ℕ) (e : Readable s) where
 
   -- an arc's ends are activities
   pub arc-ends : Within (planIn s .count) (FileArc s)
-  arc-ends i j =
-      ⊎-elim
-      (λ n. let d = job-arcs i j .1 n in (said-in s e .job .from i j d, said-in s e .job .to i j d))
-      (λ n. let d = extra-arcs i j .1 n in (said-in s e .extra .from i j d, said-in s e .extra .to i j d))
+  arc-ends i j = ⊎-elim (said-in s e .job .within i j) (said-in s e .extra .within i j)
 
   -- ---- THE JOB ORDER AND THE PLAN ORDER are those of the file's arcs
 
-  pub job-order : OrderOf (jobOrder s) (Names s 3)
+  pub job-order : OrderOf (jobOrder s) (JobArc s)
   job-order = represents-same (direct-order (planIn s .job)) (before-same job-arcs)
 
   pub plan-order : OrderOf (planOrder s) (FileArc s)

@@ -14,7 +14,7 @@ use Rattle.words.proofs.Bits.{bit-zero, bit-ext, bit-cat-high}
 use Rattle.words.proofs.Firsts.{first-cong}
 use Rattle.words.proofs.Tables.{getD-table}
 use Rattle.words.proofs.Tests.{fails, by-test, cond-true, cond-false}
-use Rattle.records.specs.Bytes.{AreBytes, byte, field}
+use Rattle.records.specs.Bytes.{AreBytes}
 use Rattle.order.specs.Stored.{elements, numberOf}
 use Rattle.order.proofs.Stored.{in-bound}
 use Rattle.order.specs.Orders.{isBefore}
@@ -23,7 +23,7 @@ use Rattle.plan.specs.Causes.{isReadable, answerOf}
 use Rattle.plan.specs.Meaning.{Readable, fileKinds, fileDemand, fileAvailable}
 use Rattle.plan.specs.model.Said.{Said}
 use Rattle.plan.specs.model.Plans.{planOf, emptyPlan}
-use Rattle.plan.specs.Records.{activities, activityCount, recordAt}
+use Rattle.plan.specs.Records.{activities, activityCount}
 use Rattle.plan.specs.declared.Plan.{Plan}
 use Rattle.plan.proofs.Said.{demands-small}
 use Rattle.solver.specs.model.Network.{handed}
@@ -67,14 +67,13 @@ kinds-few s =
 
 module _ (s : List ℕ) (e : Readable s) where
   pub count-in : planIn s .count ≡ activityCount s
-  unfolding planOf
-  count-in = ap (λ (q : Plan). q .count) (plan-in s e)
+  count-in = said-in s e .count
 
   pub kinds-in : planIn s .kinds ≡ fileKinds s
-  kinds-in = said-in s e .kinds ∙ ap (λ (m : ℕ). byte (recordAt s m) 1) count-in
+  kinds-in = said-in s e .kinds
 
   pub available-in : (k : ℕ) → k < 8 → availableFor (planIn s) k ≡ fileAvailable s k
-  available-in k h = said-in s e .available k h ∙ ap (λ (m : ℕ). field (recordAt s m) (4 + 2 * k) 2) count-in
+  available-in = said-in s e .available
 
 -- the overload of a plan, by the definitions
 abbrev pub overFor : Plan → Overload

@@ -11,8 +11,10 @@ use Rattle.order.specs.Orders.{extended, circleOf, orderOf, orderIn, joinedRows
 use Rattle.records.specs.Bytes.{field, zeros, bytes}
 use Rattle.records.specs.Records.{overloadRecord}
 use Rattle.plan.specs.Records.{leading, activityFields, crewFields, arcFields, demandsOf}
-use Rattle.plan.specs.model.Plans.{durationsOf, availableOf, withArc, arcsUpTo, planOf}
-use Rattle.plan.specs.Causes.{activityCause, crewCause, arcCause, causeAt, firstRefusal, recordsCause, isLength, answerOf}
+use Rattle.plan.specs.Meaning.{fileDuration, fileDemand, fileKinds, fileAvailable}
+use Rattle.plan.specs.model.ArcRows.{withArc, arcsAfter, arcsUpTo}
+use Rattle.plan.specs.model.Plans.{durationsOf, demandTable, availableOf, planOf}
+use Rattle.plan.specs.Causes.{rule, activityCause, crewCause, arcCause, causeAt, firstRefusal, recordsCause, isLength, answerOf}
 use Rattle.plan.specs.model.Reads.{readOf}
 use Rattle.schedule.specs.Starts.{asked, rounds, earliestOf, endOf}
 use Rattle.schedule.specs.Checks.{brokenTo, brokenFrom, lowestKind, lastFinish, quiet, firstPeriod, checkOf}
@@ -36,7 +38,7 @@ use Rattle.promises.specs.Ours.{ours}
 use Rattle.promises.specs.Cases.{Cases}
 
 pub cases : Cases ours
-unfolding row putRow rowTable cells numberOf setOf digit bit each run upto first members count sum maximum table grow arcsFrom arcsIn circleIn extended circleOf orderOf orderIn joinedRows afterRows field zeros bytes overloadRecord leading activityFields crewFields arcFields durationsOf demandsOf availableOf withArc arcsUpTo planOf activityCause crewCause arcCause causeAt firstRefusal recordsCause isLength answerOf readOf asked rounds earliestOf endOf brokenTo brokenFrom occupied lowestKind lastFinish quiet firstPeriod checkOf startsOf heaviest needOf advance giver positive leaders joined shifted handing blanks blankRows ranked started rounded solved unused copied outcome amount quoteIn demandsFor circlesOf faultOf lentAfter needFor overKind isOverloaded overCause verdictFault needsFault needNumbers needsOut startsFault startsOut startNumbers withEnd overloadFault overCount overBytes overloadOut someZero badLists crewCheckFault crewFound
+unfolding row putRow rowTable cells numberOf setOf digit bit each run upto first members count sum maximum table grow arcsFrom arcsIn circleIn extended circleOf orderOf orderIn joinedRows afterRows field zeros bytes overloadRecord leading activityFields crewFields arcFields fileDuration fileDemand fileKinds fileAvailable durationsOf demandsOf demandTable availableOf withArc arcsAfter arcsUpTo planOf rule activityCause crewCause arcCause causeAt firstRefusal recordsCause isLength answerOf readOf asked rounds earliestOf endOf brokenTo brokenFrom occupied lowestKind lastFinish quiet firstPeriod checkOf startsOf heaviest needOf advance giver positive leaders joined shifted handing blanks blankRows ranked started rounded solved unused copied outcome amount quoteIn demandsFor circlesOf faultOf lentAfter needFor overKind isOverloaded overCause verdictFault needsFault needNumbers needsOut startsFault startsOut startNumbers withEnd overloadFault overCount overBytes overloadOut someZero badLists crewCheckFault crewFound
 cases =
     record {
       a-accepted = refl;

@@ -15,7 +15,7 @@ use Rattle.order.specs.declared.Order.{Order}
 use Rattle.order.proofs.Before.{acyclic-joined}
 use Rattle.order.proofs.Orders.{circle-none, circle-lowest, circle-le}
 use Rattle.plan.specs.Causes.{isReadable, answerOf}
-use Rattle.plan.specs.Meaning.{Readable, Names, FileArc}
+use Rattle.plan.specs.Meaning.{Readable, JobArc, FileArc}
 use Rattle.plan.specs.declared.Cause.{Cause as Unread}
 use Rattle.plan.specs.declared.Answer.{Answer}
 use Rattle.plan.specs.declared.Answer.the-variants as answer
@@ -109,14 +109,14 @@ lowest-of {o} {A} r i e l =
     subst (Lowest A) e (record { round = w .0; none = w .1 })
 
 -- CAUSE 5: the file is readable, and the activity is the lowest before itself by its job arcs
-pub job-circle-means : (s : List ℕ) (i : ℕ) → faultOf s ≡ Refused (JobCircle (i + 1)) → Readable s × Lowest (Names s 3) i
+pub job-circle-means : (s : List ℕ) (i : ℕ) → faultOf s ≡ Refused (JobCircle (i + 1)) → Readable s × Lowest (JobArc s) i
 job-circle-means s i e =
     let w = from-circles s (JobCircle (i + 1)) (λ u q. let z : _≡_ {A = ℕ} 0 1 = cc in omega arith) e in
     let c = job-found (jobOrder s) (planOrder s) i (w .1) in
     (w .0, lowest-of (job-order s (w .0)) i (c .0) (c .1))
 
 -- CAUSE 6: it is readable, its job arcs make no circle, and the activity is the lowest before itself by all its arcs
-pub plan-circle-means : (s : List ℕ) (i : ℕ) → faultOf s ≡ Refused (PlanCircle (i + 1)) → Readable s × Acyclic (Names s 3) × Lowest (FileArc s) i
+pub plan-circle-means : (s : List ℕ) (i : ℕ) → faultOf s ≡ Refused (PlanCircle (i + 1)) → Readable s × Acyclic (JobArc s) × Lowest (FileArc s) i
 plan-circle-means s i e =
     let w = from-circles s (PlanCircle (i + 1)) (λ u q. let z : _≡_ {A = ℕ} 0 1 = cc in omega arith) e in
     let c = plan-found (jobOrder s) (planOrder s) i (w .1) in
@@ -133,13 +133,13 @@ is-lowest {o} {A} r i L = go (decLt (circleOf o) elements) (decLt (circleOf o) i
     go (yes l) (no h) (no k) = (omega arith, l)
     go (no l) c d = absurd (circle-none r .0 (omega (arith, circle-le r)) i (L .round))
 
-pub means-job-circle : (s : List ℕ) (i : ℕ) → Readable s → Lowest (Names s 3) i → faultOf s ≡ Refused (JobCircle (i + 1))
+pub means-job-circle : (s : List ℕ) (i : ℕ) → Readable s → Lowest (JobArc s) i → faultOf s ≡ Refused (JobCircle (i + 1))
 unfolding faultOf
 means-job-circle s i e L =
     let c = is-lowest (job-order s e) i L in
     readable-fault (answerOf s) (circlesOf (jobOrder s) (planOrder s)) e ∙ sym (circles-job (jobOrder s) (planOrder s) i (sym (c .0)) (omega (arith, c .0, c .1)))
 
-pub means-plan-circle : (s : List ℕ) (i : ℕ) → Readable s → Acyclic (Names s 3) → Lowest (FileArc s) i → faultOf s ≡ Refused (PlanCircle (i + 1))
+pub means-plan-circle : (s : List ℕ) (i : ℕ) → Readable s → Acyclic (JobArc s) → Lowest (FileArc s) i → faultOf s ≡ Refused (PlanCircle (i + 1))
 unfolding faultOf
 means-plan-circle s i e free L =
     let c = is-lowest (plan-order s e) i L in

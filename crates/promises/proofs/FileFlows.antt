@@ -17,7 +17,7 @@ use Rattle.order.specs.Nodes.{nodeBefore}
 use Rattle.order.specs.Orders.{isBefore}
 use Rattle.order.specs.Rows.{after}
 use Rattle.order.proofs.Orders.{order-means}
-use Rattle.plan.specs.Meaning.{Readable, Names, fileDemand, fileAvailable}
+use Rattle.plan.specs.Meaning.{Readable, JobArc, fileDemand, fileAvailable}
 use Rattle.plan.specs.Records.{activityCount}
 use Rattle.kinds.specs.Flows.{markOf}
 use Rattle.planner.specs.Open.{planIn, planOrder, Opens}
@@ -55,7 +55,7 @@ module _ (s : List ℕ) (e : Readable s) where
       cond-true (cond (after (planIn s .job) i j) 0 1) 0 (and-both (ltb i m) (ltb j m) (lt-ltb i m hi) (lt-ltb j m hj))
 
   pub mark-means : (i j : ℕ) → i < planIn s .count → j < planIn s .count
-      → (markOf (planIn s .job) (planIn s .count) (suc i) (suc j) ≡ 1) ↔ (Names s 3 i j → ⊥)
+      → (markOf (planIn s .job) (planIn s .count) (suc i) (suc j) ≡ 1) ↔ (JobArc s i j → ⊥)
   mark-means i j hi hj =
       let few = said-in s e .few in (
         (λ p n. absurd (omega (arith, mark-at i j hi hj, cond-true {A = ℕ} 0 1 (job-arcs s e i j .1 n .drawn)))),

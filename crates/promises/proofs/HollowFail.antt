@@ -21,10 +21,11 @@ use Rattle.order.specs.Rows.{grow, arcsFrom, arcsIn, circleIn}
 use Rattle.order.specs.Orders.{extended, circleOf, orderOf, orderIn, joinedRows, afterRows}
 use Rattle.records.specs.Bytes.{AreBytes, field, zeros, bytes}
 use Rattle.plan.specs.Records.{activityCount, leading, activityFields, crewFields, arcFields, demandsOf}
-use Rattle.plan.specs.model.Plans.{durationsOf, availableOf, withArc, arcsUpTo, planOf}
-use Rattle.plan.specs.Causes.{activityCause, crewCause, arcCause, causeAt, firstRefusal, recordsCause, isLength, answerOf}
+use Rattle.plan.specs.model.ArcRows.{withArc, arcsAfter, arcsUpTo}
+use Rattle.plan.specs.model.Plans.{durationsOf, demandTable, availableOf, planOf}
+use Rattle.plan.specs.Causes.{rule, activityCause, crewCause, arcCause, causeAt, firstRefusal, recordsCause, isLength, answerOf}
 use Rattle.plan.specs.model.Reads.{readOf}
-use Rattle.plan.specs.Meaning.{Readable, FileArc, fileKinds, fileDemand, fileAvailable}
+use Rattle.plan.specs.Meaning.{Readable, FileArc, fileDuration, fileDemand, fileKinds, fileAvailable}
 use Rattle.flow_math.specs.Heaviest.{heaviest, needOf}
 use Rattle.kinds.specs.Needs.{demandsFor}
 use Rattle.kinds.specs.Reading.{unitsRead}
@@ -83,7 +84,7 @@ record Computes : Type 0 where
   alike : unordered planA ≡ unordered planC
 
 computes : Computes
-unfolding row putRow rowTable cells digit bit each run upto first members count sum maximum table grow arcsFrom arcsIn circleIn extended circleOf orderOf orderIn joinedRows afterRows field zeros bytes leading activityFields crewFields arcFields durationsOf demandsOf availableOf withArc arcsUpTo planOf activityCause crewCause arcCause causeAt firstRefusal recordsCause isLength answerOf readOf heaviest needOf demandsFor circlesOf faultOf lentAfter needFor needsFault needNumbers needsOut flowLength
+unfolding row putRow rowTable cells digit bit each run upto first members count sum maximum table grow arcsFrom arcsIn circleIn extended circleOf orderOf orderIn joinedRows afterRows field zeros bytes leading activityFields crewFields arcFields fileDuration fileDemand fileKinds fileAvailable durationsOf demandsOf demandTable availableOf withArc arcsAfter arcsUpTo planOf rule activityCause crewCause arcCause causeAt firstRefusal recordsCause isLength answerOf readOf heaviest needOf demandsFor circlesOf faultOf lentAfter needFor needsFault needNumbers needsOut flowLength
 computes =
     record {
       a-fault = refl;

@@ -3,14 +3,13 @@
 -- OURS KEEPS THE THREE DEMANDS is DemandsHold. Demand 1 is EveryInputHolds and RefusalsHold. Demand 2 is PaperHolds; it rests on CircleCauses (causes 5 and 6), EarliestStarts (starts) and
 -- CrewCheckAnswers (crew check). Demand 3, THE PRICE-LIST SENTENCE, is PriceListHolds; it rests on FileNeeds (needs, sets and crews, in the
 -- file's own terms), FileFlows (flows) and OverloadShown (overload).
--- EqualFlowsHold: plans that say the same get equal flows; it rests on AlikePlans. CasesHold: the starred cases. HollowFail: the hollow planners keep no price list.
+-- EqualFlowsHold: plans that say the same get equal flows. CasesHold: the starred cases. HollowFail: the hollow planners keep no price list.
 -- What the other answers mean, in the file's own terms: CircleFaults (causes 1 to 6), CrewCheckMeaning and CrewFindings (the crew check), AnswersWhen (which case has which answer).
 pub mod FileNeeds
 pub mod FileFlows
 pub mod OverloadShown
 pub mod CircleFaults
 pub mod PriceListHolds
-pub mod AlikePlans
 pub mod EqualFlowsHold
 pub mod AnswersWhen
 pub mod CrewCheckMeaning

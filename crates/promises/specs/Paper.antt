@@ -8,7 +8,7 @@ use Prim.Native.Nat.{ℕ, _+_, _≤_, _<_}
 use lib.ListN.{length, getD, drop}
 use Rattle.order.specs.Before.{Before, Acyclic}
 use Rattle.records.specs.Bytes.{AreBytes}
-use Rattle.plan.specs.Meaning.{Readable, Names, FileArc, fileKinds, fileAvailable, fileDuration}
+use Rattle.plan.specs.Meaning.{Readable, JobArc, FileArc, fileKinds, fileAvailable, fileDuration}
 use Rattle.plan.specs.Records.{activityCount}
 use Rattle.schedule.specs.Lists.{LargestOr0, at}
 use Rattle.schedule.specs.declared.Checked.the-variants.{Fits, Broken, Overload}
@@ -49,11 +49,11 @@ SomeGives P s numbers =
 -- "lowest activity before itself there", where a circle is: activity i + 1
 pub record Circles (P : Planner) (s : List ℕ) : Type 0 where
   -- "circle in the job order | 5"
-  pub five : (i : ℕ) → Lowest (Names s 3) i → EveryGives P s (5 ∷ (i + 1) ∷ [])
-  pub five-means : (i : ℕ) → SomeGives P s (5 ∷ (i + 1) ∷ []) → Lowest (Names s 3) i
+  pub five : (i : ℕ) → Lowest (JobArc s) i → EveryGives P s (5 ∷ (i + 1) ∷ [])
+  pub five-means : (i : ℕ) → SomeGives P s (5 ∷ (i + 1) ∷ []) → Lowest (JobArc s) i
   -- "circle in the plan order only | 6"
-  pub six : (i : ℕ) → Acyclic (Names s 3) → Lowest (FileArc s) i → EveryGives P s (6 ∷ (i + 1) ∷ [])
-  pub six-means : (i : ℕ) → SomeGives P s (6 ∷ (i + 1) ∷ []) → Acyclic (Names s 3) × Lowest (FileArc s) i
+  pub six : (i : ℕ) → Acyclic (JobArc s) → Lowest (FileArc s) i → EveryGives P s (6 ∷ (i + 1) ∷ [])
+  pub six-means : (i : ℕ) → SomeGives P s (6 ∷ (i + 1) ∷ []) → Acyclic (JobArc s) × Lowest (FileArc s) i
 
 -- ---- earliest starts, as Starts writes them to what it is lent: number i is the start of activity i + 1, and number m that of the end
 

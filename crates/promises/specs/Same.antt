@@ -5,20 +5,22 @@ use mathlib.Core.Path.{_≡_}
 use mathlib.Core.List.{List}
 use mathlib.Core.Logic.{_↔_}
 use Prim.Native.Nat.{ℕ, _<_}
-use lib.ListN.{length, take}
-use Rattle.plan.specs.Records.{recordAt, activityCount}
-use Rattle.plan.specs.Meaning.{Readable, Names}
+use lib.ListN.{length}
+use Rattle.plan.specs.Records.{activityCount}
+use Rattle.plan.specs.Meaning.{Readable, fileDuration, fileDemand, fileKinds, fileAvailable, JobArc, ExtraArc}
 use Rattle.promises.specs.Planner.{Planner}
 
 pub record SamePlan (s t : List ℕ) : Type 0 where
-  -- the same activities: as many, with the same records of 24 bytes
+  -- the same activities: as many, with the same durations, and the same demands of each of the eight kinds
   pub count : activityCount s ≡ activityCount t
-  pub activities : (i : ℕ) → i < activityCount s → take 24 (recordAt s i) ≡ take 24 (recordAt t i)
-  -- the same crew record
-  pub crew : take 24 (recordAt s (activityCount s)) ≡ take 24 (recordAt t (activityCount t))
-  -- the same sets of arcs: type 3 are job arcs, type 4 extra arcs
-  pub job : (i j : ℕ) → Names s 3 i j ↔ Names t 3 i j
-  pub extra : (i j : ℕ) → Names s 4 i j ↔ Names t 4 i j
+  pub duration : (i : ℕ) → i < activityCount s → fileDuration s i ≡ fileDuration t i
+  pub demand : (k i : ℕ) → k < 8 → i < activityCount s → fileDemand s k i ≡ fileDemand t k i
+  -- the same crew: as many kinds, with the same availabilities
+  pub kinds : fileKinds s ≡ fileKinds t
+  pub available : (k : ℕ) → k < 8 → fileAvailable s k ≡ fileAvailable t k
+  -- the same sets of arcs
+  pub job : (i j : ℕ) → JobArc s i j ↔ JobArc t i j
+  pub extra : (i j : ℕ) → ExtraArc s i j ↔ ExtraArc t i j
 
 -- "Which such flow is free, but plans with the same .. get equal flows.": whichever kind is asked for and whatever is lent, Flow answers and leaves the same
 abbrev pub EqualFlows : Planner → Type 0

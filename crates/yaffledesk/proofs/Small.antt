@@ -24,7 +24,7 @@ use Rattle.plan.specs.declared.Answer.{Answer}
 use Rattle.plan.specs.declared.Answer.the-variants as answer
 use Rattle.plan.specs.declared.Cause.{Cause as Unread}
 use Rattle.plan.specs.declared.Cause.the-variants.{Length}
-use Rattle.plan.proofs.Refused.{length-says, refused-length, Placed, cause-place, refused-means}
+use Rattle.plan.proofs.Refused.{length-says, refused-length, cause-has, refused-means}
 use Rattle.schedule.specs.Network.{Network}
 use Rattle.schedule.specs.Checks.{Work, brokenTo, brokenFrom, lowestKind, firstPeriod, checkOf}
 use Rattle.schedule.specs.model.Arrays.{crewNet}
@@ -98,16 +98,13 @@ unread-small s c e =
     ⊎-elim
     (λ w. of (w .cause) (omega arith))
     (⊎-elim
-    (λ w. let h = w .1 .there in at (w .0) (omega arith) (cause-place s (w .0) c (w .1 .fault)))
+    (λ w. let h = w .1 .there in cause-has (w .0) (λ x. unreadCode x < 2 ^ 64) (omega arith) (omega arith) (omega arith) s c (w .1 .fault))
     (λ w. of (w .cause) (omega arith)))
     (refused-means s c e))
     (λ wrong. let h = sym (refused-length s wrong) ∙ e in let q : c ≡ Length = cc h in of q (omega arith))
   where
     of : {x : Unread} → c ≡ x → unreadCode x < 2 ^ 64 → unreadCode c < 2 ^ 64
     of q h = subst (λ (x : Unread). unreadCode x < 2 ^ 64) (sym q) h
-
-    at : (p : ℕ) → p ≤ 2048 → Placed p c → unreadCode c < 2 ^ 64
-    at p l = ⊎-elim (λ q. of q (omega arith)) (⊎-elim (λ q. of q (omega arith)) (λ q. of q (omega arith)))
 
 circles-small : (job whole : Order) → SmallFault (circlesOf job whole)
 unfolding circlesOf

@@ -5,7 +5,8 @@ use lib.ListN.{length}
 use borrow.Author.Needs.{needs}
 use Rattle.plan.specs.model.Reads.{readOf}
 use Rattle.plan.specs.Causes.{answerOf}
-use Rattle.plan.proofs.ReaderLoops.{told, told-not, length-high}
+use Rattle.plan.proofs.ReaderLoops.{told, told-not}
+use Rattle.plan.proofs.Refused.{length-says}
 use Rattle.plan.proofs.Phases.{file-read}
 use Rattle.plan.proofs.read.Statement.{statement}
 use Rattle.plan.proofs.read.Tie as tie
@@ -16,7 +17,7 @@ returns c = rw (told-not (c .before .before .is-length .ensures) (c .before .if1
 
 read-file-requires : tie.Need-read-file-requires
 read-file-requires c κs =
-    let h = length-high (length (c .before .before .before .args .s .now)) (told (c .before .is-length .ensures) (c .if1 .left)) in
+    let h = length-says (length (c .before .before .before .args .s .now)) .0 (told (c .before .is-length .ensures) (c .if1 .left)) .1 in
     (omega arith, omega arith)
 
 returns-2 : tie.Need-returns-2

@@ -12,7 +12,8 @@ use Rattle.plan.specs.declared.Answer.the-variants.{Readable, Refused}
 use Rattle.plan.specs.declared.Cause.the-variants.{RecordType}
 use Rattle.plan.specs.declared.Reading.{Reading}
 use Rattle.plan.specs.Records.{recordAt, leading, durationIn, demandIn, availableIn}
-use Rattle.plan.specs.model.Plans.{withArc, emptyPlan}
+use Rattle.plan.specs.model.ArcRows.{arcsAfter}
+use Rattle.plan.specs.model.Plans.{emptyPlan}
 use Rattle.plan.specs.Causes.{activityCause, crewCause, arcCause, firstRefusal}
 
 abbrev pub putDuration : List ℕ → ℕ → List ℕ → List ℕ
@@ -25,9 +26,17 @@ putDemand r i k demands = set demands (elements * k + i) (demandIn r k)
 abbrev pub putDemands : List ℕ → ℕ → List ℕ → List ℕ
 putDemands s i demands = upto (putDemand (recordAt s i) i) 8 demands
 
--- the arc of record i of t
-abbrev pub putArc : List ℕ → ℕ → List ℕ → List ℕ
-putArc t i rows = withArc (recordAt t i) rows
+-- the arcs of a type after record i of t
+abbrev pub putArc : ℕ → List ℕ → ℕ → List ℕ → List ℕ
+putArc type t i rows = arcsAfter type (recordAt t i) rows
+
+-- the cause of record i of t, whose first record is at a place of the file, as an arc of a type among m activities
+abbrev pub arcIn : ℕ → ℕ → ℕ → List ℕ → ℕ → Answer
+arcIn type place m t i = arcCause type (place + i) m (recordAt t i)
+
+-- the first cause among its first n records
+abbrev pub arcsCause : ℕ → ℕ → ℕ → List ℕ → ℕ → Answer
+arcsCause type place m t n = firstRefusal n (arcIn type place m t)
 
 -- ---- the phases
 
@@ -48,8 +57,8 @@ restOf m duration demand (suc n) t =
     let j = leading 3 n arcs in
     let more = drop (24 * j) arcs in
     unlessRefused (crewCause m demand t)
-    (unlessRefused (firstRefusal j (λ i. arcCause 3 (m + 1 + i) m (recordAt arcs i)))
-    (unlessRefused (firstRefusal (n - j) (λ i. arcCause 4 (m + 1 + j + i) m (recordAt more i)))
+    (unlessRefused (arcsCause 3 (m + 1) m arcs j)
+    (unlessRefused (arcsCause 4 (m + 1 + j) m more (n - j))
     (record {
       plan = record {
         count = m;
@@ -57,8 +66,8 @@ restOf m duration demand (suc n) t =
         duration = duration;
         demand = demand;
         available = table 8 (availableIn t);
-        job = upto (putArc arcs) j (replicate (cells elements) 0);
-        extra = upto (putArc more) (n - j) (replicate (cells elements) 0);
+        job = upto (putArc 3 arcs) j (replicate (cells elements) 0);
+        extra = upto (putArc 4 more) (n - j) (replicate (cells elements) 0);
       };
       answer = Readable;
     })))

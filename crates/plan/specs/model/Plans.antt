@@ -1,42 +1,33 @@
--- The plan that a readable file says, field by field. Assumes nothing.
+-- The plan that a readable file says, as tables: of what is in force by Meaning, and of the arcs by ArcRows. Assumes nothing.
 use mathlib.Core.Bool.{cond}
 use mathlib.Core.List.{List}
-use Prim.Native.Nat.{ℕ, zero, suc, _-_, _*_}
-use lib.Dec.{eqb, ltb}
+use Prim.Native.Nat.{ℕ, _*_, _/_, _%_}
+use lib.Dec.{ltb}
 use lib.ListN.{replicate}
-use Rattle.words.specs.Bits.{withBit}
 use Rattle.words.specs.Tables.{table}
-use Rattle.records.specs.Bytes.{byte}
-use Rattle.order.specs.Stored.{elements, cells, row, putRow}
+use Rattle.order.specs.Stored.{elements, cells}
 use Rattle.plan.specs.declared.Plan.{Plan}
-use Rattle.plan.specs.Records.{recordAt, recordCount, typeAt, activityCount, durationIn, availableIn, demandsOf}
+use Rattle.plan.specs.Records.{activityCount}
+use Rattle.plan.specs.Meaning.{fileDuration, fileDemand, fileKinds, fileAvailable}
+use Rattle.plan.specs.model.ArcRows.{arcRows}
 
--- element i's duration is the field of record i, as its demands are (`demandsOf` of Records)
 unfoldable pub durationsOf : List ℕ → List ℕ
-durationsOf s = table elements (λ i. cond (ltb i (activityCount s)) (durationIn (recordAt s i)) 0)
+durationsOf s = table elements (λ i. cond (ltb i (activityCount s)) (fileDuration s i) 0)
 
--- the availabilities are the fields of the crew record
+-- the demand of element i for kind k + 1 stands at elements * k + i. (`demandsOf` of Records, which the crew record is checked by, goes by the activity records.)
+unfoldable pub demandTable : List ℕ → List ℕ
+demandTable s = table (8 * elements) (λ x. cond (ltb (x % elements) (activityCount s)) (fileDemand s (x / elements) (x % elements)) 0)
+
 unfoldable pub availableOf : List ℕ → List ℕ
-availableOf s = table 8 (availableIn (recordAt s (activityCount s)))
-
--- the arcs of a type, as a table of sets: each record of that type puts (to - 1) into the set in row (from - 1). "Repeated arcs are allowed and count once."
-unfoldable pub withArc : List ℕ → List ℕ → List ℕ
-withArc r rows = putRow rows (byte r 1 - 1) (withBit (row rows (byte r 1 - 1)) (byte r 2 - 1))
-
-unfoldable pub arcsUpTo : List ℕ → ℕ → ℕ → List ℕ
-arcsUpTo s type zero = replicate (cells elements) 0
-arcsUpTo s type (suc p) = cond (eqb (typeAt s p) type) (withArc (recordAt s p) (arcsUpTo s type p)) (arcsUpTo s type p)
-
-abbrev pub arcRows : List ℕ → ℕ → List ℕ
-arcRows s type = arcsUpTo s type (recordCount s)
+availableOf s = table 8 (fileAvailable s)
 
 unfoldable pub planOf : List ℕ → Plan
 planOf s =
     record {
       count = activityCount s;
-      kinds = byte (recordAt s (activityCount s)) 1;
+      kinds = fileKinds s;
       duration = durationsOf s;
-      demand = demandsOf s;
+      demand = demandTable s;
       available = availableOf s;
       job = arcRows s 3;
       extra = arcRows s 4;

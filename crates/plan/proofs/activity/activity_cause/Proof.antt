@@ -1,4 +1,4 @@
--- `plan::activity::activity_cause` meets its contract: each `return` rewrites with the tests and the calls that led there. Assumes nothing.
+-- `plan::activity::activity_cause` meets its contract: it rewrites with the calls, each one the next rule of the chain. Assumes nothing.
 use borrow.Author.Needs.{needs}
 use Rattle.plan.specs.Causes.{activityCause}
 use Rattle.plan.proofs.activity.activity_cause.Statement.{statement}
@@ -6,8 +6,16 @@ use Rattle.plan.proofs.activity.activity_cause.Tie as tie
 
 returns : tie.Need-returns
 unfolding activityCause
-returns c = simp (c .first-cause .ensures, c .before .all-zero .ensures, c .before .before .activity-fields .ensures)
+returns c =
+    let fields = c .before .before in
+    simp (c .rule2 .ensures, c .before .all-zero .ensures, fields .rule .ensures, fields .before .activity-fields .ensures)
 
 pub activity-cause-spec : {M : Type 1} → statement M
 activity-cause-spec =
-    tie.close (tie.spec (λ c κs. search needs) (λ c κs. search needs) (λ c κs. search needs) returns)
+    tie.close
+    (tie.spec
+    (λ c κs. search needs)
+    (λ c κs. search needs)
+    (λ c κs. search needs)
+    (λ c κs. search needs)
+    returns)

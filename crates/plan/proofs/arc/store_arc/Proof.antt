@@ -1,49 +1,9 @@
--- `plan::arc::store_arc` meets its contract, by what the fields of the record say of its ends. Assumes nothing.
-use native.Mathlib.Omega.{arith}
-use lib.ListN.{getD}
+-- `plan::arc::store_arc` meets its contract. Assumes nothing.
 use borrow.Author.Needs.{needs}
-use Rattle.order.specs.Stored.{elements}
 use Rattle.order.proofs.Stored.{number-of}
-use Rattle.plan.specs.model.Plans.{withArc}
-use Rattle.plan.proofs.RecordRules.{end-low, end-high}
-use Rattle.plan.proofs.ReaderLoops.{arc-from, arc-to}
+use Rattle.plan.specs.model.ArcRows.{withArc}
 use Rattle.plan.proofs.arc.store_arc.Statement.{statement}
 use Rattle.plan.proofs.arc.store_arc.Tie as tie
-
-sub-i : tie.Need-sub-i
-sub-i c =
-    let start = c .before .before .before in
-    let r = start .args .r .now in
-    let l = end-low elements (getD r 1 0) (arc-from elements r (start .pre .1)) in
-    omega arith
-
-sub-j : tie.Need-sub-j
-sub-j c =
-    let start = c .before .before .before .before .before in
-    let r = start .args .r .now in
-    let l = end-low elements (getD r 2 0) (arc-to elements r (start .pre .1)) in
-    omega arith
-
-row-requires : tie.Need-row-requires
-row-requires c κs =
-    let start = c .before .before .before .before .before .before in
-    let r = start .args .r .now in
-    let l = end-high elements (getD r 1 0) (arc-from elements r (start .pre .1)) in
-    omega arith
-
-with-requires : tie.Need-with-requires
-with-requires c κs =
-    let start = c .before .before .before .before .before .before .before in
-    let r = start .args .r .now in
-    let l = end-high elements (getD r 2 0) (arc-to elements r (start .pre .1)) in
-    omega arith
-
-put-row-requires : tie.Need-put-row-requires
-put-row-requires c κs =
-    let start = c .before .before .before .before .before .before .before .before .before in
-    let r = start .args .r .now in
-    let l = end-high elements (getD r 1 0) (arc-from elements r (start .pre .1)) in
-    omega arith
 
 returns : tie.Need-returns
 unfolding withArc
@@ -60,11 +20,11 @@ store-arc-spec =
     (tie.spec
     (λ c. search needs)
     (λ c κs. search needs)
-    sub-i
+    (λ c. search needs)
     (λ c. search needs)
     (λ c κs. search needs)
-    sub-j
-    row-requires
-    with-requires
-    put-row-requires
+    (λ c. search needs)
+    (λ c κs. search needs)
+    (λ c κs. search needs)
+    (λ c κs. search needs)
     returns)

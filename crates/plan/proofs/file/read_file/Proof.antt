@@ -3,7 +3,7 @@ use native.Mathlib.Omega.{arith}
 use borrow.Author.Needs.{needs}
 use Rattle.plan.specs.model.Phases.{fileOf}
 use Rattle.records.proofs.Steps.{rest-of}
-use Rattle.plan.proofs.ReaderLoops.{length-rest, few-activities, accepted, then-on, then-refused}
+use Rattle.plan.proofs.ReaderLoops.{length-rest, run-few, accepted, then-on, then-refused}
 use Rattle.plan.proofs.file.read_file.Statement.{statement}
 use Rattle.plan.proofs.file.read_file.Tie as tie
 
@@ -18,7 +18,7 @@ store-durations-requires c κs =
     let found = c .before .before .before in
     let count = found .before in
     let a = count .before .before .args in
-    let h = few-activities (count .leading-records .result) (a .s .now) (accepted (found .activities-cause .ensures) (c .before .before .is-readable .ensures) (c .before .if1 .left)) in
+    let h = run-few (count .leading-records .result) (a .s .now) (accepted (found .activities-cause .ensures) (c .before .before .is-readable .ensures) (c .before .if1 .left)) in
     (omega arith, omega arith)
 
 read-rest-requires : tie.Need-read-rest-requires
@@ -27,7 +27,7 @@ read-rest-requires c κs =
     let found = test .before .before in
     let count = found .before in
     let a = count .before .before .args in
-    let h = few-activities (count .leading-records .result) (a .s .now) (accepted (found .activities-cause .ensures) (test .before .is-readable .ensures) (test .if1 .left)) in
+    let h = run-few (count .leading-records .result) (a .s .now) (accepted (found .activities-cause .ensures) (test .before .is-readable .ensures) (test .if1 .left)) in
     (rw length-rest (omega arith), omega arith, omega arith)
 
 returns-2 : tie.Need-returns-2
