@@ -10,4 +10,5 @@ pub mod Phases
 pub mod ReaderLoops
 pub mod Said
 pub mod Refused
+pub mod CausePlaces
 pub mod Cases

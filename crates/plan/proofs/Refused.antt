@@ -1,6 +1,6 @@
 -- What a refusal means in plain words, and which files are refused and read. Assumes nothing.
 use mathlib.Core.Path.{_≡_, refl, sym, ap, _∙_}
-use mathlib.Core.Bool.{Bool, true, false, cond, _&&_, false≢true}
+use mathlib.Core.Bool.{Bool, true, false, _&&_, false≢true}
 use mathlib.Core.List.{List}
 use mathlib.Core.Logic.{_⊎_, inl, inr, ⊎-elim, _↔_, _≢_}
 use Prim.Native.Nat.{ℕ, _%_, _≤_, _<_}
@@ -8,14 +8,13 @@ use native.Mathlib.Omega.{arith}
 use lib.ListN.{length}
 use lib.Dec.{eqb, leb, ltb}
 use borrow.Author.Tests.{ltb-true, leb-true, eqb-true, lt-ltb, le-leb, eq-eqb}
-use Rattle.words.proofs.Tests.{by-test, and-left, and-right, and-both, cond-true, cond-false, cond-has}
+use Rattle.words.proofs.Tests.{by-test, and-left, and-right, and-both, cond-true, cond-false}
 use Rattle.plan.specs.declared.Answer.{Answer}
 use Rattle.plan.specs.declared.Answer.the-variants.{Readable, Refused}
 use Rattle.plan.specs.declared.Cause.{Cause}
-use Rattle.plan.specs.declared.Cause.the-variants.{Length, RecordType, Field, Spare}
-use Rattle.plan.specs.Records.{recordAt, recordCount, typeAt, activityCount, dueType, activityFields, activitySpare, crewFields, crewSpare, arcFields, arcSpare, demandsOf}
-use Rattle.records.specs.Bytes.{byte}
-use Rattle.plan.specs.Causes.{firstCause, isReadable, activityCause, crewCause, arcCause, causeAt, firstRefusal, followedBy, crewThere, recordsCause, isLength, answerOf}
+use Rattle.plan.specs.declared.Cause.the-variants.{Length, RecordType}
+use Rattle.plan.specs.Records.{recordCount, typeAt, activityCount}
+use Rattle.plan.specs.Causes.{isReadable, causeAt, firstRefusal, followedBy, crewThere, recordsCause, isLength, answerOf}
 use Rattle.plan.specs.Meaning
 use Rattle.plan.specs.Refused.{WrongLength, FirstFault, CrewMissing}
 use Rattle.plan.proofs.Refusals.{none-refused, refused-first, first-refused, all-readable}
@@ -43,32 +42,6 @@ answer-records s e = cond-true (recordsCause s) (Refused Length) e
 pub refused-length : (s : List ℕ) → isLength (length s) ≡ false → answerOf s ≡ Refused Length
 unfolding answerOf
 refused-length s e = cond-false (recordsCause s) (Refused Length) e
-
--- ---- the place of a cause: a refusal at a record is a wrong type, field or spare byte of that record
-
-abbrev pub Placed : ℕ → Cause → Type 0
-Placed p c = (c ≡ RecordType p) ⊎ ((c ≡ Field p) ⊎ (c ≡ Spare p))
-
-first-cause-place : (t f s : Bool) (place : ℕ) (c : Cause) → firstCause t f s place ≡ Refused c → Placed place c
-first-cause-place true true true place c e = absurd (let z : _≡_ {A = ℕ} 0 1 = cc in omega arith)
-first-cause-place true true false place c e = inr (inr (cc))
-first-cause-place true false s place c e = inr (inl (cc))
-first-cause-place false f s place c e = inl (cc)
-
-pub cause-place : (s : List ℕ) (p : ℕ) (c : Cause) → causeAt s p ≡ Refused c → Placed p c
-unfolding causeAt activityCause crewCause arcCause
-cause-place s p c =
-    let m : ℕ = activityCount s in
-    let r : List ℕ = recordAt s p in
-    cond-has P (ltb p m) (activityCause p r) (cond (eqb p m) (crewCause p (demandsOf s) r) (arcCause (dueType s p) p m r))
-    (λ t. first-cause-place true (activityFields p r) (activitySpare r) p c)
-    (λ t.
-    cond-has P (eqb p m) (crewCause p (demandsOf s) r) (arcCause (dueType s p) p m r)
-    (λ u. first-cause-place (eqb (byte r 0) 2) (crewFields (demandsOf s) r) (crewSpare r) p c)
-    (λ u. first-cause-place (eqb (byte r 0) (dueType s p)) (arcFields m r) (arcSpare r) p c))
-  where
-    P : Answer → Type 0
-    P a = a ≡ Refused c → Placed p c
 
 -- ---- which files are refused and read
 
