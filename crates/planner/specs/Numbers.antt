@@ -1,6 +1,6 @@
 -- "Where an answer is an enum, the promises use a definition. That definition gives this paper's number and values for each of the enum's cases." (01, Code places and
--- their forms): `refusalOf` for the causes, by the table of causes, `numbersOf` as a list, and on top of it one definition for each answer. 01 numbers the refusals alone, 1 to 10; a result
--- has 0 in front here, and the two findings of Crew check have 254 and 255, as at the counter. Assumes nothing.
+-- their forms): `refusalOf` for the causes, by the table of causes, `numbersOf` as a list, and on top of it one definition for each answer. 01 numbers the refusals
+-- alone, 1 to 10; a result has 0 in front here, and the two findings of Crew check have 254 and 255, as at the counter. Assumes nothing.
 use mathlib.Core.List.{List, [], _∷_}
 use Prim.Native.Nat.{ℕ}
 use lib.ListN.{getD, take}

@@ -8,12 +8,13 @@ use lib.ListN.{length, set, take, length-set}
 use lib.Seq.{length-take-le}
 use Rattle.lines.specs.Text.{lineOf, text, more}
 use Rattle.lines.proofs.Texts.{grown, line-length}
-use Rattle.order.specs.Stored.{elements, bound}
-use Rattle.order.proofs.Stored.{in-bound}
+use Rattle.order.specs.Stored.{elements, bound, numberOf, noSet}
+use Rattle.order.proofs.Stored.{in-bound, number-none}
 use Rattle.words.specs.Bits.{bit, rest}
 use Rattle.words.specs.Members.{first, lead, members}
 use Rattle.words.proofs.Members.{members-none, members-more}
-use Rattle.report_lines.specs.Lines.{refusedWord, slots, refusedRoom}
+use Rattle.planner.specs.Numbers.{plain}
+use Rattle.report_lines.specs.Lines.{refusedWord, refusalNumbers, slots, refusedRoom}
 
 -- ---- numbers at the front
 
@@ -31,6 +32,13 @@ values-first (x ∷ y ∷ z ∷ xs) a b c (suc zero) h = refl
 values-first (x ∷ y ∷ z ∷ xs) a b c (suc (suc v)) h =
     let two : min (suc (suc v)) 2 ≡ 2 = omega arith in
     ap (λ (n : ℕ). take (1 + n) (a ∷ b ∷ c ∷ xs)) two ∙ ap (λ (l : List ℕ). a ∷ b ∷ c ∷ l) (sym (take-none v))
+
+-- a refusal that shows no set: its number and its plain values alone
+pub plain-numbers : (number values first second : ℕ) → refusalNumbers (plain number values first second) ≡ number ∷ take values (first ∷ second ∷ [])
+plain-numbers number values first second =
+    let none : members elements (numberOf noSet) ≡ [] = ap (members elements) number-none ∙ members-none elements in
+    ap (λ (l : List ℕ). number ∷ (take values (first ∷ second ∷ []) ++ map suc l)) none
+    ∙ ap (λ (l : List ℕ). number ∷ l) (append-nil (take values (first ∷ second ∷ [])))
 
 -- ---- the members of a set
 

@@ -58,7 +58,8 @@ flowLines n records = joined (λ i. lineOf flowWord (flowNumbers (drop (24 * i) 
 -- ---- "A refused plan prints one line: `refused`, the number, then nothing (1), place (2–4), activity (5, 6), or kind, need and members ascending (7).
 -- A number added later is followed by what it returns."
 
--- whatever the cause: its number, its plain values, and the members of its set, as activities. (Where it shows no set, there are no members.)
+-- whatever the cause: its number, its plain values, and the members of its set, as activities. (Where it shows no set, there are no members: `plain-numbers`
+-- of proofs/RefusalLine.antt.)
 abbrev pub refusalNumbers : Refusal → List ℕ
 refusalNumbers r = r .number ∷ (take (r .values) (r .first ∷ r .second ∷ []) ++ map suc (members elements (numberOf (r .set))))
 
