@@ -12,8 +12,7 @@ use Rattle.words.proofs.Counts.{count-le}
 use Rattle.words.proofs.Tests.{cond-has, cond-least}
 use Rattle.records.specs.Bytes.{AreBytes}
 use Rattle.order.specs.Stored.{elements}
-use Rattle.order.specs.Sets.{member, sizeOf}
-use Rattle.order.specs.declared.Set.{Set}
+use Rattle.order.specs.Sets.{member}
 use Rattle.schedule.specs.Network.{Network}
 use Rattle.schedule.specs.Checks.{Work, brokenTo, brokenFrom, lowestKind, firstPeriod, checkOf}
 use Rattle.schedule.specs.model.Arrays.{crewNet}
@@ -43,14 +42,10 @@ use Rattle.planner.proofs.CrewCheckLaws.{crew-fine}
 use Rattle.planner.proofs.RefusalBounds.{Small, SmallFault, verdict-refuses, needs-refuses, starts-refuses, overload-refuses, flow-refuses, crew-refuses}
 use Rattle.yaffledesk.specs.Codes.{refusalCode, verdictCode, outputCode, foundCode, crewCheckCode, shownWord}
 
--- ---- a refusal, by what it tells
-
--- a set has at most all members
-size-few : (S : Set) {n : ℕ} → n ≡ sizeOf S → n ≤ elements
-size-few S e = omega (arith, e, count-le elements (member S))
+-- ---- a refusal, by what it tells: a set has at most all members
 
 refusal-small : (r : Refusal) → Small r → refusalCode r < 2 ^ 64
-refusal-small r h = omega (arith, h .number, h .first, h .second, size-few (r .set) refl)
+refusal-small r h = omega (arith, h .number, h .first, h .second, count-le elements (member (r .set)))
 
 -- ---- Verdict, and the set that it shows
 
