@@ -11,3 +11,4 @@ pub mod ReaderLoops
 pub mod NamedArcs
 pub mod Said
 pub mod Refused
+pub mod CausePlaces

@@ -1,6 +1,6 @@
--- What a refusal means in plain words. Assumes nothing.
-use mathlib.Core.Path.{_≡_, refl, sym, ap, _∙_, subst}
-use mathlib.Core.Bool.{Bool, true, false, cond, _&&_, false≢true}
+-- What a refusal means in plain words, and which files are refused and read. Assumes nothing.
+use mathlib.Core.Path.{_≡_, refl, sym, ap, _∙_}
+use mathlib.Core.Bool.{Bool, true, false, _&&_, false≢true}
 use mathlib.Core.List.{List}
 use mathlib.Core.Logic.{_⊎_, inl, inr, ⊎-elim, _↔_, _≢_}
 use Prim.Native.Nat.{ℕ, _%_, _≤_, _<_}
@@ -8,13 +8,13 @@ use native.Mathlib.Omega.{arith}
 use lib.ListN.{length}
 use lib.Dec.{eqb, leb, ltb}
 use borrow.Author.Tests.{ltb-true, leb-true, eqb-true, lt-ltb, le-leb, eq-eqb}
-use Rattle.words.proofs.Tests.{by-test, and-left, and-right, and-both, cond-true, cond-false, cond-has}
+use Rattle.words.proofs.Tests.{by-test, and-left, and-right, and-both, cond-true, cond-false}
 use Rattle.plan.specs.declared.Answer.{Answer}
 use Rattle.plan.specs.declared.Answer.the-variants.{Readable, Refused}
 use Rattle.plan.specs.declared.Cause.{Cause}
-use Rattle.plan.specs.declared.Cause.the-variants.{Length, RecordType, Field, Spare}
-use Rattle.plan.specs.Records.{recordAt, recordCount, typeAt, activityCount, dueType, demandsOf}
-use Rattle.plan.specs.Causes.{rule, isReadable, activityCause, crewCause, arcCause, causeAt, firstRefusal, followedBy, crewThere, recordsCause, isLength, answerOf}
+use Rattle.plan.specs.declared.Cause.the-variants.{Length, RecordType}
+use Rattle.plan.specs.Records.{recordCount, typeAt, activityCount}
+use Rattle.plan.specs.Causes.{isReadable, causeAt, firstRefusal, followedBy, crewThere, recordsCause, isLength, answerOf}
 use Rattle.plan.specs.Meaning
 use Rattle.plan.specs.Refused.{WrongLength, FirstFault, CrewMissing}
 use Rattle.plan.proofs.Refusals.{first-refused, all-readable}
@@ -43,44 +43,7 @@ pub refused-length : (s : List ℕ) → isLength (length s) ≡ false → answer
 unfolding answerOf
 refused-length s e = cond-false (recordsCause s) (Refused Length) e
 
--- ---- what all causes of a record have in common
-
-module _ (p : ℕ) (P : Cause → Type 0) (typed : P (RecordType p)) (fields : P (Field p)) (spare : P (Spare p)) where
-  -- an answer whose cause, if it has one, has it
-  abbrev Has : Answer → Type 0
-  Has Readable = Unit {0}
-  Has (Refused c) = P c
-
-  rule-has : (answer : Answer) (kept : Bool) (cause : Cause) → Has answer → P cause → Has (rule answer kept cause)
-  unfolding rule
-  rule-has Readable true cause h k = tt
-  rule-has Readable false cause h k = k
-  rule-has (Refused c) kept cause h k = h
-
-  activity-has : (r : List ℕ) → Has (activityCause p r)
-  unfolding activityCause
-  activity-has r = rule-has _ _ (Spare p) (rule-has _ _ (Field p) tt fields) spare
-
-  crew-has : (demand r : List ℕ) → Has (crewCause p demand r)
-  unfolding crewCause
-  crew-has demand r = rule-has _ _ (Spare p) (rule-has _ _ (Field p) (rule-has _ _ (RecordType p) tt typed) fields) spare
-
-  arc-has : (type m : ℕ) (r : List ℕ) → Has (arcCause type p m r)
-  unfolding arcCause
-  arc-has type m r = rule-has _ _ (Spare p) (rule-has _ _ (Field p) (rule-has _ _ (RecordType p) tt typed) fields) spare
-
-  pub cause-has : (s : List ℕ) (c : Cause) → causeAt s p ≡ Refused c → P c
-  unfolding causeAt
-  cause-has s c e =
-      let m : ℕ = activityCount s in
-      let r : List ℕ = recordAt s p in
-      let crew : Answer = crewCause p (demandsOf s) r in
-      let arc : Answer = arcCause (dueType s p) p m r in
-      subst Has e
-      (cond-has Has (ltb p m) (activityCause p r) (cond (eqb p m) crew arc) (λ t. activity-has r)
-      (λ t. cond-has Has (eqb p m) crew arc (λ u. crew-has (demandsOf s) r) (λ u. arc-has (dueType s p) m r)))
-
--- ---- what a refusal means
+-- ---- which files are refused and read
 
 -- each record is an activity, so the crew record is missing
 pub all-activities : (s : List ℕ) → ((p : ℕ) → p < recordCount s → typeAt s p ≡ 1) ↔ (activityCount s ≡ recordCount s)

@@ -5,12 +5,14 @@ mod checks;
 mod crew;
 mod field;
 mod file;
+mod numbers;
 
 ghost use mathlib.Core.Path.{_≡_};
 ghost use Rattle.plan.specs.model.Reads.{readOf};
 use file::is_length;
 use file::read_file;
 use file::refusal;
+pub use numbers::told_by;
 use order::ELEMENTS;
 use order::Rows;
 
@@ -35,6 +37,13 @@ pub enum Cause {
     RecordType(usize),
     Field(usize),
     Spare(usize),
+}
+
+// What a cause tells: its number in document 01, how many values are returned with it (0 or 1), and the place of the record, which is the value.
+pub struct Told {
+    pub number: u64,
+    pub values: usize,
+    pub place: usize,
 }
 
 pub enum Answer {

@@ -2,7 +2,7 @@
 --
 -- FaultLaws (causes in turn), OutputLaws (answers and lent memory), OpenLaws (the causes 1 to 6), FileOrders (arcs, orders and starts, in the file's own terms), QuotedNeeds
 -- (needs and overload), FlowUnits (flows), and for each operation one: VerdictLaws (Verdict), NeedsLaws (Needs), StartsLaws, FlowLaws (Flow), OverloadLaws (Overload),
--- CrewCheckLaws (Crew check).
+-- CrewCheckLaws (Crew check); RefusalBounds (what a refusal tells is small).
 pub mod FaultLaws
 pub mod OutputLaws
 pub mod OpenLaws
@@ -15,3 +15,4 @@ pub mod VerdictLaws
 pub mod NeedsLaws
 pub mod OverloadLaws
 pub mod FlowLaws
+pub mod RefusalBounds

@@ -1,9 +1,11 @@
 // The operations of the planner, each on the plan's bytes. Every operation has a file in `ops`: it opens the plan (`open`), looks for its own causes
 // in turn, and gives a fault and a value, which become its answer at the surface (`answer`).
 mod answer;
+mod numbers;
 mod open;
 mod ops;
 
+pub use numbers::refusal_of;
 pub use ops::crew_check::crew_check;
 pub use ops::flow::flow;
 pub use ops::needs::needs;
@@ -31,6 +33,15 @@ pub enum Cause {
     Short(usize),
     // The lists are not m long, or a worked duration is 0, 10: m.
     Lists(usize),
+}
+
+// What a refusal tells: document 01's number of its cause, and how many of the values after it are returned: two plain ones, a set, and the set's size.
+pub struct Refusal {
+    pub number: u64,
+    pub values: usize,
+    pub first: u64,
+    pub second: u64,
+    pub set: order::Set,
 }
 
 // Whether an operation goes on, or refuses.

@@ -1,36 +1,44 @@
 -- The numbers of a refused plan's line: they are written to the front of a list that has room for them. Assumes nothing.
 use mathlib.Core.Path.{_≡_, refl, sym, ap, _∙_}
 use mathlib.Core.List.{List, [], _∷_, _++_, map, append-nil}
-use Prim.Native.Nat.{ℕ, zero, suc, _+_, _/_, _%_, _≤_, _<_}
+use Prim.Native.Nat.{ℕ, zero, suc, min, _+_, _/_, _%_, _≤_, _<_}
 use native.Mathlib.Omega.{arith}
 use native.Mathlib.Numerals.{add-one}
 use lib.ListN.{length, set, take, length-set}
 use lib.Seq.{length-take-le}
 use Rattle.lines.specs.Text.{lineOf, text, more}
 use Rattle.lines.proofs.Texts.{grown, line-length}
-use Rattle.order.specs.Stored.{elements, bound}
-use Rattle.order.proofs.Stored.{in-bound}
+use Rattle.order.specs.Stored.{elements, bound, numberOf, noSet}
+use Rattle.order.proofs.Stored.{in-bound, number-none}
 use Rattle.words.specs.Bits.{bit, rest}
 use Rattle.words.specs.Members.{first, lead, members}
 use Rattle.words.proofs.Members.{members-none, members-more}
-use Rattle.report_lines.specs.Lines.{refusedWord, slots, refusedRoom}
+use Rattle.planner.specs.Numbers.{plain}
+use Rattle.report_lines.specs.Lines.{refusedWord, refusalNumbers, slots, refusedRoom}
 
 -- ---- numbers at the front
 
-pub one-first : (xs : List ℕ) (a : ℕ) → slots ≤ length xs → take 1 (set xs 0 a) ≡ a ∷ []
-one-first [] a h = absurd (omega arith)
-one-first (x ∷ xs) a h = refl
+take-none : (n : ℕ) → take {A = ℕ} n [] ≡ []
+take-none zero = refl
+take-none (suc n) = refl
 
-pub two-first : (xs : List ℕ) (a b : ℕ) → slots ≤ length xs → take 2 (set (set xs 0 a) 1 b) ≡ a ∷ b ∷ []
-two-first [] a b h = absurd (omega arith)
-two-first (x ∷ []) a b h = absurd (omega arith)
-two-first (x ∷ y ∷ xs) a b h = refl
+-- a number and two values are written; as many of the values stay as are returned
+pub values-first : (xs : List ℕ) (a b c v : ℕ) → slots ≤ length xs → take (1 + min v 2) (set (set (set xs 0 a) 1 b) 2 c) ≡ a ∷ take v (b ∷ c ∷ [])
+values-first [] a b c v h = absurd (omega arith)
+values-first (x ∷ []) a b c v h = absurd (omega arith)
+values-first (x ∷ y ∷ []) a b c v h = absurd (omega arith)
+values-first (x ∷ y ∷ z ∷ xs) a b c zero h = refl
+values-first (x ∷ y ∷ z ∷ xs) a b c (suc zero) h = refl
+values-first (x ∷ y ∷ z ∷ xs) a b c (suc (suc v)) h =
+    let two : min (suc (suc v)) 2 ≡ 2 = omega arith in
+    ap (λ (n : ℕ). take (1 + n) (a ∷ b ∷ c ∷ xs)) two ∙ ap (λ (l : List ℕ). a ∷ b ∷ c ∷ l) (sym (take-none v))
 
-pub three-first : (xs : List ℕ) (a b c : ℕ) → slots ≤ length xs → take 3 (set (set (set xs 0 a) 1 b) 2 c) ≡ a ∷ b ∷ c ∷ []
-three-first [] a b c h = absurd (omega arith)
-three-first (x ∷ []) a b c h = absurd (omega arith)
-three-first (x ∷ y ∷ []) a b c h = absurd (omega arith)
-three-first (x ∷ y ∷ z ∷ xs) a b c h = refl
+-- a refusal that shows no set: its number and its plain values alone
+pub plain-numbers : (number values first second : ℕ) → refusalNumbers (plain number values first second) ≡ number ∷ take values (first ∷ second ∷ [])
+plain-numbers number values first second =
+    let none : members elements (numberOf noSet) ≡ [] = ap (members elements) number-none ∙ members-none elements in
+    ap (λ (l : List ℕ). number ∷ (take values (first ∷ second ∷ []) ++ map suc l)) none
+    ∙ ap (λ (l : List ℕ). number ∷ l) (append-nil (take values (first ∷ second ∷ [])))
 
 -- ---- the members of a set
 
@@ -55,17 +63,17 @@ take-set b ys zero (x ∷ xs) h = refl
 take-set b ys (suc n) [] h = absurd (omega arith)
 take-set b ys (suc n) (x ∷ xs) h = ap (λ (l : List ℕ). x ∷ l) (take-set b ys n xs (omega arith))
 
--- n numbers are written: three, and the members that are not left
-pub record Listed (set : ℕ) (old : List ℕ) (n left : ℕ) (numbers : List ℕ) : Type 0 where
+-- n numbers are written: the first k, and the members that are not left
+pub record Listed (k set : ℕ) (old : List ℕ) (n left : ℕ) (numbers : List ℕ) : Type 0 where
   pub long : length numbers ≡ length old
   pub room : n + length (members elements left) ≤ slots
-  pub done : take n numbers ++ map suc (members elements left) ≡ take 3 old ++ map suc (members elements set)
+  pub done : take n numbers ++ map suc (members elements left) ≡ take k old ++ map suc (members elements set)
 
-module _ (word : ℕ) (old : List ℕ) where
-  pub listed-none : Listed word old 3 word old
-  listed-none = record { long = refl; room = omega (arith, length-members elements word); done = refl }
+module _ (k word : ℕ) (old : List ℕ) where
+  pub listed-none : k ≤ 3 → Listed k word old k word old
+  listed-none few = record { long = refl; room = omega (arith, length-members elements word); done = refl }
 
-  module _ (n left : ℕ) (numbers : List ℕ) (l : Listed word old n left numbers) where
+  module _ (n left : ℕ) (numbers : List ℕ) (l : Listed k word old n left numbers) where
     some-more : (left ≡ 0 → ⊥) → left < bound → members elements left ≡ first elements (bit left) ∷ members elements (rest left)
     some-more h fits = members-more elements left (omega arith) (in-bound fits)
 
@@ -73,7 +81,7 @@ module _ (word : ℕ) (old : List ℕ) where
     listed-room h fits = omega (arith, l .room, ap length (some-more h fits))
 
     pub listed-next : (left ≡ 0 → ⊥) → left < bound → slots ≤ length old → {b v : ℕ} → b ≡ first elements (bit left) → v ≡ rest left
-        → Listed word old (n + 1) v (set numbers n (b + 1))
+        → Listed k word old (n + 1) v (set numbers n (b + 1))
     listed-next h fits enough {b} {v} low next =
         let m = some-more h fits in
         let e : n < length numbers = omega (arith, l .long, listed-room h fits) in
@@ -87,7 +95,7 @@ module _ (word : ℕ) (old : List ℕ) where
               t ∙ ap (λ (xs : List ℕ). take n numbers ++ xs) c ∙ l .done;
         }
 
-    pub listed-end : left ≡ 0 → (n ≤ slots) × (take n numbers ≡ take 3 old ++ map suc (members elements word))
+    pub listed-end : left ≡ 0 → (n ≤ slots) × (take n numbers ≡ take k old ++ map suc (members elements word))
     listed-end z =
         let none : members elements left ≡ [] = rw z (members-none elements) in
         (omega (arith, l .room), sym (append-nil (take n numbers)) ∙ ap (λ (xs : List ℕ). take n numbers ++ map suc xs) (sym none) ∙ l .done)

@@ -2,16 +2,16 @@
 -- mark. Kinds ascend." Every line ends in a newline. Assumes nothing.
 use mathlib.Core.List.{List, [], _∷_, _++_, map}
 use Prim.Native.Nat.{ℕ, suc, _+_, _*_}
-use lib.ListN.{getD, drop}
+use lib.ListN.{getD, take, drop}
 use Rattle.words.specs.Members.{members}
 use Rattle.order.specs.Stored.{elements, numberOf}
 use Rattle.records.specs.Bytes.{byte, field}
 use Rattle.records.specs.Records.{joined}
 use Rattle.lines.specs.Text.{lineOf}
 use Rattle.plan.specs.Records.{activities}
-use Rattle.planner.specs.Numbers.{numbersOf}
+use Rattle.planner.specs.Numbers.{refusalOf}
 use Rattle.planner.specs.declared.Cause.{Cause}
-use Rattle.planner.specs.declared.Cause.the-variants.{Unreadable, JobCircle, PlanCircle, Overloaded, NoKind, Short, Lists}
+use Rattle.planner.specs.declared.Refusal.{Refusal}
 
 -- plan, need, start, end, flow, refused
 abbrev pub planWord : List ℕ
@@ -58,14 +58,13 @@ flowLines n records = joined (λ i. lineOf flowWord (flowNumbers (drop (24 * i) 
 -- ---- "A refused plan prints one line: `refused`, the number, then nothing (1), place (2–4), activity (5, 6), or kind, need and members ascending (7).
 -- A number added later is followed by what it returns."
 
+-- whatever the cause: its number, its plain values, and the members of its set, as activities. (Where it shows no set, there are no members: `plain-numbers`
+-- of proofs/RefusalLine.antt.)
+abbrev pub refusalNumbers : Refusal → List ℕ
+refusalNumbers r = r .number ∷ (take (r .values) (r .first ∷ r .second ∷ []) ++ map suc (members elements (numberOf (r .set))))
+
 abbrev pub refusedNumbers : Cause → List ℕ
-refusedNumbers (Unreadable c) = numbersOf (Unreadable c)
-refusedNumbers (JobCircle i) = 5 ∷ i ∷ []
-refusedNumbers (PlanCircle i) = 6 ∷ i ∷ []
-refusedNumbers (Overloaded k need set) = 7 ∷ k ∷ need ∷ map suc (members elements (numberOf set))
-refusedNumbers (NoKind n) = 8 ∷ n ∷ []
-refusedNumbers (Short n) = 9 ∷ n ∷ []
-refusedNumbers (Lists m) = 10 ∷ m ∷ []
+refusedNumbers c = refusalNumbers (refusalOf c)
 
 -- no cause has more numbers, and so many bytes have room for its line
 abbrev pub slots : ℕ

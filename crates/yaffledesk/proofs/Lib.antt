@@ -1,4 +1,3 @@
--- Laws of the answers as numbers: Small (each has 64 bits), SetWord (so has the set shown), Numbers (the low 8 bits are document 01's number).
+-- Laws of the answers as numbers: Small (each has 64 bits, and so has the set shown), Numbers (the low 8 bits are document 01's number).
 pub mod Small
-pub mod SetWord
 pub mod Numbers

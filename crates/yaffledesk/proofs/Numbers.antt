@@ -1,26 +1,23 @@
--- The low 8 bits of a refusal's code are document 01's number of its cause. Assumes nothing.
-use mathlib.Core.Path.{_≡_}
-use Prim.Native.Nat.{_%_}
+-- What stands in a refusal's code. Assumes nothing.
+use mathlib.Core.Path.{_≡_, ap, _∙_}
+use Prim.Native.Nat.{ℕ, _%_}
 use native.Mathlib.Omega.{arith}
-use lib.ListN.{getD}
-use Rattle.plan.specs.declared.Cause.{Cause as Unread}
-use Rattle.plan.specs.declared.Cause.the-variants.{Length, RecordType, Field, Spare}
-use Rattle.planner.specs.Numbers.{unreadNumbers, numbersOf}
-use Rattle.planner.specs.declared.Cause.{Cause}
-use Rattle.planner.specs.declared.Cause.the-variants.{Unreadable, JobCircle, PlanCircle, Overloaded, NoKind, Short, Lists}
-use Rattle.yaffledesk.specs.Codes.{unreadCode, causeCode}
+use Rattle.words.specs.Bits.{bit}
+use Rattle.words.proofs.Bits.{bit-zero}
+use Rattle.words.proofs.Counts.{count-none}
+use Rattle.order.specs.Stored.{elements, noSet}
+use Rattle.order.specs.Sets.{member}
+use Rattle.order.proofs.Stored.{number-none}
+use Rattle.planner.specs.Numbers.{plain}
+use Rattle.planner.specs.declared.Refusal.{Refusal}
+use Rattle.planner.proofs.RefusalBounds.{Small}
+use Rattle.yaffledesk.specs.Codes.{packed, refusalCode}
 
-unread-number : (c : Unread) → unreadCode c % 256 ≡ getD (unreadNumbers c) 0 0
-unread-number Length = omega arith
-unread-number (RecordType p) = omega arith
-unread-number (Field p) = omega arith
-unread-number (Spare p) = omega arith
+-- the low 8 bits are document 01's number of the cause: what an operation refuses with is small
+pub code-number : (r : Refusal) → Small r → refusalCode r % 256 ≡ r .number
+code-number r h = omega (arith, h .number)
 
-pub code-number : (c : Cause) → causeCode c % 256 ≡ getD (numbersOf c) 0 0
-code-number (Unreadable c) = unread-number c
-code-number (JobCircle i) = omega arith
-code-number (PlanCircle i) = omega arith
-code-number (Overloaded k need set) = omega arith
-code-number (NoKind n) = omega arith
-code-number (Short n) = omega arith
-code-number (Lists m) = omega arith
+-- without a set and a second value, the first value is all that stands above the number
+pub plain-code : (number values first : ℕ) → refusalCode (plain number values first 0) ≡ packed number first
+plain-code number values first =
+    omega (arith, count-none elements (member noSet) (λ i l. ap (λ (w : ℕ). bit w i) number-none ∙ bit-zero i))

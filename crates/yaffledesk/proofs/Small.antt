@@ -1,30 +1,18 @@
--- Every answer's code is a number of 64 bits: of every plan's bytes, and whatever is lent. Assumes nothing.
+-- Every answer's code is a number of 64 bits, and so is the set that Verdict shows: of every plan's bytes, and whatever is lent. Assumes nothing.
 --
---   verdict-small, needs-small, starts-small, flow-small, overload-small, crew-small    the six operations
-use mathlib.Core.Path.{_≡_, refl, sym, _∙_, subst}
-use mathlib.Core.Bool.{Bool, true, false, not, cond}
+--   verdict-small, needs-small, starts-small, overload-small, flow-small, crew-small    the six operations
+use mathlib.Core.Path.{_≡_, refl, sym, subst}
+use mathlib.Core.Bool.{true, cond}
 use mathlib.Core.List.{List}
-use mathlib.Core.Logic.{⊎-elim}
 use Prim.Native.Nat.{ℕ, _+_, _-_, _^_, _≤_, _<_}
 use native.Mathlib.Omega.{arith}
 use lib.Dec.{ltb}
-use lib.ListN.{length, getD}
-use borrow.Author.Tests.{ltb-true}
+use lib.ListN.{getD}
 use Rattle.words.proofs.Counts.{count-le}
-use Rattle.words.proofs.Tests.{by-test, cond-has, cond-least}
+use Rattle.words.proofs.Tests.{cond-has, cond-least}
 use Rattle.records.specs.Bytes.{AreBytes}
 use Rattle.order.specs.Stored.{elements}
-use Rattle.order.specs.Sets.{member, sizeOf}
-use Rattle.order.specs.Orders.{circleOf}
-use Rattle.order.specs.declared.Order.{Order}
-use Rattle.order.specs.declared.Set.{Set}
-use Rattle.plan.specs.Causes.{isLength, answerOf}
-use Rattle.plan.specs.Records.{recordCount}
-use Rattle.plan.specs.declared.Answer.{Answer}
-use Rattle.plan.specs.declared.Answer.the-variants as answer
-use Rattle.plan.specs.declared.Cause.{Cause as Unread}
-use Rattle.plan.specs.declared.Cause.the-variants.{Length}
-use Rattle.plan.proofs.Refused.{length-says, refused-length, cause-has, refused-means}
+use Rattle.order.specs.Sets.{member}
 use Rattle.schedule.specs.Network.{Network}
 use Rattle.schedule.specs.Checks.{Work, brokenTo, brokenFrom, lowestKind, firstPeriod, checkOf}
 use Rattle.schedule.specs.model.Arrays.{crewNet}
@@ -32,176 +20,73 @@ use Rattle.schedule.specs.declared.Checked.{Checked}
 use Rattle.schedule.specs.declared.Checked.the-variants.{Fits, Broken, Overload}
 use Rattle.schedule.proofs.Arcs.{broken-first, broken-to-first}
 use Rattle.schedule.proofs.Periods.{lowest-first, period-bound}
-use Rattle.solver.proofs.QuoteSound.{need-small}
-use Rattle.kinds.specs.Needs.{demandsFor}
-use Rattle.planner.specs.Open.{planIn, rowsOf, jobOrder, planOrder, isFine, circlesOf, orUnreadable, faultOf, orCause, Opens}
+use Rattle.planner.specs.Numbers.{refusalOf}
+use Rattle.planner.specs.Open.{planIn, rowsOf, isFine}
 use Rattle.planner.specs.Output.{outputOf}
-use Rattle.planner.specs.Need.{overKind, isOverloaded, shownSet, overCause}
+use Rattle.planner.specs.Need.{isOverloaded}
 use Rattle.planner.specs.Verdict.{verdictFault, verdictOf, verdictAnswer}
 use Rattle.planner.specs.Needs.{needsFault, needsAnswer}
 use Rattle.planner.specs.Starts.{needed, startsFault, startsAnswer}
-use Rattle.planner.specs.File.{flowLength}
-use Rattle.planner.specs.Flow.{isKind, flowFault, flowCount, flowAnswer}
+use Rattle.planner.specs.Flow.{flowFault, flowCount, flowAnswer}
 use Rattle.planner.specs.Overload.{overloadFault, overCount, overloadAnswer}
-use Rattle.planner.specs.CrewCheck.{badLists, crewCheckFault, crewWork, crewFound, checkedOf, crewCheckAnswer}
-use Rattle.planner.specs.declared.Cause.{Cause}
-use Rattle.planner.specs.declared.Cause.the-variants.{Unreadable, JobCircle, PlanCircle, NoKind, Short, Lists}
+use Rattle.planner.specs.CrewCheck.{crewCheckFault, crewWork, crewFound, checkedOf, crewCheckAnswer}
 use Rattle.planner.specs.declared.Fault.{Fault}
 use Rattle.planner.specs.declared.Output.{Output}
+use Rattle.planner.specs.declared.Refusal.{Refusal}
 use Rattle.planner.specs.declared.Fault.the-variants.{Fine, Refused}
-use Rattle.planner.proofs.FaultLaws.{cause-fine}
 use Rattle.planner.proofs.OpenLaws.{count-few, count-within}
-use Rattle.planner.proofs.QuotedNeeds.{kinds-few, need-quoted, quotable, over-below}
+use Rattle.planner.proofs.QuotedNeeds.{kinds-few}
 use Rattle.planner.proofs.FlowUnits.{count-room, length-few}
 use Rattle.planner.proofs.FlowLaws.{kind-within, flow-fine, not-over}
 use Rattle.planner.proofs.CrewCheckLaws.{crew-fine}
-use Rattle.yaffledesk.specs.Codes.{unreadCode, causeCode, verdictCode, outputCode, foundCode, crewCheckCode}
+use Rattle.planner.proofs.RefusalBounds.{Small, SmallFault, verdict-refuses, needs-refuses, starts-refuses, overload-refuses, flow-refuses, crew-refuses}
+use Rattle.yaffledesk.specs.Codes.{refusalCode, verdictCode, outputCode, foundCode, crewCheckCode, shownWord}
 
--- ---- a fault whose code is small, and the next cause in turn
+-- ---- a refusal, by what it tells: a set has at most all members
 
-abbrev pub SmallFault : Fault → Type 0
-SmallFault f = (c : Cause) → f ≡ Refused c → causeCode c < 2 ^ 64
+refusal-small : (r : Refusal) → Small r → refusalCode r < 2 ^ 64
+refusal-small r h = omega (arith, h .number, h .first, h .second, count-le elements (member (r .set)))
 
-small-cause : (c : Cause) → causeCode c < 2 ^ 64 → SmallFault (Refused c)
-small-cause c h d e = let q : c ≡ d = cc in subst (λ (x : Cause). causeCode x < 2 ^ 64) q h
+-- ---- Verdict, and the set that it shows
 
-small-fine : SmallFault Fine
-small-fine c e = absurd (let z : _≡_ {A = ℕ} 0 1 = cc in omega arith)
+verdict-by : (f : Fault) (m n : ℕ) → SmallFault f → m ≤ elements → n ≤ 8
+    → (verdictCode (verdictOf f m n) < 2 ^ 64) × (shownWord (verdictOf f m n) < 2 ^ 64)
+verdict-by Fine m n small a b = (omega arith, omega arith)
+verdict-by (Refused c) m n small a b = (refusal-small (refusalOf c) (small c refl), small c refl .members)
 
-small-turn : (f : Fault) (t : Bool) (c : Cause) → SmallFault f → (isFine f ≡ true → t ≡ true → causeCode c < 2 ^ 64) → SmallFault (orCause f t c)
-small-turn Fine true c small next = small-cause c (next refl refl)
-small-turn Fine false c small next = small
-small-turn (Refused d) t c small next = small
+pub verdict-small : (s : List ℕ) → AreBytes s → (verdictCode (verdictAnswer s) < 2 ^ 64) × (shownWord (verdictAnswer s) < 2 ^ 64)
+verdict-small s small = verdict-by (verdictFault s) (planIn s .count) (planIn s .kinds) (verdict-refuses s small) (count-few s) (kinds-few s)
 
--- the answers, by the fault
+-- ---- Needs, Starts, Overload, Flow
 
 output-small : (f : Fault) (n : ℕ) → SmallFault f → (isFine f ≡ true → n ≤ 1048576) → outputCode (outputOf f n) < 2 ^ 64
 unfolding outputCode
 output-small Fine n small few = let h = few refl in omega arith
-output-small (Refused c) n small few = small c refl
-
--- a set has at most all members
-pub size-few : (S : Set) {n : ℕ} → n ≡ sizeOf S → n ≤ elements
-size-few S e = omega (arith, e, count-le elements (member S))
-
--- ---- the causes 1 to 6
-
--- a place is at most 2048
-place-small : (s : List ℕ) → isLength (length s) ≡ true → recordCount s ≤ 2048
-place-small s e = let h = length-says (length s) .0 e in let l : length s ≤ 49152 = h .1 in omega arith
-
-unread-small : (s : List ℕ) (c : Unread) → answerOf s ≡ answer.Refused c → unreadCode c < 2 ^ 64
-unread-small s c e =
-    by-test (isLength (length s))
-    (λ legal.
-    let l = place-small s legal in
-    ⊎-elim
-    (λ w. of (w .cause) (omega arith))
-    (⊎-elim
-    (λ w. let h = w .1 .there in cause-has (w .0) (λ x. unreadCode x < 2 ^ 64) (omega arith) (omega arith) (omega arith) s c (w .1 .fault))
-    (λ w. of (w .cause) (omega arith)))
-    (refused-means s c e))
-    (λ wrong. let h = sym (refused-length s wrong) ∙ e in let q : c ≡ Length = cc h in of q (omega arith))
-  where
-    of : {x : Unread} → c ≡ x → unreadCode x < 2 ^ 64 → unreadCode c < 2 ^ 64
-    of q h = subst (λ (x : Unread). unreadCode x < 2 ^ 64) (sym q) h
-
-circles-small : (job whole : Order) → SmallFault (circlesOf job whole)
-unfolding circlesOf
-circles-small job whole =
-    cond-has SmallFault (ltb (circleOf job) elements) (Refused (JobCircle (circleOf job + 1)))
-    (cond (ltb (circleOf whole) elements) (Refused (PlanCircle (circleOf whole + 1))) Fine)
-    (λ e. small-cause (JobCircle (circleOf job + 1)) (let h = ltb-true (circleOf job) elements e in omega arith))
-    (λ _. cond-has SmallFault (ltb (circleOf whole) elements) (Refused (PlanCircle (circleOf whole + 1))) Fine
-    (λ e. small-cause (PlanCircle (circleOf whole + 1)) (let h = ltb-true (circleOf whole) elements e in omega arith))
-    (λ _. small-fine))
-
-pub open-small : (s : List ℕ) → SmallFault (faultOf s)
-unfolding faultOf
-open-small s = go (answerOf s) refl
-  where
-    go : (a : Answer) → answerOf s ≡ a → SmallFault (orUnreadable a (circlesOf (jobOrder s) (planOrder s)))
-    go answer.Readable e = circles-small (jobOrder s) (planOrder s)
-    go (answer.Refused c) e = small-cause (Unreadable c) (unread-small s c e)
-
--- ---- 7, where the plan opens: the kind is at most 8, and no element demands more than 65,535
-
-over-small : (s : List ℕ) → AreBytes s → Opens s → isOverloaded (planIn s) ≡ true → causeCode (overCause (planIn s)) < 2 ^ 64
-unfolding overCause
-over-small s small o e =
-    let k = overKind (planIn s) in
-    let l : k < 8 = omega (arith, over-below s small o e, kinds-few s) in
-    let n = need-small (planIn s .count) (planOrder s) (demandsFor (planIn s .demand) k) (quotable s small o k l) in
-    omega (arith, n, need-quoted s small o k l, size-few (shownSet (planIn s) k) refl)
-
--- ---- Verdict
-
-verdict-by : (f : Fault) (m n : ℕ) → SmallFault f → m ≤ elements → n ≤ 8 → verdictCode (verdictOf f m n) < 2 ^ 64
-verdict-by Fine m n small a b = omega arith
-verdict-by (Refused c) m n small a b = small c refl
-
-pub verdict-small : (s : List ℕ) → AreBytes s → verdictCode (verdictAnswer s) < 2 ^ 64
-unfolding verdictFault
-verdict-small s small =
-    verdict-by (verdictFault s) (planIn s .count) (planIn s .kinds)
-    (small-turn (faultOf s) (isOverloaded (planIn s)) (overCause (planIn s)) (open-small s) (over-small s small)) (count-few s) (kinds-few s)
-
--- ---- Needs, Starts, Overload
-
-short-small : (f : Fault) (t : Bool) (n : ℕ) → n ≤ 1048576 → SmallFault f → SmallFault (orCause f t (Short n))
-short-small f t n l small = small-turn f t (Short n) small (λ o e. omega arith)
+output-small (Refused c) n small few = refusal-small (refusalOf c) (small c refl)
 
 pub needs-small : (s : List ℕ) (n : ℕ) → outputCode (needsAnswer s n) < 2 ^ 64
-unfolding needsFault
-needs-small s n =
-    let l : planIn s .kinds ≤ 1048576 = omega (arith, kinds-few s) in
-    output-small (needsFault s n) (planIn s .kinds) (short-small (faultOf s) (ltb n (planIn s .kinds)) (planIn s .kinds) l (open-small s)) (λ o. l)
+needs-small s n = output-small (needsFault s n) (planIn s .kinds) (needs-refuses s n) (λ o. omega (arith, kinds-few s))
 
 pub starts-small : (s : List ℕ) (n : ℕ) → outputCode (startsAnswer s n) < 2 ^ 64
-unfolding startsFault
-starts-small s n =
-    let l : needed s ≤ 1048576 = omega (arith, count-few s) in
-    output-small (startsFault s n) (needed s) (short-small (faultOf s) (ltb n (needed s)) (needed s) l (open-small s)) (λ o. l)
+starts-small s n = output-small (startsFault s n) (needed s) (starts-refuses s n) (λ o. omega (arith, count-few s))
 
 pub overload-small : (s : List ℕ) (n : ℕ) → outputCode (overloadAnswer s n) < 2 ^ 64
-unfolding overloadFault overCount
+unfolding overCount
 overload-small s n =
-    output-small (overloadFault s n) (overCount (planIn s)) (short-small (faultOf s) (ltb n 24) 24 (omega arith) (open-small s))
-    (λ o. cond-least (isOverloaded (planIn s)) 1 1048576 (λ e. omega arith))
-
--- ---- Flow
+    output-small (overloadFault s n) (overCount (planIn s)) (overload-refuses s n) (λ o. cond-least (isOverloaded (planIn s)) 1 1048576 (λ e. omega arith))
 
 pub flow-small : (s : List ℕ) → AreBytes s → (kind n : ℕ) → outputCode (flowAnswer s kind n) < 2 ^ 64
-unfolding flowFault
-flow-small s small kind n = output-small (flowFault s kind n) (flowCount (planIn s) (kind - 1)) refused written
-  where
-    known : Fault
-    known = orCause (faultOf s) (not (isKind kind (planIn s .kinds))) (NoKind (planIn s .kinds))
-
-    short : Bool
-    short = ltb n (flowLength (planIn s .count))
-
-    l : flowLength (planIn s .count) ≤ 1048576
-    l = omega (arith, length-few (planIn s .count) (count-within s))
-
-    opens : isFine (orCause known short (Short (flowLength (planIn s .count)))) ≡ true → Opens s
-    opens e =
-        let a = cause-fine known short (Short (flowLength (planIn s .count))) e in
-        cause-fine (faultOf s) (not (isKind kind (planIn s .kinds))) (NoKind (planIn s .kinds)) (a .0) .0
-
-    refused : SmallFault (flowFault s kind n)
-    refused =
-        small-turn (orCause known short (Short (flowLength (planIn s .count)))) (isOverloaded (planIn s)) (overCause (planIn s))
-        (short-small known short (flowLength (planIn s .count)) l
-        (small-turn (faultOf s) (not (isKind kind (planIn s .kinds))) (NoKind (planIn s .kinds)) (open-small s) (λ o e. omega (arith, kinds-few s))))
-        (λ e. over-small s small (opens e))
-
-    written : isFine (flowFault s kind n) ≡ true → flowCount (planIn s) (kind - 1) ≤ 1048576
-    written e =
-        let w = flow-fine s kind n e in
-        let k = kind-within kind (planIn s .kinds) (w .1) in
-        let h : kind - 1 < planIn s .kinds = omega (arith, k .0, k .1) in
-        omega (arith, l, count-room s small (w .0) (kind - 1) (omega (arith, kinds-few s)) (not-over s (w .3) (kind - 1) h))
+flow-small s small kind n =
+    output-small (flowFault s kind n) (flowCount (planIn s) (kind - 1)) (flow-refuses s small kind n)
+    (λ e.
+    let w = flow-fine s kind n e in
+    let k = kind-within kind (planIn s .kinds) (w .1) in
+    let h : kind - 1 < planIn s .kinds = omega (arith, k .0, k .1) in
+    omega (
+      arith,
+      length-few (planIn s .count) (count-within s),
+      count-room s small (w .0) (kind - 1) (omega (arith, kinds-few s)) (not-over s (w .3) (kind - 1) h),
+    ))
 
 -- ---- Crew check
 
@@ -219,13 +104,12 @@ check-small g c few kinds starts =
 
 crew-by : (f : Fault) (x : Checked) → SmallFault f → (isFine f ≡ true → foundCode x < 2 ^ 64) → crewCheckCode (checkedOf f x) < 2 ^ 64
 crew-by Fine x small found = found refl
-crew-by (Refused c) x small found = small c refl
+crew-by (Refused c) x small found = refusal-small (refusalOf c) (small c refl)
 
 pub crew-small : (s starts worked : List ℕ) → ((i : ℕ) → getD starts i 0 < 2 ^ 32) → crewCheckCode (crewCheckAnswer s starts worked) < 2 ^ 64
-unfolding crewCheckFault crewFound
+unfolding crewFound
 crew-small s starts worked fit =
-    crew-by (crewCheckFault s starts worked) (crewFound s starts worked)
-    (small-turn (faultOf s) (badLists (planIn s .count) starts worked) (Lists (planIn s .count)) (open-small s) (λ o e. omega (arith, count-few s)))
+    crew-by (crewCheckFault s starts worked) (crewFound s starts worked) (crew-refuses s starts worked)
     (λ e.
     let w = crew-fine s starts worked e in
     check-small (crewNet (rowsOf s) starts worked) (crewWork s starts worked) (omega (arith, w .1, count-few s)) (omega arith) (λ i l. fit i))

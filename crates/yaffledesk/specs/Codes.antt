@@ -2,12 +2,11 @@
 use Prim.Native.Nat.{ℕ, _+_, _*_}
 use Rattle.order.specs.Stored.{numberOf}
 use Rattle.order.specs.Sets.{sizeOf}
-use Rattle.plan.specs.declared.Cause.{Cause as Unread}
-use Rattle.plan.specs.declared.Cause.the-variants.{Length, RecordType, Field, Spare}
 use Rattle.schedule.specs.declared.Checked.{Checked}
 use Rattle.schedule.specs.declared.Checked.the-variants.{Fits, Broken, Overload}
+use Rattle.planner.specs.Numbers.{refusalOf}
 use Rattle.planner.specs.declared.Cause.{Cause}
-use Rattle.planner.specs.declared.Cause.the-variants.{Unreadable, JobCircle, PlanCircle, Overloaded, NoKind, Short, Lists}
+use Rattle.planner.specs.declared.Refusal.{Refusal}
 use Rattle.planner.specs.declared.Decision.{Decision}
 use Rattle.planner.specs.declared.Decision.the-variants as verdict
 use Rattle.planner.specs.declared.Output.{Output}
@@ -18,22 +17,13 @@ use Rattle.planner.specs.declared.CrewChecked.the-variants as crew
 abbrev pub packed : ℕ → ℕ → ℕ
 packed number rest = number + 256 * rest
 
--- 1: nothing; 2 to 4: the record's place
-abbrev pub unreadCode : Unread → ℕ
-unreadCode Length = 1
-unreadCode (RecordType p) = packed 2 p
-unreadCode (Field p) = packed 3 p
-unreadCode (Spare p) = packed 4 p
+-- A refusal, whatever its cause: first + 256 * second + 2^40 * size of the set. What a cause does not return is 0; so 1 has 0 above it, 2 to 6 and 8 to 10 have their
+-- one value (`plain-code` of proofs/Numbers.antt), and 7 has kind + 256 * need + 2^40 * size.
+abbrev pub refusalCode : Refusal → ℕ
+refusalCode r = packed (r .number) (r .first + 256 * r .second + 1099511627776 * sizeOf (r .set))
 
--- 5, 6: the activity; 7: kind + 256 * need + 2^40 * size; 8: K; 9: the length needed; 10: m
 abbrev pub causeCode : Cause → ℕ
-causeCode (Unreadable c) = unreadCode c
-causeCode (JobCircle i) = packed 5 i
-causeCode (PlanCircle i) = packed 6 i
-causeCode (Overloaded k need set) = packed 7 (k + 256 * need + 1099511627776 * sizeOf set)
-causeCode (NoKind n) = packed 8 n
-causeCode (Short n) = packed 9 n
-causeCode (Lists m) = packed 10 m
+causeCode c = refusalCode (refusalOf c)
 
 -- accepted: m + 256 * K
 abbrev pub verdictCode : Decision → ℕ
@@ -55,15 +45,9 @@ abbrev pub crewCheckCode : CrewChecked → ℕ
 crewCheckCode (crew.Found c) = foundCode c
 crewCheckCode (crew.Refused c) = causeCode c
 
--- the number of the set that 7 shows, else 0
+-- the number of the set that a refusal shows; 0 where it shows none
 abbrev pub causeWord : Cause → ℕ
-causeWord (Unreadable c) = 0
-causeWord (JobCircle i) = 0
-causeWord (PlanCircle i) = 0
-causeWord (Overloaded k need set) = numberOf set
-causeWord (NoKind n) = 0
-causeWord (Short n) = 0
-causeWord (Lists m) = 0
+causeWord c = numberOf (refusalOf c .set)
 
 abbrev pub shownWord : Decision → ℕ
 shownWord (verdict.Accepted m n) = 0

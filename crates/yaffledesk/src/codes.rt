@@ -1,11 +1,12 @@
 // Answers as numbers.
 ghost use mathlib.Core.Path.{_≡_};
 ghost use Prim.Native.Nat.{_<_, _%_, _^_};
-ghost use Rattle.yaffledesk.specs.Codes.{packed, unreadCode, causeCode, verdictCode, outputCode, foundCode, crewCheckCode, causeWord, shownWord};
+ghost use Rattle.yaffledesk.specs.Codes.{packed, refusalCode, causeCode, verdictCode, outputCode, foundCode, crewCheckCode, causeWord, shownWord};
 use planner::Cause;
 use planner::CrewChecked;
 use planner::Decision;
 use planner::Output;
+use planner::Refusal;
 use schedule::Checked;
 
 // A number with its values above it.
@@ -16,34 +17,21 @@ fn pack(number: u64, rest: u64) -> u64
     number + 256 * rest
 }
 
-fn unread_code(c: plan::Cause) -> u64
-    requires { ⌜ unreadCode c < 2 ^ 64 ⌝ }
-    ensures { λ r. ⌜ r ≡ unreadCode c ⌝ }
+// A refusal's number, with its two values and its set's size above it.
+fn refusal_code(r: Refusal) -> u64
+    requires { ⌜ refusalCode r < 2 ^ 64 ⌝ }
+    ensures { λ n. ⌜ n ≡ refusalCode r ⌝ }
 {
-    match c {
-        plan::Cause::Length => 1,
-        plan::Cause::RecordType(p) => pack(2, p as u64),
-        plan::Cause::Field(p) => pack(3, p as u64),
-        plan::Cause::Spare(p) => pack(4, p as u64),
-    }
+    let set = r.set;
+    let size = set.size() as u64;
+    pack(r.number, r.first + 256 * r.second + 1099511627776 * size)
 }
 
 fn cause_code(c: Cause) -> u64
     requires { ⌜ causeCode c < 2 ^ 64 ⌝ }
     ensures { λ r. ⌜ r ≡ causeCode c ⌝ }
 {
-    match c {
-        Cause::Unreadable(u) => unread_code(u),
-        Cause::JobCircle(i) => pack(5, i as u64),
-        Cause::PlanCircle(i) => pack(6, i as u64),
-        Cause::Overloaded { kind, need, set } => pack(
-            7,
-            kind as u64 + 256 * (need as u64) + 1099511627776 * (set.size() as u64),
-        ),
-        Cause::NoKind(n) => pack(8, n as u64),
-        Cause::Short(n) => pack(9, n as u64),
-        Cause::Lists(m) => pack(10, m as u64),
-    }
+    refusal_code(planner::refusal_of(c))
 }
 
 pub fn verdict_code(v: Decision) -> u64
@@ -90,19 +78,13 @@ pub fn crew_code(c: CrewChecked) -> u64
     }
 }
 
-// The first word of the set that 7 shows. (It is all of it: `word-small` of proofs/SetWord.antt.)
+// The first word of the set that a refusal shows. (It is all of it: `verdict-small` of proofs/Small.antt.)
 fn cause_word(c: Cause) -> u64
     ensures { λ r. ⌜ r ≡ causeWord c % 2 ^ 64 ⌝ }
 {
-    match c {
-        Cause::Unreadable(_) => 0,
-        Cause::JobCircle(_) => 0,
-        Cause::PlanCircle(_) => 0,
-        Cause::Overloaded { kind, need, set } => set.first_word(),
-        Cause::NoKind(_) => 0,
-        Cause::Short(_) => 0,
-        Cause::Lists(_) => 0,
-    }
+    let r = planner::refusal_of(c);
+    let set = r.set;
+    set.first_word()
 }
 
 pub fn shown_word(v: Decision) -> u64

@@ -9,13 +9,15 @@ use Rattle.report_lines.proofs.refusal.put_members.Statement.{statement
 use Rattle.report_lines.proofs.refusal.put_members.Tie as tie
 
 abbrev Inv-loop : tie.InvT-loop
-Inv-loop numbers₀ n₀ left₀ numbers n left = Listed (numberOf left₀) numbers₀ n (numberOf left) numbers
+Inv-loop numbers₀ n end₀ left₀ numbers end left = Listed n (numberOf left₀) numbers₀ end (numberOf left) numbers
 
 abbrev μ-loop : tie.MeasureT-loop
-μ-loop numbers₀ n₀ left₀ numbers n left = numberOf left
+μ-loop numbers₀ n end₀ left₀ numbers end left = numberOf left
 
 loop-holds : tie.Need-loop-holds Inv-loop μ-loop
-loop-holds c = listed-none (numberOf (c .before .args .set)) (c .before .args .numbers .now)
+loop-holds c =
+    let a = c .before .args in
+    listed-none (a .n) (numberOf (a .set)) (a .numbers .now) (c .before .pre .1)
 
 add-numbers : tie.Need-add-numbers Inv-loop μ-loop
 add-numbers c =
@@ -32,7 +34,7 @@ slice-write-numbers c =
     omega (
       arith,
       t .loop .inv .long,
-      listed-room (numberOf (a .set)) (a .numbers .now) (t .loop .n) (numberOf (t .loop .left)) (t .loop .numbers) (t .loop .inv) some (e .is-empty .ensures .1),
+      listed-room (a .n) (numberOf (a .set)) (a .numbers .now) (t .loop .end) (numberOf (t .loop .left)) (t .loop .numbers) (t .loop .inv) some (e .is-empty .ensures .1),
     )
 
 mul-numbers : tie.Need-mul-numbers Inv-loop μ-loop
@@ -44,13 +46,13 @@ mul-numbers c =
     record {
       fits = omega (
         arith,
-        listed-room (numberOf (a .set)) (a .numbers .now) (t .loop .n) (numberOf (t .loop .left)) (t .loop .numbers) (t .loop .inv) some
+        listed-room (a .n) (numberOf (a .set)) (a .numbers .now) (t .loop .end) (numberOf (t .loop .left)) (t .loop .numbers) (t .loop .inv) some
             (e .is-empty .ensures .1),
       );
     }
 
-add-n : tie.Need-add-n Inv-loop μ-loop
-add-n c =
+add-end : tie.Need-add-end Inv-loop μ-loop
+add-end c =
     let e = c .before .before .before in
     let t = e .before in
     let a = t .before .before .args in
@@ -58,7 +60,7 @@ add-n c =
     record {
       fits = omega (
         arith,
-        listed-room (numberOf (a .set)) (a .numbers .now) (t .loop .n) (numberOf (t .loop .left)) (t .loop .numbers) (t .loop .inv) some
+        listed-room (a .n) (numberOf (a .set)) (a .numbers .now) (t .loop .end) (numberOf (t .loop .left)) (t .loop .numbers) (t .loop .inv) some
             (e .is-empty .ensures .1),
       );
     }
@@ -76,8 +78,8 @@ loop-again c =
     let s = t .before .before in
     let a = s .args in
     let some = some-left (t .loop .left) (e .is-empty .result) (e .is-empty .ensures) (c .before .before .if1 .taken) in
-    listed-next (numberOf (a .set)) (a .numbers .now) (t .loop .n) (numberOf (t .loop .left)) (t .loop .numbers) (t .loop .inv) some (e .is-empty .ensures .1)
-    (s .pre) (c .before .lowest .ensures) (number-of (c .without-lowest .result) (c .without-lowest .ensures))
+    listed-next (a .n) (numberOf (a .set)) (a .numbers .now) (t .loop .end) (numberOf (t .loop .left)) (t .loop .numbers) (t .loop .inv) some (e .is-empty .ensures .1)
+    (s .pre .0) (c .before .lowest .ensures) (number-of (c .without-lowest .result) (c .without-lowest .ensures))
 
 same-length : tie.Need-same-length Inv-loop μ-loop
 same-length c = c .before .before .loop .inv .long
@@ -87,7 +89,7 @@ returns c =
     let e = c .before in
     let t = e .before in
     let a = t .before .before .args in
-    listed-end (numberOf (a .set)) (a .numbers .now) (t .loop .n) (numberOf (t .loop .left)) (t .loop .numbers) (t .loop .inv)
+    listed-end (a .n) (numberOf (a .set)) (a .numbers .now) (t .loop .end) (numberOf (t .loop .left)) (t .loop .numbers) (t .loop .inv)
     (none-left (t .loop .left) (e .is-empty .result) (e .is-empty .ensures) (c .if1 .left))
 
 pub put-members-spec : {M : Type 1} → statement M
@@ -103,7 +105,7 @@ put-members-spec =
     mul-numbers
     slice-write-numbers
     (λ c κs. search needs)
-    add-n
+    add-end
     loop-less
     loop-again
     same-length

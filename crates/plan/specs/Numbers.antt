@@ -1,0 +1,16 @@
+-- The numbers of the causes (01, Operations and causes, the table of causes). Assumes nothing.
+use Prim.Native.Nat.{ℕ}
+use Rattle.plan.specs.declared.Cause.{Cause}
+use Rattle.plan.specs.declared.Cause.the-variants.{Length, RecordType, Field, Spare}
+use Rattle.plan.specs.declared.Told.{Told}
+
+-- "record's place, from 0"
+abbrev pub atPlace : ℕ → ℕ → Told
+atPlace number p = record { number = number; values = 1; place = p }
+
+-- the number, and what is returned with it
+abbrev pub toldBy : Cause → Told
+toldBy Length = record { number = 1; values = 0; place = 0 }
+toldBy (RecordType p) = atPlace 2 p
+toldBy (Field p) = atPlace 3 p
+toldBy (Spare p) = atPlace 4 p

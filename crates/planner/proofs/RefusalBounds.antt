@@ -1,0 +1,151 @@
+-- What an operation refuses with is small, whatever the plan's bytes are and whatever is lent: the cause's number has 8 bits, its two values have 32, and its set holds
+-- activities alone. Assumes nothing.
+--
+--   open-refuses, verdict-refuses, needs-refuses, starts-refuses, overload-refuses, flow-refuses, crew-refuses    what every operation does first, and the six
+use mathlib.Core.Path.{_≡_, refl, subst}
+use mathlib.Core.Bool.{Bool, true, false, not, cond}
+use mathlib.Core.List.{List}
+use Prim.Native.Nat.{ℕ, _+_, _^_, _<_}
+use native.Mathlib.Omega.{arith}
+use lib.Dec.{ltb}
+use borrow.Author.Tests.{ltb-true}
+use Rattle.words.proofs.Tests.{cond-has}
+use Rattle.records.specs.Bytes.{AreBytes}
+use Rattle.order.specs.Stored.{elements, numberOf}
+use Rattle.order.specs.Orders.{circleOf}
+use Rattle.order.specs.declared.Order.{Order}
+use Rattle.order.proofs.Stored.{number-none}
+use Rattle.plan.specs.Causes.{answerOf}
+use Rattle.plan.specs.Records.{activities}
+use Rattle.plan.specs.declared.Answer.{Answer}
+use Rattle.plan.specs.declared.Answer.the-variants as answer
+use Rattle.plan.proofs.CausePlaces.{told-small}
+use Rattle.solver.proofs.QuoteSound.{need-small}
+use Rattle.kinds.specs.Needs.{demandsFor}
+use Rattle.planner.specs.Numbers.{plain, refusalOf}
+use Rattle.planner.specs.Open.{planIn, jobOrder, planOrder, isFine, circlesOf, orUnreadable, faultOf, orCause, Opens}
+use Rattle.planner.specs.Need.{overKind, isOverloaded, overCause}
+use Rattle.planner.specs.Verdict.{verdictFault}
+use Rattle.planner.specs.Needs.{needsFault}
+use Rattle.planner.specs.Starts.{needed, startsFault}
+use Rattle.planner.specs.File.{flowLength}
+use Rattle.planner.specs.Flow.{isKind, flowFault}
+use Rattle.planner.specs.Overload.{overloadFault}
+use Rattle.planner.specs.CrewCheck.{badLists, crewCheckFault}
+use Rattle.planner.specs.declared.Cause.{Cause}
+use Rattle.planner.specs.declared.Cause.the-variants.{Unreadable, JobCircle, PlanCircle, NoKind, Short, Lists}
+use Rattle.planner.specs.declared.Fault.{Fault}
+use Rattle.planner.specs.declared.Fault.the-variants.{Fine, Refused}
+use Rattle.planner.specs.declared.Refusal.{Refusal}
+use Rattle.planner.proofs.FaultLaws.{cause-fine}
+use Rattle.planner.proofs.OpenLaws.{count-few, count-within}
+use Rattle.planner.proofs.QuotedNeeds.{kinds-few, need-quoted, quotable, over-below, set-fits}
+use Rattle.planner.proofs.FlowUnits.{length-few}
+
+pub record Small (r : Refusal) : Type 0 where
+  pub number : r .number < 256
+  pub first : r .first < 2 ^ 32
+  pub second : r .second < 2 ^ 32
+  pub members : numberOf (r .set) < 2 ^ activities
+
+plain-small : (number values first : ℕ) → number < 256 → first < 2 ^ 32 → Small (plain number values first 0)
+plain-small number values first h l = record { number = h; first = l; second = omega arith; members = omega (arith, number-none) }
+
+-- ---- a fault whose refusal is small, and the next cause in turn
+
+abbrev pub SmallFault : Fault → Type 0
+SmallFault f = (c : Cause) → f ≡ Refused c → Small (refusalOf c)
+
+small-cause : (c : Cause) → Small (refusalOf c) → SmallFault (Refused c)
+small-cause c h d e = let q : c ≡ d = cc in subst (λ (x : Cause). Small (refusalOf x)) q h
+
+small-fine : SmallFault Fine
+small-fine c e = absurd (let z : _≡_ {A = ℕ} 0 1 = cc in omega arith)
+
+small-turn : (f : Fault) (t : Bool) (c : Cause) → SmallFault f → (isFine f ≡ true → t ≡ true → Small (refusalOf c)) → SmallFault (orCause f t c)
+small-turn Fine true c small next = small-cause c (next refl refl)
+small-turn Fine false c small next = small
+small-turn (Refused d) t c small next = small
+
+-- ---- the causes 1 to 6
+
+circles-small : (job whole : Order) → SmallFault (circlesOf job whole)
+unfolding circlesOf
+circles-small job whole =
+    cond-has SmallFault (ltb (circleOf job) elements) (Refused (JobCircle (circleOf job + 1)))
+    (cond (ltb (circleOf whole) elements) (Refused (PlanCircle (circleOf whole + 1))) Fine)
+    (λ e. small-cause (JobCircle (circleOf job + 1)) (plain-small 5 1 _ (omega arith) (omega (arith, ltb-true (circleOf job) elements e))))
+    (λ _. cond-has SmallFault (ltb (circleOf whole) elements) (Refused (PlanCircle (circleOf whole + 1))) Fine
+    (λ e. small-cause (PlanCircle (circleOf whole + 1)) (plain-small 6 1 _ (omega arith) (omega (arith, ltb-true (circleOf whole) elements e))))
+    (λ _. small-fine))
+
+pub open-refuses : (s : List ℕ) → SmallFault (faultOf s)
+unfolding faultOf
+open-refuses s = go (answerOf s) refl
+  where
+    go : (a : Answer) → answerOf s ≡ a → SmallFault (orUnreadable a (circlesOf (jobOrder s) (planOrder s)))
+    go answer.Readable e = circles-small (jobOrder s) (planOrder s)
+    go (answer.Refused c) e =
+        let w = told-small s c e in
+        small-cause (Unreadable c) (plain-small _ _ _ (w .number) (omega (arith, w .place)))
+
+-- ---- 7, where the plan opens: the kind is at most 8, and no element demands more than 65,535
+
+over-small : (s : List ℕ) → AreBytes s → Opens s → isOverloaded (planIn s) ≡ true → Small (refusalOf (overCause (planIn s)))
+unfolding overCause
+over-small s small o e =
+    let k = overKind (planIn s) in
+    let l : k < 8 = omega (arith, over-below s small o e, kinds-few s) in
+    let n = need-small (planIn s .count) (planOrder s) (demandsFor (planIn s .demand) k) (quotable s small o k l) in
+    record { number = omega arith; first = omega arith; second = omega (arith, n, need-quoted s small o k l); members = set-fits s small o k l }
+
+-- ---- Verdict, Needs, Starts, Overload
+
+pub verdict-refuses : (s : List ℕ) → AreBytes s → SmallFault (verdictFault s)
+unfolding verdictFault
+verdict-refuses s small = small-turn (faultOf s) (isOverloaded (planIn s)) (overCause (planIn s)) (open-refuses s) (over-small s small)
+
+short-small : (f : Fault) (t : Bool) (n : ℕ) → n < 2 ^ 32 → SmallFault f → SmallFault (orCause f t (Short n))
+short-small f t n l small = small-turn f t (Short n) small (λ o e. plain-small 9 1 n (omega arith) l)
+
+pub needs-refuses : (s : List ℕ) (n : ℕ) → SmallFault (needsFault s n)
+unfolding needsFault
+needs-refuses s n = short-small (faultOf s) (ltb n (planIn s .kinds)) (planIn s .kinds) (omega (arith, kinds-few s)) (open-refuses s)
+
+pub starts-refuses : (s : List ℕ) (n : ℕ) → SmallFault (startsFault s n)
+unfolding startsFault
+starts-refuses s n = short-small (faultOf s) (ltb n (needed s)) (needed s) (omega (arith, count-few s)) (open-refuses s)
+
+pub overload-refuses : (s : List ℕ) (n : ℕ) → SmallFault (overloadFault s n)
+unfolding overloadFault
+overload-refuses s n = short-small (faultOf s) (ltb n 24) 24 (omega arith) (open-refuses s)
+
+-- ---- Flow
+
+pub flow-refuses : (s : List ℕ) → AreBytes s → (kind n : ℕ) → SmallFault (flowFault s kind n)
+unfolding flowFault
+flow-refuses s small kind n =
+    small-turn roomy (isOverloaded (planIn s)) (overCause (planIn s))
+    (short-small known short (flowLength (planIn s .count)) (omega (arith, length-few (planIn s .count) (count-within s)))
+    (small-turn (faultOf s) none (NoKind (planIn s .kinds)) (open-refuses s) (λ o e. plain-small 8 1 _ (omega arith) (omega (arith, kinds-few s)))))
+    (λ e. over-small s small (cause-fine (faultOf s) none (NoKind (planIn s .kinds)) (cause-fine known short (Short (flowLength (planIn s .count))) e .0) .0))
+  where
+    none : Bool
+    none = not (isKind kind (planIn s .kinds))
+
+    short : Bool
+    short = ltb n (flowLength (planIn s .count))
+
+    known : Fault
+    known = orCause (faultOf s) none (NoKind (planIn s .kinds))
+
+    roomy : Fault
+    roomy = orCause known short (Short (flowLength (planIn s .count)))
+
+-- ---- Crew check
+
+pub crew-refuses : (s starts worked : List ℕ) → SmallFault (crewCheckFault s starts worked)
+unfolding crewCheckFault
+crew-refuses s starts worked =
+    small-turn (faultOf s) (badLists (planIn s .count) starts worked) (Lists (planIn s .count)) (open-refuses s)
+    (λ o e. plain-small 10 1 _ (omega arith) (omega (arith, count-few s)))
