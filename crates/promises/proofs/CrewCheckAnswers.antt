@@ -22,7 +22,7 @@ use Rattle.schedule.specs.declared.Checked.{Checked}
 use Rattle.schedule.specs.declared.Checked.the-variants.{Fits, Broken, Overload}
 use Rattle.planner.specs.Open.{planIn, rowsOf, Opens}
 use Rattle.planner.specs.CrewCheck.{badLists, crewWork, crewFound}
-use Rattle.planner.specs.File.{crewOccupies}
+use Rattle.planner.specs.Times.{crewOccupies}
 use Rattle.planner.proofs.OpenLaws.{said-in, opens-readable}
 use Rattle.planner.proofs.CrewCheckLaws.{bad-zero, lists-fine}
 use Rattle.planner.proofs.QuotedNeeds.{count-in, kinds-in, kinds-few, available-in}

@@ -15,16 +15,18 @@ use Rattle.words.proofs.Sums.{sum-zero}
 use Rattle.words.proofs.Tests.{cond-least}
 use Rattle.order.specs.Stored.{elements}
 use Rattle.flow_math.specs.Crew as crew
+use Rattle.flow_math.proofs.Kept.{first-same}
 use Rattle.schedule.specs.Network.{Arc}
 use Rattle.schedule.specs.Checks.{atWork, occupied, checkOf, Enough, FirstOver}
 use Rattle.schedule.specs.model.Arrays.{crewNet}
+use Rattle.schedule.specs.Lists.{at}
 use Rattle.schedule.specs.declared.Checked.{Checked}
 use Rattle.schedule.specs.declared.Checked.the-variants.{Fits, Broken, Overload}
 use Rattle.schedule.proofs.Answers.{fits-means, broken-means, over-means}
 use Rattle.planner.specs.Open.{planIn, rowsOf, isFine, Opens}
 use Rattle.planner.specs.CrewCheck.{checkedOf, someZero, crewCheckFault, crewWork, crewFound, crewCheckAnswer}
 use Rattle.plan.specs.Meaning.{FileArc}
-use Rattle.planner.specs.Times.{KeepsWorked, FirstBrokenArc}
+use Rattle.planner.specs.Times.{KeepsArcs, FirstBrokenArc}
 use Rattle.planner.specs.declared.Fault.{Fault}
 use Rattle.planner.specs.declared.Fault.the-variants as fault
 use Rattle.planner.specs.declared.CrewChecked.the-variants.{Found, Refused}
@@ -72,28 +74,21 @@ module _ (s starts worked : List ℕ) {x : Checked} (L : CrewRight s starts work
       short h = omega (arith, count-few s, L .starts-all)
 
 -- IT FITS: every arc of the file is kept, and in no period is more of a kind occupied than is available
-pub crew-fits : (s starts worked : List ℕ) → crewCheckAnswer s starts worked ≡ Found Fits → KeepsWorked s starts worked × Enough (crewWork s starts worked)
+pub crew-fits : (s starts worked : List ℕ) → crewCheckAnswer s starts worked ≡ Found Fits → KeepsArcs s (at starts) (at worked) × Enough (crewWork s starts worked)
 crew-fits s starts worked e =
     let L = crew-looked s starts worked Fits e in
     let w = fits-means (crewNet (rowsOf s) starts worked) (crewWork s starts worked) (L .finds) in
     ((λ i j f. w .0 i j (crew-arcs s starts worked L i j .1 f)), w .1)
 
 -- A BROKEN ARC: the file has it, it is broken, and every arc before it, by from and then to, is kept
-pub crew-broken : (s starts worked : List ℕ) (i j : ℕ) → crewCheckAnswer s starts worked ≡ Found (Broken (i + 1) (j + 1)) → FirstBrokenArc s starts worked i j
+pub crew-broken : (s starts worked : List ℕ) (i j : ℕ) → crewCheckAnswer s starts worked ≡ Found (Broken (i + 1) (j + 1)) → FirstBrokenArc s (at starts) (at worked) i j
 crew-broken s starts worked i j e =
     let L = crew-looked s starts worked (Broken (i + 1) (j + 1)) e in
-    let w = broken-means (crewNet (rowsOf s) starts worked) (crewWork s starts worked) i j (L .finds) in
-    let same = crew-arcs s starts worked L in
-    record {
-      there = same i j .0 (w .there);
-      late = w .late;
-      kept = λ x y f. w .kept x y (same x y .1 f);
-      rest = λ y f. w .rest y (same i y .1 f);
-    }
+    first-same (crew-arcs s starts worked L) (broken-means (crewNet (rowsOf s) starts worked) (crewWork s starts worked) i j (L .finds))
 
 -- AN OVERLOAD: every arc is kept, the period is the first, and the kind the lowest in it
 pub crew-over : (s starts worked : List ℕ) (t k : ℕ) → crewCheckAnswer s starts worked ≡ Found (Overload t (k + 1))
-    → KeepsWorked s starts worked × FirstOver (crewWork s starts worked) t k
+    → KeepsArcs s (at starts) (at worked) × FirstOver (crewWork s starts worked) t k
 crew-over s starts worked t k e =
     let L = crew-looked s starts worked (Overload t (k + 1)) e in
     let w = over-means (crewNet (rowsOf s) starts worked) (crewWork s starts worked) t k (L .finds) in

@@ -2,6 +2,7 @@
 use mathlib.Core.Path.{_≡_, refl, sym, ap, _∙_}
 use mathlib.Core.Bool.{false}
 use mathlib.Core.List.{List}
+use mathlib.Core.Logic.{Iff·symm}
 use Prim.Native.Nat.{ℕ, _+_, _≤_, _<_}
 use native.Mathlib.Omega.{arith}
 use lib.Dec.{eqb}
@@ -9,14 +10,16 @@ use lib.ListN.{length, getD}
 use borrow.Author.Tests.{ne-eqb, le-ltb}
 use Rattle.words.specs.Members.{first}
 use Rattle.words.proofs.Firsts.{first-none}
+use Rattle.flow_math.proofs.Kept.{first-same}
 use Rattle.schedule.specs.Checks.{checkOf, Enough, FirstOver}
 use Rattle.schedule.specs.model.Arrays.{crewNet}
+use Rattle.schedule.specs.Lists.{at}
 use Rattle.schedule.specs.declared.Checked.{Checked}
 use Rattle.schedule.specs.declared.Checked.the-variants.{Fits, Broken, Overload}
 use Rattle.schedule.proofs.Answers as answers
 use Rattle.planner.specs.Open.{planIn, rowsOf, Opens}
 use Rattle.planner.specs.CrewCheck.{someZero, crewWork, crewFound, crewCheckAnswer}
-use Rattle.planner.specs.Times.{KeepsWorked, FirstBrokenArc}
+use Rattle.planner.specs.Times.{KeepsArcs, FirstBrokenArc}
 use Rattle.planner.specs.declared.CrewChecked.the-variants.{Found}
 use Rattle.planner.proofs.CrewCheckLaws.{bad-zero}
 use Rattle.promises.proofs.AnswersWhen.{crew-looks}
@@ -38,24 +41,18 @@ module _ (s starts worked : List ℕ) (o : Opens s) (a : length starts ≡ planI
   unfolding crewFound
   looks e = crew-looks s starts worked o (sym (bad-zero (planIn s .count) starts worked a d (sym (all-worked worked w)))) ∙ ap Found e
 
-  pub means-fits : KeepsWorked s starts worked → Enough (crewWork s starts worked) → crewCheckAnswer s starts worked ≡ Found Fits
+  pub means-fits : KeepsArcs s (at starts) (at worked) → Enough (crewWork s starts worked) → crewCheckAnswer s starts worked ≡ Found Fits
   means-fits k n =
       looks
       (answers.means-fits (crewNet (rowsOf s) starts worked) (crewWork s starts worked) (λ i j b. k i j (crew-arcs s starts worked right i j .0 b)) n)
 
-  pub means-broken : (i j : ℕ) → FirstBrokenArc s starts worked i j → crewCheckAnswer s starts worked ≡ Found (Broken (i + 1) (j + 1))
+  pub means-broken : (i j : ℕ) → FirstBrokenArc s (at starts) (at worked) i j → crewCheckAnswer s starts worked ≡ Found (Broken (i + 1) (j + 1))
   means-broken i j F =
-      let same = crew-arcs s starts worked right in
       looks
       (answers.means-broken (crewNet (rowsOf s) starts worked) (crewWork s starts worked) i j
-      (record {
-        there = same i j .1 (F .there);
-        late = F .late;
-        kept = λ x y b. F .kept x y (same x y .0 b);
-        rest = λ y b. F .rest y (same i y .0 b);
-      }))
+      (first-same (λ x y. Iff·symm (crew-arcs s starts worked right x y)) F))
 
-  pub means-over : (t k : ℕ) → KeepsWorked s starts worked → FirstOver (crewWork s starts worked) t k → crewCheckAnswer s starts worked ≡ Found (Overload t (k + 1))
+  pub means-over : (t k : ℕ) → KeepsArcs s (at starts) (at worked) → FirstOver (crewWork s starts worked) t k → crewCheckAnswer s starts worked ≡ Found (Overload t (k + 1))
   means-over t k keeps F =
       looks
       (answers.means-over (crewNet (rowsOf s) starts worked) (crewWork s starts worked) t k (λ i j b. keeps i j (crew-arcs s starts worked right i j .0 b)) F)
