@@ -2,7 +2,7 @@
 use mathlib.Core.Path.{_≡_}
 use mathlib.Core.Bool.{false, cond}
 use mathlib.Core.List.{List}
-use mathlib.Core.Logic.{_↔_, Iff·symm}
+use mathlib.Core.Logic.{_↔_, Iff·rfl, Iff·trans, Iff·and}
 use Prim.Native.Nat.{ℕ, _+_, _≤_, _<_, _*_}
 use native.Mathlib.Omega.{arith}
 use native.Mathlib.Decide.{decLt}
@@ -15,13 +15,13 @@ use Rattle.words.proofs.Sums.{sum-zero}
 use Rattle.words.proofs.Tests.{cond-least}
 use Rattle.order.specs.Stored.{elements}
 use Rattle.flow_math.specs.Crew as crew
-use Rattle.flow_math.proofs.Kept.{first-same}
+use Rattle.flow_math.proofs.Kept.{keeps-same, first-same}
 use Rattle.schedule.specs.Network.{Arc}
 use Rattle.schedule.specs.Checks.{atWork, occupied, Enough, FirstOver}
-use Rattle.schedule.specs.model.Arrays.{crewNet}
+use Rattle.schedule.specs.model.Arrays.{crewNet, byDuration}
 use Rattle.schedule.specs.Lists.{at}
 use Rattle.schedule.specs.declared.Checked.the-variants.{Fits, Broken, Overload}
-use Rattle.schedule.proofs.Answers as answers
+use Rattle.schedule.proofs.Answers.{fits-says, broken-says, over-says}
 use Rattle.planner.specs.Open.{planIn, rowsOf, Opens}
 use Rattle.planner.specs.CrewCheck.{someZero, crewWork, crewFound}
 use Rattle.plan.specs.Meaning.{FileArc}
@@ -57,30 +57,21 @@ module _ (s starts worked : List ℕ) (o : Opens s) (all : length starts ≡ pla
   -- IT FITS: every arc of the file is kept, and in no period is more of a kind occupied than is available
   pub finds-fits : (crewFound s starts worked ≡ Fits) ↔ (KeepsArcs s (at starts) (at worked) × Enough (crewWork s starts worked))
   unfolding crewFound
-  finds-fits = (
-    (λ e.
-        let w = answers.fits-means (crewNet (rowsOf s) starts worked) (crewWork s starts worked) e in
-        ((λ i j f. w .0 i j (crew-arcs i j .1 f)), w .1)),
-    (λ w. answers.means-fits (crewNet (rowsOf s) starts worked) (crewWork s starts worked) (λ i j b. w .0 i j (crew-arcs i j .0 b)) (w .1)),
-  )
+  finds-fits =
+      Iff·trans (fits-says (crewNet (rowsOf s) starts worked) (crewWork s starts worked))
+      (Iff·and (keeps-same (at starts) (byDuration worked) crew-arcs) Iff·rfl)
 
   -- A BROKEN ARC: it is the first of the file's, by from and then to
   pub finds-broken : (i j : ℕ) → (crewFound s starts worked ≡ Broken (i + 1) (j + 1)) ↔ FirstBrokenArc s (at starts) (at worked) i j
   unfolding crewFound
-  finds-broken i j = (
-    (λ e. first-same crew-arcs (answers.broken-means (crewNet (rowsOf s) starts worked) (crewWork s starts worked) i j e)),
-    (λ F. answers.means-broken (crewNet (rowsOf s) starts worked) (crewWork s starts worked) i j (first-same (λ x y. Iff·symm (crew-arcs x y)) F)),
-  )
+  finds-broken i j = Iff·trans (broken-says (crewNet (rowsOf s) starts worked) (crewWork s starts worked) i j) (first-same crew-arcs)
 
   -- AN OVERLOAD: every arc is kept, the period is the first, and the kind the lowest in it
   pub finds-over : (t k : ℕ) → (crewFound s starts worked ≡ Overload t (k + 1)) ↔ (KeepsArcs s (at starts) (at worked) × FirstOver (crewWork s starts worked) t k)
   unfolding crewFound
-  finds-over t k = (
-    (λ e.
-        let w = answers.over-means (crewNet (rowsOf s) starts worked) (crewWork s starts worked) t k e in
-        ((λ i j f. w .0 i j (crew-arcs i j .1 f)), w .1)),
-    (λ w. answers.means-over (crewNet (rowsOf s) starts worked) (crewWork s starts worked) t k (λ i j b. w .0 i j (crew-arcs i j .0 b)) (w .1)),
-  )
+  finds-over t k =
+      Iff·trans (over-says (crewNet (rowsOf s) starts worked) (crewWork s starts worked) t k)
+      (Iff·and (keeps-same (at starts) (byDuration worked) crew-arcs) Iff·rfl)
 
   -- nothing is demanded of a kind that the file does not have, so the kind shown is one of the file's
   pub none-occupied : (t k : ℕ) → planIn s .kinds ≤ k → k < 8 → occupied (crewWork s starts worked) t k ≡ 0

@@ -1,5 +1,6 @@
 -- What the crew check's answer is, and what each answer means. Assumes nothing.
 use mathlib.Core.Path.{_≡_, refl, sym, _∙_, ap, ap₂, subst, subst₂}
+use mathlib.Core.Logic.{_↔_}
 use Prim.Native.Nat.{ℕ, _+_, _≤_, _<_}
 use native.Mathlib.Decide.{decLt}
 use native.Mathlib.Omega.{arith}
@@ -84,7 +85,7 @@ module _ (g : Network) (c : Work) where
       (λ z. let h : firstPeriod c ≤ 0 = ltb-false 0 (firstPeriod c) z in f l (omega arith) (check-fits _ _ refl l refl h)))
 
   -- IT FITS: every arc is kept, and in no period at all is more of a kind occupied than there is
-  pub fits-means : checkOf g c ≡ Fits → Keeps g (c .start) × Enough c
+  fits-means : checkOf g c ≡ Fits → Keeps g (c .start) × Enough c
   fits-means e =
       by-answer
       (λ l h. let z : _≡_ {A = ℕ} 0 1 = cc in absurd (omega arith))
@@ -92,7 +93,7 @@ module _ (g : Network) (c : Work) where
       (λ l m h. (none-broken g (c .start) l, λ t k. not-exceeded c t (period-none c m t) k))
 
   -- A BROKEN ARC: it is the first, by from and then to
-  pub broken-means : (i j : ℕ) → checkOf g c ≡ Broken (i + 1) (j + 1) → FirstBroken (Arc g) (c .start) (g .weight) i j
+  broken-means : (i j : ℕ) → checkOf g c ≡ Broken (i + 1) (j + 1) → FirstBroken (Arc g) (c .start) (g .weight) i j
   broken-means i j e =
       by-answer
       (λ l h.
@@ -116,7 +117,7 @@ module _ (g : Network) (c : Work) where
       }
 
   -- AN OVERLOAD: every arc is kept, the period is the first, and the kind the lowest in it
-  pub over-means : (t k : ℕ) → checkOf g c ≡ Overload t (k + 1) → Keeps g (c .start) × FirstOver c t k
+  over-means : (t k : ℕ) → checkOf g c ≡ Overload t (k + 1) → Keeps g (c .start) × FirstOver c t k
   over-means t k e =
       by-answer
       (λ l h. let z : _≡_ {A = ℕ} 0 1 = cc in absurd (omega arith))
@@ -134,23 +135,33 @@ module _ (g : Network) (c : Work) where
       let F = found-broken g (c .start) l in
       absurd (omega (arith, k (brokenFrom g (c .start)) (brokenTo g (c .start) (brokenFrom g (c .start))) (F .there), F .late))
 
-  pub means-fits : Keeps g (c .start) → Enough c → checkOf g c ≡ Fits
+  means-fits : Keeps g (c .start) → Enough c → checkOf g c ≡ Fits
   means-fits k n =
       by-answer
       (λ l h. not-kept l k)
       (λ l m h. let o = over-first m in absurd (omega (arith, o .over, n (firstPeriod c) (lowestKind c (firstPeriod c)) (o .kind))))
       (λ l m h. sym h)
 
-  pub means-broken : (i j : ℕ) → FirstBroken (Arc g) (c .start) (g .weight) i j → checkOf g c ≡ Broken (i + 1) (j + 1)
+  means-broken : (i j : ℕ) → FirstBroken (Arc g) (c .start) (g .weight) i j → checkOf g c ≡ Broken (i + 1) (j + 1)
   means-broken i j F =
       by-answer
       (λ l h. let e = broken-once (c .start) (g .weight) _ _ i j (found-broken g (c .start) l) F in sym h ∙ ap₂ (λ (x y : ℕ). Broken (x + 1) (y + 1)) (e .0) (e .1))
       (λ l m h. absurd (omega (arith, none-broken g (c .start) l i j (F .there), F .late)))
       (λ l m h. absurd (omega (arith, none-broken g (c .start) l i j (F .there), F .late)))
 
-  pub means-over : (t k : ℕ) → Keeps g (c .start) → FirstOver c t k → checkOf g c ≡ Overload t (k + 1)
+  means-over : (t k : ℕ) → Keeps g (c .start) → FirstOver c t k → checkOf g c ≡ Overload t (k + 1)
   means-over t k keeps F =
       by-answer
       (λ l h. not-kept l keeps)
       (λ l m h. let e = over-once c _ _ t k (over-first m) F in sym h ∙ ap₂ (λ (x y : ℕ). Overload x (y + 1)) (e .0) (e .1))
       (λ l m h. absurd (omega (arith, not-exceeded c t (period-none c m t) k (F .kind), F .over)))
+
+  -- so each answer is given exactly where it is what it means
+  pub fits-says : (checkOf g c ≡ Fits) ↔ (Keeps g (c .start) × Enough c)
+  fits-says = (fits-means, λ w. means-fits (w .0) (w .1))
+
+  pub broken-says : (i j : ℕ) → (checkOf g c ≡ Broken (i + 1) (j + 1)) ↔ FirstBroken (Arc g) (c .start) (g .weight) i j
+  broken-says i j = (broken-means i j, means-broken i j)
+
+  pub over-says : (t k : ℕ) → (checkOf g c ≡ Overload t (k + 1)) ↔ (Keeps g (c .start) × FirstOver c t k)
+  over-says t k = (over-means t k, λ w. means-over t k (w .0) (w .1))
