@@ -19,7 +19,7 @@ module _ (s : ℕ → ℕ) (w : ℕ → ℕ → ℕ) (i j : ℕ) where
 
 -- WHAT KEEPS THE ARCS KEEPS THE ORDER THAT THEY MAKE, by durations d that are no longer than the arcs ask: no duration is negative
 pub kept-before : {A : ℕ → ℕ → Type 0} (s d : ℕ → ℕ) (w : ℕ → ℕ → ℕ) → ((i j : ℕ) → A i j → d i ≤ w i j) → Keeps A s w → Keeps (Before A) s (λ i j. d i)
-kept-before s d w h k i j r = before-least (λ x y. s x + d x ≤ s y) (λ x y a. omega (arith, k x y a, h x y a)) (λ x y z p q. omega arith) r
+kept-before s d w h k i j r = before-least (Kept s (λ x y. d x)) (λ x y a. omega (arith, k x y a, h x y a)) (λ x y z p q. omega arith) r
 
 -- the same arcs are kept by the same starts, and have the same first broken one
 pub keeps-same : {A B : ℕ → ℕ → Type 0} (s : ℕ → ℕ) (w : ℕ → ℕ → ℕ) → ((i j : ℕ) → A i j ↔ B i j) → Keeps A s w ↔ Keeps B s w
