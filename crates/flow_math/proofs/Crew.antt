@@ -11,10 +11,11 @@ use Rattle.words.specs.Sums.{sum}
 use Rattle.words.proofs.Tests
 use Rattle.words.proofs.Firsts
 use Rattle.words.proofs.Sums
-use Rattle.order.specs.Arcs.{StrictOrder}
+use Rattle.order.specs.Arcs.{StrictOrder, Drawn}
 use Rattle.flow_math.specs.Need.{Antichain, weight, Need}
 use Rattle.flow_math.specs.Heaviest.{needOf}
-use Rattle.flow_math.specs.Crew.{Crew, active, occupied}
+use Rattle.flow_math.specs.Kept.{Keeps}
+use Rattle.flow_math.specs.Crew.{active, occupied}
 use Rattle.flow_math.specs.Peak.{rank, early, turn, startsAt, Peak}
 use Rattle.flow_math.proofs.Need as Needs
 
@@ -43,8 +44,9 @@ unfolding occupied
 none-occupied n d s w = Sums.sum-zero n (λ i. cond (active s w 0 i) (d i) 0) (λ i l. Tests.cond-false (d i) 0 (none-active s w i))
 
 -- two elements that are at work in one period are not ordered
-pub active-antichain : (n : ℕ) (b : ℕ → ℕ → Bool) (s w : ℕ → ℕ) → Crew n b s w → (t : ℕ) → 1 ≤ t → Antichain n b (active s w t)
-active-antichain n b s w c t p i j l m x y h = omega (arith, c .keeps i j l m h, active-says s w t i .0 x .1, active-says s w t j .0 y .0)
+active-antichain : (n : ℕ) (b : ℕ → ℕ → Bool) (s w : ℕ → ℕ) (t : ℕ) → Keeps (Drawn n b) s (λ i j. w i) → Antichain n b (active s w t)
+active-antichain n b s w t k i j l m x y h =
+    omega (arith, k i j (record { from = l; to = m; drawn = h }), active-says s w t i .0 x .1, active-says s w t j .0 y .0)
 
 -- what is occupied is the weight of those at work
 pub occupied-weight : (n : ℕ) (d s w : ℕ → ℕ) (t : ℕ) → occupied n d s w t ≡ weight n d (active s w t)
@@ -52,10 +54,9 @@ unfolding occupied weight
 occupied-weight n d s w t = refl
 
 -- In no period is more than the need occupied.
-pub occupied-at-most : (n : ℕ) (b : ℕ → ℕ → Bool) (d : ℕ → ℕ) (x : ℕ) (s w : ℕ → ℕ) →
-    Need n b d x → Crew n b s w → (t : ℕ) → 1 ≤ t → occupied n d s w t ≤ x
-occupied-at-most n b d x s w N c t p =
-    omega (arith, occupied-weight n d s w t, N .most (active s w t) (active-antichain n b s w c t p))
+pub occupied-at-most : (n : ℕ) (b : ℕ → ℕ → Bool) (d : ℕ → ℕ) (x : ℕ) (s w : ℕ → ℕ) (t : ℕ) →
+    Need n b d x → Keeps (Drawn n b) s (λ i j. w i) → occupied n d s w t ≤ x
+occupied-at-most n b d x s w t N k = omega (arith, occupied-weight n d s w t, N .most (active s w t) (active-antichain n b s w t k))
 
 -- a larger set weighs no less
 pub weight-mono : (n : ℕ) (d : ℕ → ℕ) (S T : ℕ → Bool) → ((i : ℕ) → i < n → S i ≡ true → T i ≡ true) → weight n d S ≤ weight n d T
@@ -66,14 +67,14 @@ weight-mono n d S T h =
 
 module _ (n : ℕ) (b : ℕ → ℕ → Bool) (o : StrictOrder n b) where
   -- the rank rises along the order, and is below n
-  rank-rises : (i j : ℕ) → i < n → j < n → b i j ≡ true → rank n b i < rank n b j
+  pub rank-rises : (i j : ℕ) → i < n → j < n → b i j ≡ true → rank n b i < rank n b j
   unfolding rank
   rank-rises i j l m h =
       Sums.sum-lt n (λ k. cond (b k i) 1 0) (λ k. cond (b k j) 1 0) i l
       (let e : b i i ≡ false = Tests.fails (b i i) (o .irreflexive i l) in rw (e, h) (omega arith))
       (λ k p. Tests.cond-least (b k i) 1 (cond (b k j) 1 0) (λ e. Tests.cond-at (b k j) 1 (o .transitive k i j p l m e h)))
 
-  rank-below : (i : ℕ) → i < n → rank n b i < n
+  pub rank-below : (i : ℕ) → i < n → rank n b i < n
   unfolding rank
   rank-below i l =
       let s : sum n (λ k. cond (b k i) 1 0) < sum n (λ k. 1) =
@@ -84,16 +85,16 @@ module _ (n : ℕ) (b : ℕ → ℕ → Bool) (o : StrictOrder n b) where
 
   module _ (S : ℕ → Bool) where
     -- what is before a member of S, or before what is before one, is early
-    early-member : (i j : ℕ) → i < n → j < n → b i j ≡ true → S j ≡ true → early n b S i ≡ true
+    early-member : (i j : ℕ) → j < n → b i j ≡ true → S j ≡ true → early n b S i ≡ true
     unfolding early
-    early-member i j l m h s = Firsts.some-here n (λ t. S t && b i t) j m (Tests.and-both (S j) (b i j) s h)
+    early-member i j m h s = Firsts.some-here n (λ t. S t && b i t) j m (Tests.and-both (S j) (b i j) s h)
 
     early-before : (i j : ℕ) → i < n → j < n → b i j ≡ true → early n b S j ≡ true → early n b S i ≡ true
     unfolding early
     early-before i j l m h e =
         let r = Firsts.some-found n (λ t. S t && b j t) e in
         let k = r .0 in
-        early-member i k l (r .1)
+        early-member i k (r .1)
         (o .transitive i j k l m (r .1) h (Tests.and-right (S k) (b j k) (r .2)))
         (Tests.and-left (S k) (b j k) (r .2))
 
@@ -117,7 +118,7 @@ module _ (n : ℕ) (b : ℕ → ℕ → Bool) (o : StrictOrder n b) where
         Tests.by-test (early n b S j)
         (λ e. omega (arith, turn-early j e, turn-early i (early-before i j l m h e)))
         (λ e. Tests.by-test (S j)
-        (λ s. omega (arith, turn-member j e s, turn-early i (early-member i j l m h s)))
+        (λ s. omega (arith, turn-member j e s, turn-early i (early-member i j m h s)))
         (λ s. Tests.by-test (early n b S i)
         (λ c. omega (arith, turn-late j e s, turn-early i c))
         (λ c. Tests.by-test (S i)
@@ -125,18 +126,10 @@ module _ (n : ℕ) (b : ℕ → ℕ → Bool) (o : StrictOrder n b) where
         (λ p. omega (arith, turn-late j e s, turn-late i c p)))))
 
     -- Ordered elements start at least `gap` periods apart.
-    pub starts-apart : (gap i j : ℕ) → i < n → j < n → b i j ≡ true → startsAt n b S gap i + gap ≤ startsAt n b S gap j
+    starts-apart : (gap : ℕ) → Keeps (Drawn n b) (startsAt n b S gap) (λ i j. gap)
     unfolding startsAt
-    starts-apart gap i j l m h =
-        omega (arith, mul-le-mul-left gap (turn-rises i j l m h), mul-suc gap (turn n b S i))
-
-    -- With durations of at most `gap` it is a crew.
-    pub starts-crew : (gap : ℕ) (w : ℕ → ℕ) → ((i : ℕ) → i < n → (1 ≤ w i) × (w i ≤ gap)) → Crew n b (startsAt n b S gap) w
-    starts-crew gap w h =
-        record {
-          works = λ i l. h i l .0;
-          keeps = λ i j l m e. omega (arith, starts-apart gap i j l m e, h i l .1);
-        }
+    starts-apart gap i j a =
+        omega (arith, mul-le-mul-left gap (turn-rises i j (a .from) (a .to) (a .drawn)), mul-suc gap (turn n b S i))
 
     -- the members of an unrelated set start together
     starts-member : Antichain n b S → (gap i : ℕ) → i < n → S i ≡ true → startsAt n b S gap i ≡ gap * n
@@ -151,16 +144,15 @@ module _ (n : ℕ) (b : ℕ → ℕ → Bool) (o : StrictOrder n b) where
         s)
 
 -- The crew of a heaviest unrelated set occupies exactly the need in the period that follows `gap * n`.
-pub peak : (n : ℕ) (b : ℕ → ℕ → Bool) (d : ℕ → ℕ) (x : ℕ) → StrictOrder n b → (N : Need n b d x) → (gap : ℕ) (w : ℕ → ℕ) →
+peak : (n : ℕ) (b : ℕ → ℕ → Bool) (d : ℕ → ℕ) (x : ℕ) → StrictOrder n b → (N : Need n b d x) → (gap : ℕ) (w : ℕ → ℕ) →
     ((i : ℕ) → i < n → (1 ≤ w i) × (w i ≤ gap)) → occupied n d (startsAt n b (N .set) gap) w (suc (gap * n)) ≡ x
 peak n b d x o N gap w h =
     let s = startsAt n b (N .set) gap in
     let t = suc (gap * n) in
-    let c = starts-crew n b o (N .set) gap w h in
     omega (
       arith,
+      occupied-at-most n b d x s w t N (λ i j a. omega (arith, starts-apart n b o (N .set) gap i j a, h i (a .from) .1)),
       occupied-weight n d s w t,
-      N .most (active s w t) (active-antichain n b s w c t (omega arith)),
       weight-mono n d (N .set) (active s w t)
           (λ i l e. let p = starts-member n b o (N .set) (N .unrelated) gap i l e in
           active-says s w t i .1 (omega (arith, p), omega (arith, p, h i l .0))),
@@ -175,7 +167,6 @@ crew-peak n b d w gap o h =
     record {
       starts = startsAt n b (N .set) gap;
       period = suc (gap * n);
-      crew = starts-crew n b o (N .set) gap w h;
       apart = starts-apart n b o (N .set) gap;
       first = omega arith;
       full = peak n b d (needOf n b d) o N gap w h;

@@ -2,26 +2,24 @@
 --
 --   needOf-need         the computed need is the need: an unrelated set has that weight, and none has more
 --   need-only           there is no other need
---   weak-duality        the weight of an unrelated set and the units that a handover hands over are together at most all demands
 --   closed-need         where a search for a better handover failed, the need and the units handed over are exactly all demands
 --   closed-flow         then the handover makes a resource flow of any a units that are at least the need;
 --                       exactly a - needOf of them go straight from the start to the end
 --   no-flow-frees-more  no resource flow of a units sends more than that straight from the start to the end
---   flow-covers-need    so a resource flow of a units exists only if a is at least the need
---   crew-bound          no crew occupies more than the need, in any period
+--   crew-bound          no crew that keeps the order occupies more than the need, in any period, whatever its durations are
 --   crew-peak           for all durations from 1 to `gap` some crew occupies all of the need in one period; its ordered elements start
 --                       at least `gap` periods apart
 use mathlib.Core.Path.{_≡_}
 use mathlib.Core.Bool.{Bool}
 use Prim.Native.Nat.{ℕ, suc, _+_, _-_, _≤_, _<_}
-use native.Mathlib.Omega.{arith}
 use Rattle.words.specs.Sums.{sum}
-use Rattle.order.specs.Arcs.{StrictOrder}
-use Rattle.flow_math.specs.Need.{Antichain, weight, Need}
+use Rattle.order.specs.Arcs.{StrictOrder, Drawn}
+use Rattle.flow_math.specs.Need.{Need}
 use Rattle.flow_math.specs.Heaviest.{needOf}
 use Rattle.flow_math.specs.Handover.{total, Handover, Closed}
 use Rattle.flow_math.specs.Flow.{nodeFlow, ResourceFlow}
-use Rattle.flow_math.specs.Crew.{Crew, occupied}
+use Rattle.flow_math.specs.Kept.{Keeps}
+use Rattle.flow_math.specs.Crew.{occupied}
 use Rattle.flow_math.specs.Peak.{Peak}
 use Rattle.flow_math.proofs.Need as Needs
 use Rattle.flow_math.proofs.Weak
@@ -34,10 +32,6 @@ needOf-need n b d o = Needs.needOf-need n b d o
 
 pub need-only : (n : ℕ) (b : ℕ → ℕ → Bool) (d : ℕ → ℕ) (x : ℕ) → StrictOrder n b → Need n b d x → x ≡ needOf n b d
 need-only n b d x o N = Needs.need-is n b d x o N
-
-pub weak-duality : (n : ℕ) (b : ℕ → ℕ → Bool) (d : ℕ → ℕ) (f : ℕ → ℕ → ℕ) (T : ℕ → Bool) →
-    StrictOrder n b → Handover n b d f → Antichain n b T → weight n d T + total n f ≤ sum n d
-weak-duality n b d f T o F u = Weak.weak n b T o u d f F
 
 pub closed-need : (n : ℕ) (b : ℕ → ℕ → Bool) (d : ℕ → ℕ) (f : ℕ → ℕ → ℕ) (L R : ℕ → Bool) →
     StrictOrder n b → Handover n b d f → Closed n b d f L R → needOf n b d + total n f ≡ sum n d
@@ -53,13 +47,9 @@ pub no-flow-frees-more : (n : ℕ) (b : ℕ → ℕ → Bool) (d : ℕ → ℕ) 
     StrictOrder n b → ResourceFlow n b d a g → g 0 (suc n) + needOf n b d ≤ a
 no-flow-frees-more n b d a g o G = Flows.no-flow-frees-more n b d a g o G
 
-pub flow-covers-need : (n : ℕ) (b : ℕ → ℕ → Bool) (d : ℕ → ℕ) (a : ℕ) (g : ℕ → ℕ → ℕ) →
-    StrictOrder n b → ResourceFlow n b d a g → needOf n b d ≤ a
-flow-covers-need n b d a g o G = omega (arith, no-flow-frees-more n b d a g o G)
-
 pub crew-bound : (n : ℕ) (b : ℕ → ℕ → Bool) (d : ℕ → ℕ) (s w : ℕ → ℕ) (t : ℕ) →
-    StrictOrder n b → Crew n b s w → 1 ≤ t → occupied n d s w t ≤ needOf n b d
-crew-bound n b d s w t o c p = Crews.occupied-at-most n b d (needOf n b d) s w (Needs.needOf-need n b d o) c t p
+    StrictOrder n b → Keeps (Drawn n b) s (λ i j. w i) → occupied n d s w t ≤ needOf n b d
+crew-bound n b d s w t o k = Crews.occupied-at-most n b d (needOf n b d) s w t (Needs.needOf-need n b d o) k
 
 pub crew-peak : (n : ℕ) (b : ℕ → ℕ → Bool) (d : ℕ → ℕ) (w : ℕ → ℕ) (gap : ℕ) →
     StrictOrder n b → ((i : ℕ) → i < n → (1 ≤ w i) × (w i ≤ gap)) → Peak n b d w gap

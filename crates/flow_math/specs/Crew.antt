@@ -1,15 +1,9 @@
--- A crew: one start and one duration for each element, in any whole numbers; who is at work in a period, and what is then occupied. THE ONLY DEFINITION of both: the
--- crew check (schedule), the file's crews (planner) and the theorems here all speak of it. Assumes nothing.
-use mathlib.Core.Path.{_≡_}
-use mathlib.Core.Bool.{Bool, true, cond, _&&_}
-use Prim.Native.Nat.{ℕ, _+_, _≤_, _<_}
+-- A crew has one start s i and one duration w i for each element i, in any whole numbers: who is at work in a period, and what is then occupied. THE ONLY DEFINITION of
+-- both: the crew check (schedule), the file's crews (planner) and the theorems here all speak of it. Which arcs it keeps is Kept. Assumes nothing.
+use mathlib.Core.Bool.{Bool, cond, _&&_}
+use Prim.Native.Nat.{ℕ, _+_}
 use lib.Dec.{ltb, leb}
 use Rattle.words.specs.Sums.{sum}
-
--- "one start and one duration of 1 or more for each activity"; it keeps the order, since it keeps every arc
-pub record Crew (n : ℕ) (b : ℕ → ℕ → Bool) (s w : ℕ → ℕ) : Type 0 where
-  pub works : (i : ℕ) → i < n → 1 ≤ w i
-  pub keeps : (i j : ℕ) → i < n → j < n → b i j ≡ true → s i + w i ≤ s j
 
 -- AT WORK: "Period t = 1, 2, .. has i at work when its start is at most t−1 and its finish at least t." The paper's active set A(s, t). A start at most t − 1 is one
 -- below t; written so, nobody is at work in a period 0, and in every other the words are as they stand: `active-reads` of proofs/Crew.antt.

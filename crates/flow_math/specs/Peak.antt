@@ -1,18 +1,20 @@
 -- A crew that occupies all of the need in one period, and how one is found. Assumes nothing.
 use mathlib.Core.Path.{_≡_}
-use mathlib.Core.Bool.{Bool, true, cond, _&&_}
-use Prim.Native.Nat.{ℕ, suc, _+_, _*_, _≤_, _<_}
+use mathlib.Core.Bool.{Bool, cond, _&&_}
+use Prim.Native.Nat.{ℕ, suc, _+_, _*_, _≤_}
 use Rattle.words.specs.Sums.{sum}
 use Rattle.words.specs.Members.{some}
+use Rattle.order.specs.Arcs.{Drawn}
 use Rattle.flow_math.specs.Heaviest.{needOf}
-use Rattle.flow_math.specs.Crew.{Crew, occupied}
+use Rattle.flow_math.specs.Kept.{Keeps}
+use Rattle.flow_math.specs.Crew.{occupied}
 
--- a crew with the durations w that occupies all of the need in one period, and whose ordered elements start at least `gap` periods apart
+-- a crew with the durations w that occupies all of the need in one period; the starts of ordered elements are at least `gap` periods apart, so that it keeps the order
+-- wherever no duration is longer
 pub record Peak (n : ℕ) (b : ℕ → ℕ → Bool) (d w : ℕ → ℕ) (gap : ℕ) : Type 0 where
   pub starts : ℕ → ℕ
   pub period : ℕ
-  pub crew : Crew n b starts w
-  pub apart : (i j : ℕ) → i < n → j < n → b i j ≡ true → starts i + gap ≤ starts j
+  pub apart : Keeps (Drawn n b) starts (λ i j. gap)
   pub first : 1 ≤ period
   pub full : occupied n d starts w period ≡ needOf n b d
 

@@ -1,10 +1,9 @@
 -- What the definitions of the operations mean, in the file's own terms: the arcs, the two orders, the starts. Assumes nothing.
-use mathlib.Core.Path.{_≡_, refl, _∙_}
+use mathlib.Core.Path.{_≡_, sym}
 use mathlib.Core.List.{List}
-use mathlib.Core.Logic.{_⊎_, ⊎-elim, _↔_, Iff·trans, inl, inr}
+use mathlib.Core.Logic.{⊎-elim, _↔_, Iff·rfl, Iff·trans}
 use Prim.Native.Nat.{ℕ, _≤_, _<_, _+_}
 use native.Mathlib.Omega.{arith}
-use lib.ListN.{getD}
 use Rattle.words.proofs.Tests.{⊎-iff}
 use Rattle.order.specs.Stored.{elements}
 use Rattle.order.specs.Before.{Before, Acyclic}
@@ -14,15 +13,15 @@ use Rattle.order.proofs.Before.{before-same, before-within}
 use Rattle.order.proofs.Represents.{represents-same}
 use Rattle.order.proofs.Orders.{direct-order, direct-joined, order-strict}
 use Rattle.schedule.specs.Network.{Keeps}
-use Rattle.schedule.specs.Lists.{LargestOr0, at}
+use Rattle.schedule.specs.Lists.{LargestOr0, FinishOf, at}
 use Rattle.schedule.specs.model.Arrays.{netOf, byDuration}
 use Rattle.schedule.proofs.Arrays as arrays
+use Rattle.schedule.proofs.Starts as earliest
 use Rattle.plan.specs.Meaning.{Readable, JobArc, ExtraArc, FileArc, fileDuration}
 use Rattle.planner.specs.Open.{planIn, rowsOf, jobOrder, planOrder, Opens}
-use Rattle.planner.specs.Starts.{firstStarts, endStart, startNumbers}
-use Rattle.planner.specs.Times.{KeepsFile, FinishesBefore, FinishesOf}
+use Rattle.planner.specs.Starts.{firstStarts, endStart}
+use Rattle.planner.specs.Times.{KeepsArcs}
 use Rattle.planner.proofs.OpenLaws.{said-in, opens-readable, opens-plan}
-use Rattle.planner.proofs.StartsLaws.{before-end, at-end}
 
 -- ---- the arcs of the rows are the arcs of the file
 
@@ -56,94 +55,45 @@ opens-acyclic s o i b = opens-plan s o i (before-same (plan-arcs s (opens-readab
 pub opens-strict : (s : List ℕ) → Opens s → StrictOrder elements (isBefore (planOrder s))
 opens-strict s o = order-strict (plan-order s (opens-readable s o)) (opens-acyclic s o)
 
--- ---- THE STARTS: the least that keep every arc of the file with the file's durations
+-- ---- THE STARTS: the least that keep every arc of the file with the file's durations. So is whatever starts the m activities as they do.
 
-module _ (s : List ℕ) (o : Opens s) where
+module _ (s : List ℕ) (o : Opens s) (x : ℕ → ℕ) (same : (i : ℕ) → i < planIn s .count → x i ≡ at (firstStarts s) i) where
   readable : Readable s
   readable = opens-readable s o
 
-  start-at : (i : ℕ) → i < planIn s .count → getD (startNumbers s) i 0 ≡ at (firstStarts s) i
-  unfolding startNumbers
-  start-at i h = before-end (planIn s .count) (firstStarts s) (endStart s) i h
+  -- the same finish, by the plan's duration and by the file's
+  finish : (i : ℕ) → i < planIn s .count → at (firstStarts s) i + at (planIn s .duration) i ≡ x i + fileDuration s i
+  finish i l = omega (arith, same i l, said-in s readable .duration i l)
 
-  end-at : getD (startNumbers s) (planIn s .count) 0 ≡ endStart s
-  unfolding startNumbers
-  end-at = at-end (planIn s .count) (firstStarts s) (endStart s)
-
-  duration-at : (i : ℕ) → i < planIn s .count → at (planIn s .duration) i ≡ fileDuration s i
-  duration-at = said-in s readable .duration
-
-  -- the starts that are written keep every arc of the file
-  pub starts-keep : KeepsFile s (λ i. getD (startNumbers s) i 0)
+  -- they keep every arc of the file
+  pub starts-keep : KeepsArcs s x (fileDuration s)
   starts-keep i j a =
       let h = arc-ends s readable i j a in
       omega (
         arith,
         arrays.starts-keep (rowsOf s) (byDuration (planIn s .duration)) (opens-plan s o) i j (plan-arcs s readable i j .1 a),
-        start-at i (h .0),
-        start-at j (h .1),
-        duration-at i (h .0),
+        finish i (h .0),
+        same j (h .1),
       )
 
   -- whatever keeps every arc of the file starts each activity no earlier
-  pub starts-least : (x : ℕ → ℕ) → KeepsFile s x → (i : ℕ) → i < planIn s .count → getD (startNumbers s) i 0 ≤ x i
-  starts-least x k i h =
-      omega (arith, start-at i h, arrays.starts-least (rowsOf s) (byDuration (planIn s .duration)) x keeps i (omega (arith, said-in s readable .few)))
+  pub starts-least : (y : ℕ → ℕ) → KeepsArcs s y (fileDuration s) → (i : ℕ) → i < planIn s .count → x i ≤ y i
+  starts-least y k i h =
+      omega (arith, same i h, arrays.starts-least (rowsOf s) (byDuration (planIn s .duration)) y keeps i (omega (arith, said-in s readable .few)))
     where
-      keeps : Keeps (netOf (rowsOf s) (byDuration (planIn s .duration))) x
+      keeps : Keeps (netOf (rowsOf s) (byDuration (planIn s .duration))) y
       keeps a b d =
           let f = plan-arcs s readable a b .0 d in
-          omega (arith, k a b f, duration-at a (arc-ends s readable a b f .0))
+          omega (arith, k a b f, said-in s readable .duration a (arc-ends s readable a b f .0))
 
   -- EACH STARTS AT THE LARGEST FINISH OF THOSE BEFORE IT, OR AT 0
-  pub starts-largest : (j : ℕ) → j < planIn s .count → LargestOr0 (FinishesBefore s (λ i. getD (startNumbers s) i 0) j) (getD (startNumbers s) j 0)
-  starts-largest j h = record { upper = upper; reached = reached (E .reached) }
-    where
-      E : LargestOr0 (λ y. (i : ℕ) × Before (Direct (rowsOf s)) i j × (y ≡ at (firstStarts s) i + at (planIn s .duration) i)) (at (firstStarts s) j)
-      E = arrays.starts-largest (rowsOf s) (planIn s .duration) (opens-plan s o) j (omega (arith, said-in s readable .few))
-
-      -- the finish of one before, in both terms
-      finish : (i : ℕ) → Before (FileArc s) i j → at (firstStarts s) i + at (planIn s .duration) i ≡ getD (startNumbers s) i 0 + fileDuration s i
-      finish i b =
-          let l = before-within (planIn s .count) (arc-ends s readable) b .0 in
-          omega (arith, start-at i l, duration-at i l)
-
-      upper : (y : ℕ) → FinishesBefore s (λ i. getD (startNumbers s) i 0) j y → y ≤ getD (startNumbers s) j 0
-      upper y f =
-          omega (
-            arith,
-            E .upper (at (firstStarts s) (f .0) + at (planIn s .duration) (f .0)) (f .0, before-same (plan-arcs s readable) (f .0) j .1 (f .1), refl),
-            finish (f .0) (f .1),
-            f .2,
-            start-at j h,
-          )
-
-      reached : (at (firstStarts s) j ≡ 0) ⊎ ((i : ℕ) × Before (Direct (rowsOf s)) i j × (at (firstStarts s) j ≡ at (firstStarts s) i + at (planIn s .duration) i))
-          → (getD (startNumbers s) j 0 ≡ 0) ⊎ FinishesBefore s (λ i. getD (startNumbers s) i 0) j (getD (startNumbers s) j 0)
-      reached (inl z) = inl (start-at j h ∙ z)
-      reached (inr v) =
-          let b = before-same (plan-arcs s readable) (v .0) j .0 (v .1) in
-          inr (v .0, b, start-at j h ∙ v .2 ∙ finish (v .0) b)
+  pub starts-largest : (j : ℕ) → j < planIn s .count → LargestOr0 (FinishOf (λ i. Before (FileArc s) i j) x (fileDuration s)) (x j)
+  starts-largest j h =
+      let before = before-same (plan-arcs s readable) in
+      earliest.largest-same (sym (same j h)) (λ i. before i j)
+      (λ i b. finish i (before-within (planIn s .count) (arc-ends s readable) (before i j .0 b) .0))
+      (arrays.starts-largest (rowsOf s) (planIn s .duration) (opens-plan s o) j (omega (arith, said-in s readable .few)))
 
   -- THE END STARTS AT THE LARGEST FINISH OF ALL, OR AT 0
-  pub end-largest : LargestOr0 (FinishesOf s (planIn s .count) (λ i. getD (startNumbers s) i 0)) (getD (startNumbers s) (planIn s .count) 0)
-  end-largest = record { upper = upper; reached = reached (E .reached) }
-    where
-      E : LargestOr0 (λ y. (i : ℕ) × (i < planIn s .count) × (y ≡ at (firstStarts s) i + at (planIn s .duration) i)) (endStart s)
-      E = arrays.starts-end-largest (rowsOf s) (byDuration (planIn s .duration)) (planIn s .count) (at (planIn s .duration))
-
-      upper : (y : ℕ) → FinishesOf s (planIn s .count) (λ i. getD (startNumbers s) i 0) y → y ≤ getD (startNumbers s) (planIn s .count) 0
-      upper y f =
-          omega (
-            arith,
-            E .upper (at (firstStarts s) (f .0) + at (planIn s .duration) (f .0)) (f .0, f .1, refl),
-            start-at (f .0) (f .1),
-            duration-at (f .0) (f .1),
-            f .2,
-            end-at,
-          )
-
-      reached : (endStart s ≡ 0) ⊎ ((i : ℕ) × (i < planIn s .count) × (endStart s ≡ at (firstStarts s) i + at (planIn s .duration) i))
-          → (getD (startNumbers s) (planIn s .count) 0 ≡ 0) ⊎ FinishesOf s (planIn s .count) (λ i. getD (startNumbers s) i 0) (getD (startNumbers s) (planIn s .count) 0)
-      reached (inl z) = inl (end-at ∙ z)
-      reached (inr v) = inr (v .0, v .1, omega (arith, end-at, v .2, start-at (v .0) (v .1), duration-at (v .0) (v .1)))
+  pub end-largest : (e : ℕ) → e ≡ endStart s → LargestOr0 (FinishOf (λ i. i < planIn s .count) x (fileDuration s)) e
+  end-largest e q = earliest.largest-same (sym q) (λ i. Iff·rfl) finish (earliest.end-largest (planIn s .count) (at (firstStarts s)) (at (planIn s .duration)))

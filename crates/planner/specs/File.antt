@@ -1,4 +1,4 @@
--- Sets, crews and flows of a file, in the file's own terms: its arcs, demands and availabilities are those of plan's Meaning. No operation is named here. Element i is
+-- Sets and flows of a file, in the file's own terms: its arcs, demands and availabilities are those of plan's Meaning. No operation is named here. Element i is
 -- activity i + 1, kind k is kind k + 1. Assumes nothing.
 use mathlib.Core.Path.{_≡_}
 use mathlib.Core.Bool.{Bool, true, cond}
@@ -9,7 +9,6 @@ use Rattle.order.specs.Before.{Before}
 use Rattle.words.specs.Sums.{sum}
 use Rattle.plan.specs.Records.{activityCount}
 use Rattle.plan.specs.Meaning.{FileArc, fileDemand, fileAvailable}
-use Rattle.flow_math.specs.Crew.{occupied}
 
 -- ---- need: "Two activities are ordered when one is before the other in the plan order" (01, Need and overload)
 
@@ -20,18 +19,6 @@ Unrelated s S = (i j : ℕ) → S i ≡ true → S j ≡ true → Before (FileAr
 -- the sum of the demands of kind k over a set of activities
 abbrev pub demandSum : List ℕ → ℕ → (ℕ → Bool) → ℕ
 demandSum s k S = sum (activityCount s) (λ i. cond (S i) (fileDemand s k i) 0)
-
--- ---- "A crew in demand 3 is one start and one duration of 1 or more for each activity, in any whole numbers" (01, Crew check)
-
-pub record FileCrew (s : List ℕ) (starts worked : ℕ → ℕ) : Type 0 where
-  pub works : (i : ℕ) → i < activityCount s → 1 ≤ worked i
-  -- "It keeps every arc: for each arc i to j, job or extra, the start of i plus its duration is at most the start of j."
-  pub keeps : (i j : ℕ) → FileArc s i j → starts i + worked i ≤ starts j
-
--- "What is occupied of a kind in a period, here and in demand 3, is the sum of that kind's demands over the activities at work.": who is at work in a period, and the
--- sum, are flow_math's Crew
-abbrev pub crewOccupies : List ℕ → ℕ → (ℕ → ℕ) → (ℕ → ℕ) → ℕ → ℕ
-crewOccupies s k starts worked t = occupied (activityCount s) (fileDemand s k) starts worked t
 
 -- ---- a flow of kind k: g u v units pass from node u to node v (01, Flow)
 

@@ -1,33 +1,30 @@
--- Schedules that keep a file's arcs, and the starts and worked durations of a crew, in the file's own terms. No operation is named here. Element i is
--- activity i + 1. Assumes nothing.
-use mathlib.Core.Path.{_≡_}
+-- Starts, durations and crews of a file, in the file's own terms: its arcs and demands are those of plan's Meaning. No operation is named here. Element i is
+-- activity i + 1, kind k is kind k + 1; x i is the start of element i and w i its duration, in any whole numbers. Assumes nothing.
 use mathlib.Core.List.{List}
-use Prim.Native.Nat.{ℕ, _+_, _≤_, _<_}
-use lib.ListN.{getD}
-use Rattle.order.specs.Before.{Before}
-use Rattle.plan.specs.Meaning.{FileArc, fileDuration}
+use Prim.Native.Nat.{ℕ, _≤_, _<_}
+use Rattle.plan.specs.Records.{activityCount}
+use Rattle.plan.specs.Meaning.{FileArc, fileDemand}
+use Rattle.flow_math.specs.Kept.{Keeps, FirstBroken}
+use Rattle.flow_math.specs.Crew.{occupied}
 
--- "Every schedule that keeps the arcs with the file's durations" (01, Earliest starts): x is one
-abbrev pub KeepsFile : List ℕ → (ℕ → ℕ) → Type 0
-KeepsFile s x = (i j : ℕ) → FileArc s i j → x i + fileDuration s i ≤ x j
-
--- y is the finish, by the starts x and the file's durations, of one before j
-abbrev pub FinishesBefore : List ℕ → (ℕ → ℕ) → ℕ → ℕ → Type 0
-FinishesBefore s x j y = (i : ℕ) × Before (FileArc s) i j × (y ≡ x i + fileDuration s i)
-
--- y is the finish of one of m activities
-abbrev pub FinishesOf : List ℕ → ℕ → (ℕ → ℕ) → ℕ → Type 0
-FinishesOf s m x y = (i : ℕ) × (i < m) × (y ≡ x i + fileDuration s i)
-
--- ---- a crew's starts and worked durations, as Crew check is given them
+-- how long after the start of i an arc of the file from i to j lets j start: the duration of i. What keeps a file's arcs, and what breaks one, goes by this alone.
+abbrev pub arcWeight : List ℕ → (ℕ → ℕ) → ℕ → ℕ → ℕ
+arcWeight s w i j = w i
 
 -- "It keeps every arc: for each arc i to j, job or extra, the start of i plus its duration is at most the start of j." (01, Crew check)
-abbrev pub KeepsWorked : List ℕ → List ℕ → List ℕ → Type 0
-KeepsWorked s starts worked = (i j : ℕ) → FileArc s i j → getD starts i 0 + getD worked i 0 ≤ getD starts j 0
+abbrev pub KeepsArcs : List ℕ → (ℕ → ℕ) → (ℕ → ℕ) → Type 0
+KeepsArcs s x w = Keeps (FileArc s) x (arcWeight s w)
 
 -- "the first arc i to j, by from and then to, with start of i plus its duration greater than the start of j"
-pub record FirstBrokenArc (s starts worked : List ℕ) (i j : ℕ) : Type 0 where
-  pub there : FileArc s i j
-  pub late : getD starts j 0 < getD starts i 0 + getD worked i 0
-  pub kept : (x y : ℕ) → FileArc s x y → x < i → getD starts x 0 + getD worked x 0 ≤ getD starts y 0
-  pub rest : (y : ℕ) → FileArc s i y → y < j → getD starts i 0 + getD worked i 0 ≤ getD starts y 0
+abbrev pub FirstBrokenArc : List ℕ → (ℕ → ℕ) → (ℕ → ℕ) → ℕ → ℕ → Type 0
+FirstBrokenArc s x w = FirstBroken (FileArc s) x (arcWeight s w)
+
+-- "A crew in demand 3 is one start and one duration of 1 or more for each activity, in any whole numbers"
+pub record FileCrew (s : List ℕ) (x w : ℕ → ℕ) : Type 0 where
+  pub works : (i : ℕ) → i < activityCount s → 1 ≤ w i
+  pub keeps : KeepsArcs s x w
+
+-- "What is occupied of a kind in a period, here and in demand 3, is the sum of that kind's demands over the activities at work.": who is at work in a period, and the
+-- sum, are flow_math's Crew
+abbrev pub crewOccupies : List ℕ → ℕ → (ℕ → ℕ) → (ℕ → ℕ) → ℕ → ℕ
+crewOccupies s k x w t = occupied (activityCount s) (fileDemand s k) x w t

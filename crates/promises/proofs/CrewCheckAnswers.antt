@@ -1,12 +1,12 @@
 -- What Crew check answers, in the file's own terms, in both directions. Assumes nothing.
-use mathlib.Core.Path.{_≡_, refl, sym, ap, _∙_}
+use mathlib.Core.Path.{_≡_, sym, ap, _∙_}
 use mathlib.Core.Bool.{Bool, false}
 use mathlib.Core.List.{List, [], _∷_}
-use mathlib.Core.Logic.{by-cases}
+use mathlib.Core.Logic.{_↔_, Iff·rfl, Iff·trans, Iff·and, by-cases}
 use Prim.Native.Nat.{ℕ, zero, suc, _+_, _*_, _≤_, _<_}
 use native.Mathlib.Omega.{arith}
 use native.Mathlib.Decide.{decLt}
-use lib.ListN.{length, getD}
+use lib.ListN.{length}
 use Rattle.words.proofs.Tests.{holds}
 use Rattle.order.specs.Stored.{elements}
 use Rattle.plan.specs.Meaning.{Readable, fileKinds, fileDemand, fileAvailable}
@@ -15,29 +15,31 @@ use Rattle.flow_math.specs.Need.{weight}
 use Rattle.flow_math.specs.Crew.{active}
 use Rattle.flow_math.proofs.Need.{weight-same}
 use Rattle.flow_math.proofs.Crew.{occupied-weight, none-occupied as none-at-first}
-use Rattle.schedule.specs.Checks.{Work, occupied, checkOf, Enough, FirstOver}
-use Rattle.schedule.specs.model.Arrays.{crewNet}
+use Rattle.schedule.specs.Checks.{Work, occupied, Enough, FirstOver}
 use Rattle.schedule.specs.Lists.{at}
 use Rattle.schedule.specs.declared.Checked.{Checked}
 use Rattle.schedule.specs.declared.Checked.the-variants.{Fits, Broken, Overload}
-use Rattle.planner.specs.Open.{planIn, rowsOf, Opens}
-use Rattle.planner.specs.CrewCheck.{badLists, crewWork, crewFound}
-use Rattle.planner.specs.File.{crewOccupies}
+use Rattle.planner.specs.Open.{planIn, Opens}
+use Rattle.planner.specs.CrewCheck.{badLists, crewWork, crewFound, crewCheckAnswer}
+use Rattle.planner.specs.Times.{crewOccupies}
 use Rattle.planner.proofs.OpenLaws.{said-in, opens-readable}
 use Rattle.planner.proofs.CrewCheckLaws.{bad-zero, lists-fine}
 use Rattle.planner.proofs.QuotedNeeds.{count-in, kinds-in, kinds-few, available-in}
+use Rattle.planner.specs.declared.CrewChecked.the-variants.{Found}
 use Rattle.planner.specs.Numbers.{foundNumbers, crewCheckNumbers}
 use Rattle.promises.specs.Ours.{ours}
 use Rattle.promises.specs.Paper.{RightLists, NeverOver, FirstOverload, CrewCheck}
 use Rattle.promises.proofs.AnswersWhen.{crew-lists, crew-looks}
-use Rattle.promises.proofs.CrewCheckMeaning.{CrewRight, no-zero, crew-fits, crew-broken, crew-over, none-occupied, over-kind}
-use Rattle.promises.proofs.CrewFindings.{all-worked, means-fits, means-broken, means-over}
+use Rattle.promises.proofs.CrewCheckMeaning.{none-zero, finds-fits, finds-broken, finds-over, none-occupied, over-kind}
 
 -- a finding is no refusal as 10
 not-ten : (x : Checked) (m : ℕ) → foundNumbers x ≡ 10 ∷ m ∷ [] → ⊥
 not-ten Fits m e = let z : _≡_ {A = ℕ} 0 10 = cc in omega arith
 not-ten (Broken i j) m e = let z : _≡_ {A = ℕ} 254 10 = cc in omega arith
 not-ten (Overload t k) m e = let z : _≡_ {A = ℕ} 255 10 = cc in omega arith
+
+same-found : {x y : Checked} → Found x ≡ Found y → x ≡ y
+same-found e = cc
 
 -- where something is occupied, it is in period 1 or later
 some-period : (c : Work) (t k : ℕ) → 0 < occupied c t k → 1 ≤ t
@@ -56,7 +58,7 @@ module _ (s : List ℕ) (o : Opens s) (starts worked : List ℕ) where
   lists-right : badLists (planIn s .count) starts worked ≡ false → RightLists s starts worked
   lists-right e =
       let w = lists-fine (planIn s .count) starts worked e in
-      record { starts-all = w .0 ∙ m; worked-all = w .1 ∙ m; working = λ i h. no-zero worked (w .2) i (omega (arith, h, m, w .1)) }
+      record { starts-all = w .0 ∙ m; worked-all = w .1 ∙ m; working = λ i h. none-zero worked .0 (w .2) i (omega (arith, h, m, w .1)) }
 
   module _ (R : RightLists s starts worked) where
     starts-count : length starts ≡ planIn s .count
@@ -65,14 +67,16 @@ module _ (s : List ℕ) (o : Opens s) (starts worked : List ℕ) where
     worked-count : length worked ≡ planIn s .count
     worked-count = R .worked-all ∙ sym m
 
-    working : (i : ℕ) → i < length worked → 1 ≤ getD worked i 0
-    working i h = R .working i (omega (arith, h, R .worked-all))
-
     not-bad : badLists (planIn s .count) starts worked ≡ false
-    not-bad = sym (bad-zero (planIn s .count) starts worked starts-count worked-count (sym (all-worked worked working)))
+    not-bad =
+        sym (bad-zero (planIn s .count) starts worked starts-count worked-count
+        (sym (none-zero worked .1 (λ i h. R .working i (omega (arith, R .worked-all))))))
 
-    looked : CrewRight s starts worked (checkOf (crewNet (rowsOf s) starts worked) (crewWork s starts worked))
-    looked = record { opens = o; starts-all = starts-count; worked-all = worked-count; working = working; finds = refl }
+    -- what is answered is what is found
+    answers : (x : Checked) → (crewCheckAnswer s starts worked ≡ Found x) ↔ (crewFound s starts worked ≡ x)
+    answers x =
+        let e = crew-looks s starts worked o not-bad in
+        ((λ q. same-found (sym e ∙ q)), (λ q. e ∙ ap Found q))
 
     -- ---- more is occupied than there is: by the plan's demands, which are the file's
 
@@ -103,12 +107,12 @@ module _ (s : List ℕ) (o : Opens s) (starts worked : List ℕ) where
     not-over (suc t) n k h =
         by-cases (decLt k (fileKinds s))
         (λ l. omega (arith, n (omega arith) k l, occupied-in (suc t) k h, available-at k h))
-        (λ l. omega (arith, none-occupied s starts worked looked (suc t) k (omega (arith, l, kinds-in s readable)) h))
+        (λ l. omega (arith, none-occupied s starts worked o starts-count (suc t) k (omega (arith, l, kinds-in s readable)) h))
 
     first-overload : (t k : ℕ) → FirstOver (crewWork s starts worked) t k → FirstOverload s starts worked t k
     first-overload t k F =
         let p : 1 ≤ t = some-period (crewWork s starts worked) t k (omega (arith, F .over)) in
-        let h : k < fileKinds s = omega (arith, over-kind s starts worked looked t k F, kinds-in s readable) in
+        let h : k < fileKinds s = omega (arith, over-kind s starts worked o starts-count t k F, kinds-in s readable) in
         record {
           period = p;
           kind = h;
@@ -140,13 +144,11 @@ module _ (s : List ℕ) (o : Opens s) (starts worked : List ℕ) where
               ap crewCheckNumbers (crew-lists s starts worked o (holds (badLists (planIn s .count) starts worked) (λ e. n (lists-right e))))
               ∙ ap (λ (x : ℕ). 10 ∷ x ∷ []) m),
         );
-        fits = λ R. (
-          (λ e. let w = crew-fits s starts worked e in (w .0, never-over R (w .1))),
-          (λ w. means-fits s starts worked o (starts-count R) (worked-count R) (working R) (w .0) (λ t. not-over R t (λ p k. w .1 t k p))),
-        );
-        broken = λ R i j. (crew-broken s starts worked i j, means-broken s starts worked o (starts-count R) (worked-count R) (working R) i j);
-        overload = λ R t k. (
-          (λ e. let w = crew-over s starts worked t k e in (w .0, first-overload R t k (w .1))),
-          (λ w. means-over s starts worked o (starts-count R) (worked-count R) (working R) t k (w .0) (first-over R t k (w .1))),
-        );
+        fits = λ R.
+            Iff·trans (answers R Fits)
+            (Iff·trans (finds-fits s starts worked o (starts-count R)) (Iff·and Iff·rfl (never-over R, λ n t. not-over R t (λ p k. n t k p))));
+        broken = λ R i j. Iff·trans (answers R (Broken (i + 1) (j + 1))) (finds-broken s starts worked o (starts-count R) i j);
+        overload = λ R t k.
+            Iff·trans (answers R (Overload t (k + 1)))
+            (Iff·trans (finds-over s starts worked o (starts-count R) t k) (Iff·and Iff·rfl (first-overload R t k, first-over R t k)));
       }

@@ -1,34 +1,25 @@
 -- What Starts writes are the earliest starts, in the file's own terms. Assumes nothing.
-use mathlib.Core.Path.{_≡_, sym, ap, _∙_, subst}
+use mathlib.Core.Path.{_≡_, ap, _∙_, subst}
 use mathlib.Core.List.{List, _++_}
-use mathlib.Core.Logic.{⊎-elim, inl, inr}
+use mathlib.Core.Logic.{⊎-elim}
 use Prim.Native.Nat.{ℕ, _+_, _≤_, _<_}
 use native.Mathlib.Omega.{arith}
 use lib.ListN.{length, getD, drop, length-append, length-drop, List·getD-append}
 use lib.Seq.{drop-at}
-use Rattle.order.proofs.Before.{before-within}
 use Rattle.plan.specs.Meaning.{Readable, fileDuration}
 use Rattle.plan.specs.Records.{activityCount}
-use Rattle.schedule.specs.Lists.{LargestOr0, at}
+use Rattle.schedule.specs.Lists.{LargestOr0, FinishOf, at}
 use Rattle.planner.specs.Open.{planIn, Opens}
-use Rattle.planner.specs.Starts.{needed, startNumbers, startsOut}
-use Rattle.planner.specs.Times.{KeepsFile, FinishesBefore, FinishesOf}
+use Rattle.planner.specs.Starts.{needed, firstStarts, endStart, startNumbers, startsOut}
+use Rattle.planner.specs.Times.{KeepsArcs}
 use Rattle.planner.specs.declared.Output.the-variants.{Written}
 use Rattle.planner.proofs.OpenLaws.{opens-readable}
-use Rattle.planner.proofs.StartsLaws.{length-numbers}
-use Rattle.planner.proofs.FileOrders.{arc-ends, starts-keep, starts-least, starts-largest, end-largest}
+use Rattle.planner.proofs.StartsLaws.{before-end, at-end, length-numbers}
+use Rattle.planner.proofs.FileOrders.{starts-keep, starts-least, starts-largest, end-largest}
 use Rattle.planner.proofs.QuotedNeeds.{count-in}
 use Rattle.promises.specs.Ours.{ours}
 use Rattle.promises.specs.Paper.{EarliestStarts}
 use Rattle.promises.proofs.AnswersWhen.{starts-written, out-numbers}
-
--- the largest of the same numbers
-largest-same : {P Q : ℕ → Type 0} {x y : ℕ} → x ≡ y → ((z : ℕ) → P z → Q z) → ((z : ℕ) → Q z → P z) → LargestOr0 P x → LargestOr0 Q y
-largest-same {P} {Q} {x} {y} e there back L =
-    record {
-      upper = λ z q. omega (arith, L .upper z (back z q), e);
-      reached = ⊎-elim (λ z. inl (sym e ∙ z)) (λ p. inr (subst Q e (there x p))) (L .reached);
-    }
 
 module _ (s : List ℕ) (o : Opens s) (out : List ℕ) (h : activityCount s + 1 ≤ length out) where
   readable : Readable s
@@ -49,52 +40,40 @@ module _ (s : List ℕ) (o : Opens s) (out : List ℕ) (h : activityCount s + 1 
       ap (λ (xs : List ℕ). getD xs i 0) written
       ∙ List·getD-append (startNumbers s) (drop (needed s) out) 0 i (omega (arith, l, m, length-numbers s))
 
-  -- the finish of one that is before another
-  finishes : (j : ℕ) (x y : ℕ → ℕ) → ((i : ℕ) → i < activityCount s → x i ≡ y i) → (z : ℕ) → FinishesBefore s x j z → FinishesBefore s y j z
-  finishes j x y same z f =
-      let l = before-within (planIn s .count) (arc-ends s readable) (f .1) .0 in
-      (f .0, f .1, omega (arith, f .2, same (f .0) (omega (arith, l, m))))
+  same : (i : ℕ) → i < planIn s .count → at (startsOut s out) i ≡ at (firstStarts s) i
+  unfolding startNumbers
+  same i l = number i (omega (arith, m)) ∙ before-end (planIn s .count) (firstStarts s) (endStart s) i l
 
-  finish-of : (x y : ℕ → ℕ) → ((i : ℕ) → i < activityCount s → x i ≡ y i) → (z : ℕ) → FinishesOf s (activityCount s) x z → FinishesOf s (activityCount s) y z
-  finish-of x y same z f = (f .0, f .1, omega (arith, f .2, same (f .0) (f .1)))
+  at-last : at (startsOut s out) (planIn s .count) ≡ endStart s
+  unfolding startNumbers
+  at-last = number (planIn s .count) (omega (arith, m)) ∙ at-end (planIn s .count) (firstStarts s) (endStart s)
 
-  same-at : (i : ℕ) → i < activityCount s → getD (startNumbers s) i 0 ≡ getD (startsOut s out) i 0
-  same-at i l = sym (number i (omega (arith, l)))
-
-  number-at : (i : ℕ) → i < activityCount s → getD (startsOut s out) i 0 ≡ getD (startNumbers s) i 0
-  number-at i l = number i (omega (arith, l))
-
-  end : LargestOr0 (FinishesOf s (activityCount s) (at (startsOut s out))) (getD (startsOut s out) (activityCount s) 0)
+  end : LargestOr0 (FinishOf (λ i. i < activityCount s) (at (startsOut s out)) (fileDuration s)) (at (startsOut s out) (activityCount s))
   end =
-      largest-same (sym (number (activityCount s) (omega arith))) (finish-of (at (startNumbers s)) (at (startsOut s out)) same-at)
-      (finish-of (at (startsOut s out)) (at (startNumbers s)) number-at)
-      (subst (λ (n : ℕ). LargestOr0 (FinishesOf s n (at (startNumbers s))) (getD (startNumbers s) n 0)) m (end-largest s o))
+      subst (λ (n : ℕ). LargestOr0 (FinishOf (λ i. i < n) (at (startsOut s out)) (fileDuration s)) (at (startsOut s out) n)) m
+      (end-largest s o (at (startsOut s out)) same (at (startsOut s out) (planIn s .count)) at-last)
 
-  least : (x : ℕ → ℕ) → KeepsFile s x → (i : ℕ) → i < activityCount s → getD (startsOut s out) i 0 ≤ x i
-  least x k i l = omega (arith, number-at i l, starts-least s o x k i (omega (arith, l, m)))
+  least : (y : ℕ → ℕ) → KeepsArcs s y (fileDuration s) → (i : ℕ) → i < activityCount s → getD (startsOut s out) i 0 ≤ y i
+  least y k i l = starts-least s o (at (startsOut s out)) same y k i (omega (arith, m))
 
   -- the end starts at 0, or at the finish of one, which starts no later than in the other schedule
-  end-least : (x : ℕ → ℕ) → KeepsFile s x → (last : ℕ) → ((i : ℕ) → i < activityCount s → x i + fileDuration s i ≤ last)
+  end-least : (y : ℕ → ℕ) → KeepsArcs s y (fileDuration s) → (last : ℕ) → ((i : ℕ) → i < activityCount s → y i + fileDuration s i ≤ last)
       → getD (startsOut s out) (activityCount s) 0 ≤ last
-  end-least x k last below =
+  end-least y k last below =
       ⊎-elim
       (λ z. omega (arith, z))
-      (λ f. omega (arith, f .2, least x k (f .0) (f .1), below (f .0) (f .1)))
+      (λ F. omega (arith, F .finish, least y k (F .element) (F .picked), below (F .element) (F .picked)))
       (end .reached)
 
   pub earliest-starts : EarliestStarts ours s out
   earliest-starts =
       record {
         answers = starts-written s (length out) o fits ∙ ap (λ (n : ℕ). Written (n + 1)) m;
-        activities = λ j l.
-            largest-same (same-at j l) (finishes j (at (startNumbers s)) (at (startsOut s out)) same-at)
-            (finishes j (at (startsOut s out)) (at (startNumbers s)) number-at) (starts-largest s o j (omega (arith, l, m)));
+        activities = λ j l. starts-largest s o (at (startsOut s out)) same j (omega (arith, m));
         end = end;
         least = least;
         end-least = end-least;
-        keep = λ i j a.
-            let w = arc-ends s readable i j a in
-            omega (arith, starts-keep s o i j a, number i (omega (arith, w .0, m)), number j (omega (arith, w .1, m)));
+        keep = starts-keep s o (at (startsOut s out)) same;
         rest = rw m at (ap (drop (needed s)) written ∙ drop-at (startNumbers s) (drop (needed s) out) (needed s) (length-numbers s));
         room =
             ap (λ (xs : List ℕ). length xs) written

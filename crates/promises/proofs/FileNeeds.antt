@@ -4,29 +4,32 @@ use mathlib.Core.Path.{_≡_, sym, _∙_, ap}
 use mathlib.Core.Bool.{Bool, true}
 use mathlib.Core.List.{List}
 use mathlib.Core.Logic.{_↔_}
-use Prim.Native.Nat.{ℕ, _+_, _≤_, _<_}
+use Prim.Native.Nat.{ℕ, _≤_, _<_}
 use native.Mathlib.Omega.{arith}
 use Rattle.words.specs.Bits.{bit}
 use Rattle.records.specs.Bytes.{AreBytes}
 use Rattle.order.specs.Stored.{elements, numberOf}
 use Rattle.order.specs.Before.{Before, last}
-use Rattle.order.specs.Arcs.{StrictOrder}
+use Rattle.order.specs.Arcs.{StrictOrder, Drawn}
 use Rattle.order.specs.Orders.{isBefore}
-use Rattle.order.proofs.Before.{before-least, before-within, strict-first}
+use Rattle.order.proofs.Before.{before-within, strict-first}
 use Rattle.order.proofs.Orders.{order-means}
 use Rattle.plan.specs.Meaning.{Readable, FileArc, fileDemand}
 use Rattle.plan.specs.Records.{activityCount}
 use Rattle.solver.proofs.First.{set-within}
 use Rattle.flow_math.specs.Need.{Antichain, weight, Need}
-use Rattle.flow_math.specs.Crew.{Crew, active, occupied}
+use Rattle.flow_math.specs.Kept.{Keeps}
+use Rattle.flow_math.specs.Crew.{active, occupied}
 use Rattle.flow_math.specs.Peak.{Peak}
+use Rattle.flow_math.proofs.Kept.{kept-before}
 use Rattle.flow_math.proofs.Crew.{occupied-weight}
 use Rattle.flow_math.proofs.Need.{weight-same}
 use Rattle.flow_math.proofs.Theorems.{needOf-need, crew-bound, crew-peak}
 use Rattle.kinds.specs.Needs.{demandsFor}
 use Rattle.planner.specs.Open.{planIn, planOrder, Opens}
 use Rattle.planner.specs.Need.{demandFor, needFor, shownSet}
-use Rattle.planner.specs.File.{Unrelated, demandSum, FileCrew, crewOccupies}
+use Rattle.planner.specs.File.{Unrelated, demandSum}
+use Rattle.planner.specs.Times.{arcWeight, KeepsArcs, FileCrew, crewOccupies}
 use Rattle.planner.proofs.OpenLaws.{opens-readable, count-few}
 use Rattle.planner.proofs.FileOrders.{arc-ends, plan-order, opens-strict}
 use Rattle.planner.proofs.QuotedNeeds.{count-in, demand-in, quotable, sound-in}
@@ -85,21 +88,12 @@ module _ (s : List ℕ) (small : AreBytes s) (o : Opens s) where
 
   -- ---- CREWS
 
-  -- WHAT KEEPS EVERY ARC OF THE FILE KEEPS THE PLAN ORDER, since no duration is negative
-  pub crew-in : (starts worked : ℕ → ℕ) → FileCrew s starts worked ↔ Crew (planIn s .count) (isBefore (planOrder s)) starts worked
-  crew-in starts worked = (
-    (λ c.
-        record {
-          works = λ i h. c .works i (omega (arith, count-in s readable));
-          keeps = λ i j hi hj b.
-              before-least (λ x y. starts x + worked x ≤ starts y) (c .keeps) (λ x y z p q. omega arith) (before-in i j .0 b);
-        }),
-    λ c.
-        record {
-          works = λ i h. c .works i (omega (arith, count-in s readable));
-          keeps = λ i j a. let h = arc-ends s readable i j a in c .keeps i j (h .0) (h .1) (before-in i j .1 (last a));
-        },
-  )
+  -- WHAT KEEPS EVERY ARC OF THE FILE KEEPS THE PLAN ORDER, and the other way round
+  keeps-order : (x w : ℕ → ℕ) → KeepsArcs s x w → Keeps (Drawn (planIn s .count) (isBefore (planOrder s))) x (λ i j. w i)
+  keeps-order x w k i j d = kept-before x w (arcWeight s w) (λ i j a. omega arith) k i j (before-in i j .0 (d .drawn))
+
+  keeps-arcs : (x w : ℕ → ℕ) → Keeps (Drawn (planIn s .count) (isBefore (planOrder s))) x (λ i j. w i) → KeepsArcs s x w
+  keeps-arcs x w k i j a = let h = arc-ends s readable i j a in k i j (record { from = h .0; to = h .1; drawn = before-in i j .1 (last a) })
 
   pub occupied-in : (k : ℕ) → k < 8 → (starts worked : ℕ → ℕ) (t : ℕ)
       → occupied (planIn s .count) (demandFor (planIn s) k) starts worked t ≡ crewOccupies s k starts worked t
@@ -109,17 +103,14 @@ module _ (s : List ℕ) (small : AreBytes s) (o : Opens s) where
       ∙ sum-in k h (active starts worked t)
       ∙ sym (occupied-weight (activityCount s) (fileDemand s k) starts worked t)
 
-  -- NO CREW HAS MORE OCCUPIED, in any period
-
-  pub crew-none : (k : ℕ) → k < 8 → (starts worked : ℕ → ℕ) → FileCrew s starts worked → (t : ℕ) → 1 ≤ t
-      → crewOccupies s k starts worked t ≤ needFor (planIn s) k
+  -- NO CREW HAS MORE OCCUPIED, in any period, whatever its durations are
+  pub crew-none : (k : ℕ) → k < 8 → (x w : ℕ → ℕ) → KeepsArcs s x w → (t : ℕ) → crewOccupies s k x w t ≤ needFor (planIn s) k
   unfolding needFor
-  crew-none k h starts worked c t p =
+  crew-none k h x w c t =
       omega (
         arith,
-        occupied-in k h starts worked t,
-        crew-bound (planIn s .count) (isBefore (planOrder s)) (demandFor (planIn s) k) starts worked t strict-in
-            (crew-in starts worked .0 c) p,
+        occupied-in k h x w t,
+        crew-bound (planIn s .count) (isBefore (planOrder s)) (demandFor (planIn s) k) x w t strict-in (keeps-order x w c),
       )
 
   -- SOME CREW HAS EXACTLY THAT OCCUPIED: each works one period
@@ -136,7 +127,7 @@ module _ (s : List ℕ) (small : AreBytes s) (o : Opens s) where
         P .starts,
         λ i. 1,
         P .period,
-        crew-in (P .starts) (λ i. 1) .1 (P .crew),
+        record { works = λ i l. omega arith; keeps = keeps-arcs (P .starts) (λ i. 1) (P .apart) },
         P .first,
         sym (occupied-in k h (P .starts) (λ i. 1) (P .period)) ∙ P .full,
       )

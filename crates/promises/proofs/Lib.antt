@@ -4,7 +4,7 @@
 -- CrewCheckAnswers (crew check). Demand 3, THE PRICE-LIST SENTENCE, is PriceListHolds; it rests on FileNeeds (needs, sets and crews, in the
 -- file's own terms), FileFlows (flows) and OverloadShown (overload).
 -- EqualFlowsHold: plans that say the same get equal flows. CasesHold: the starred cases. HollowFail: the hollow planners keep no price list.
--- What the other answers mean, in the file's own terms: CircleFaults (causes 1 to 6), CrewCheckMeaning and CrewFindings (the crew check), AnswersWhen (which case has which answer).
+-- What the other answers mean, in the file's own terms: CircleFaults (causes 1 to 6), CrewCheckMeaning (the crew check), AnswersWhen (which case has which answer).
 pub mod FileNeeds
 pub mod FileFlows
 pub mod OverloadShown
@@ -13,7 +13,6 @@ pub mod PriceListHolds
 pub mod EqualFlowsHold
 pub mod AnswersWhen
 pub mod CrewCheckMeaning
-pub mod CrewFindings
 pub mod EveryInputHolds
 pub mod EarliestStarts
 pub mod CrewCheckAnswers

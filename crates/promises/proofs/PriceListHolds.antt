@@ -242,7 +242,7 @@ module _ (s : List ℕ) (small : AreBytes s) (o : Opens s) where
         writes = λ out h k l. need-written s small o out h k l ∙ sym (quoted-is s small o k l);
         some-set = λ k h. let w = need-some s small o k (few s small o h .1) in (w .0, w .1, w .2 ∙ sym (quoted-is s small o k h));
         every-set = λ k h S u. omega (arith, need-every s small o k (few s small o h .1) S u, quoted-is s small o k h);
-        no-crew = λ k h a w c t p. omega (arith, crew-none s small o k (few s small o h .1) a w c t p, quoted-is s small o k h);
+        no-crew = λ k h a w c t p. omega (arith, crew-none s small o k (few s small o h .1) a w (c .keeps) t, quoted-is s small o k h);
         some-crew = λ k h.
             let w = crew-some s small o k (few s small o h .1) in
             (w .0, w .1, w .2, w .3, w .4, w .5 ∙ sym (quoted-is s small o k h));

@@ -1,6 +1,6 @@
 -- DEMAND 2 of document 00, about a planner P: "Order, flows, earliest starts and the crew check are those of the paper on resource flows that 01 condenses.", in
 -- the file's own terms, for every readable plan (`PaperSentence P`). Ours meets it: `paper` of proofs/PaperHolds.antt. What is at work and what is occupied in a
--- period is here what it is in demand 3: `crewOccupies` of File. Quotations are from document 01. Assumes nothing.
+-- period is here what it is in demand 3: `crewOccupies` of Times. Quotations are from document 01. Assumes nothing.
 use mathlib.Core.Path.{_≡_}
 use mathlib.Core.List.{List, [], _∷_}
 use mathlib.Core.Logic.{_⊎_, _↔_}
@@ -10,11 +10,11 @@ use Rattle.order.specs.Before.{Before, Acyclic}
 use Rattle.records.specs.Bytes.{AreBytes}
 use Rattle.plan.specs.Meaning.{Readable, JobArc, FileArc, fileKinds, fileAvailable, fileDuration}
 use Rattle.plan.specs.Records.{activityCount}
-use Rattle.schedule.specs.Lists.{LargestOr0, at}
+use Rattle.schedule.specs.Lists.{LargestOr0, FinishOf, at}
 use Rattle.schedule.specs.declared.Checked.the-variants.{Fits, Broken, Overload}
 use Rattle.kinds.specs.Reading.{unitsRead}
-use Rattle.planner.specs.File.{crewOccupies, FileFlow}
-use Rattle.planner.specs.Times.{KeepsFile, FinishesBefore, FinishesOf, KeepsWorked, FirstBrokenArc}
+use Rattle.planner.specs.File.{FileFlow}
+use Rattle.planner.specs.Times.{KeepsArcs, FirstBrokenArc, crewOccupies}
 use Rattle.planner.specs.declared.Output.the-variants.{Written}
 use Rattle.planner.specs.declared.CrewChecked.the-variants.{Found}
 use Rattle.planner.specs.Numbers.{verdictNumbers, outputNumbers, crewCheckNumbers}
@@ -61,14 +61,14 @@ pub record EarliestStarts (P : Planner) (s out : List ℕ) : Type 0 where
   -- "Starts: m+1 numbers, activities 1 to m and then the end."
   pub answers : P .starts .answer s (length out) ≡ Written (activityCount s + 1)
   -- "An activity starts at the largest finish (start plus duration) of those before it, or at 0;
-  pub activities : (j : ℕ) → j < activityCount s → LargestOr0 (FinishesBefore s (at (P .starts .left s out)) j) (getD (P .starts .left s out) j 0)
+  pub activities : (j : ℕ) → j < activityCount s → LargestOr0 (FinishOf (λ i. Before (FileArc s) i j) (at (P .starts .left s out)) (fileDuration s)) (getD (P .starts .left s out) j 0)
   -- the end starts at the largest finish of all, or at 0."
-  pub end : LargestOr0 (FinishesOf s (activityCount s) (at (P .starts .left s out))) (getD (P .starts .left s out) (activityCount s) 0)
+  pub end : LargestOr0 (FinishOf (λ i. i < activityCount s) (at (P .starts .left s out)) (fileDuration s)) (getD (P .starts .left s out) (activityCount s) 0)
   -- "Every schedule that keeps the arcs with the file's durations starts each no earlier.": nor the end, and the starts themselves are such a schedule
-  pub least : (x : ℕ → ℕ) → KeepsFile s x → (i : ℕ) → i < activityCount s → getD (P .starts .left s out) i 0 ≤ x i
-  pub end-least : (x : ℕ → ℕ) → KeepsFile s x → (last : ℕ) → ((i : ℕ) → i < activityCount s → x i + fileDuration s i ≤ last)
+  pub least : (x : ℕ → ℕ) → KeepsArcs s x (fileDuration s) → (i : ℕ) → i < activityCount s → getD (P .starts .left s out) i 0 ≤ x i
+  pub end-least : (x : ℕ → ℕ) → KeepsArcs s x (fileDuration s) → (last : ℕ) → ((i : ℕ) → i < activityCount s → x i + fileDuration s i ≤ last)
       → getD (P .starts .left s out) (activityCount s) 0 ≤ last
-  pub keep : KeepsFile s (at (P .starts .left s out))
+  pub keep : KeepsArcs s (at (P .starts .left s out)) (fileDuration s)
   -- "Numbers go to the front of the lent 32-bit slice, ..; the rest is unchanged"
   pub rest : drop (activityCount s + 1) (P .starts .left s out) ≡ drop (activityCount s + 1) out
   pub room : length (P .starts .left s out) ≡ length out
@@ -103,13 +103,13 @@ pub record CrewCheck (P : Planner) (s starts worked : List ℕ) : Type 0 where
   -- "lists not m long, or a worked duration 0 | 10 | m"
   pub ten : (crewCheckNumbers (P .crew-check s starts worked) ≡ 10 ∷ activityCount s ∷ []) ↔ (RightLists s starts worked → ⊥)
   -- "fits": exactly when every arc is kept, and no period of any kind is over
-  pub fits : RightLists s starts worked → (P .crew-check s starts worked ≡ Found Fits) ↔ (KeepsWorked s starts worked × NeverOver s starts worked)
+  pub fits : RightLists s starts worked → (P .crew-check s starts worked ≡ Found Fits) ↔ (KeepsArcs s (at starts) (at worked) × NeverOver s starts worked)
   -- "find the first arc i to j, by from and then to, with start of i plus its duration greater than the start of j."
   pub broken : RightLists s starts worked → (i j : ℕ)
-      → (P .crew-check s starts worked ≡ Found (Broken (i + 1) (j + 1))) ↔ FirstBrokenArc s starts worked i j
+      → (P .crew-check s starts worked ≡ Found (Broken (i + 1) (j + 1))) ↔ FirstBrokenArc s (at starts) (at worked) i j
   -- "If none, find the first period, then lowest kind, whose occupied sum exceeds the availability."
   pub overload : RightLists s starts worked → (t k : ℕ)
-      → (P .crew-check s starts worked ≡ Found (Overload t (k + 1))) ↔ (KeepsWorked s starts worked × FirstOverload s starts worked t k)
+      → (P .crew-check s starts worked ≡ Found (Overload t (k + 1))) ↔ (KeepsArcs s (at starts) (at worked) × FirstOverload s starts worked t k)
 
 -- ---- the sentence
 

@@ -1,6 +1,6 @@
 -- THE PRICE-LIST SENTENCE: demand 3 of document 00, sentence by sentence, about what the operations of a planner P answer and write, for every readable plan
 -- without a circle (`PriceListSentence P`). Ours meets it: `price-list` of proofs/PriceListHolds.antt. The hollow planners of document 01 do not: Hollow. Sets,
--- crews, flows and the file's fields are those of File. Assumes nothing.
+-- crews, flows and the file's fields are those of planner's File and Times. Assumes nothing.
 use mathlib.Core.Path.{_≡_}
 use mathlib.Core.Bool.{Bool, true}
 use mathlib.Core.List.{List, [], _∷_}
@@ -16,7 +16,8 @@ use Rattle.plan.specs.Meaning.{Readable, FileArc, fileKinds, fileDemand, fileAv
 use Rattle.plan.specs.Records.{activityCount}
 use Rattle.kinds.specs.Reading.{unitsRead}
 use Rattle.planner.specs.Numbers.{numbersOf}
-use Rattle.planner.specs.File.{Unrelated, demandSum, FileCrew, crewOccupies, FileFlow, flowLength}
+use Rattle.planner.specs.File.{Unrelated, demandSum, FileFlow, flowLength}
+use Rattle.planner.specs.Times.{FileCrew, crewOccupies}
 use Rattle.promises.specs.Planner.{Planner}
 use Rattle.planner.specs.declared.Cause.{Cause}
 use Rattle.planner.specs.declared.Decision.the-variants as verdict

@@ -1,15 +1,17 @@
 -- What the crew check's answer is, and what each answer means. Assumes nothing.
 use mathlib.Core.Path.{_≡_, refl, sym, _∙_, ap, ap₂, subst, subst₂}
+use mathlib.Core.Logic.{_↔_}
 use Prim.Native.Nat.{ℕ, _+_, _≤_, _<_}
 use native.Mathlib.Decide.{decLt}
 use native.Mathlib.Omega.{arith}
 use lib.Dec.{ltb}
 use borrow.Author.Tests.{ltb-true, ltb-false, lt-ltb, le-ltb}
-use Rattle.words.proofs.Tests.{clash, fails, by-test, and-both}
-use Rattle.schedule.specs.Network.{Network, Schedule, Keeps}
-use Rattle.schedule.specs.Checks.{brokenTo, brokenFrom, Work, occupied, lowestKind, firstPeriod, checkOf, FirstBroken, Enough, FirstOver}
+use Rattle.words.proofs.Tests.{by-test}
+use Rattle.flow_math.specs.Kept.{FirstBroken}
+use Rattle.schedule.specs.Network.{Network, Arc, Keeps}
+use Rattle.schedule.specs.Checks.{brokenTo, brokenFrom, Work, occupied, lowestKind, firstPeriod, checkOf, Enough, FirstOver}
 use Rattle.schedule.specs.declared.Checked.the-variants.{Fits, Broken, Overload}
-use Rattle.schedule.proofs.Arcs.{broken-first, broken-to-first, unbroken, none-broken, found-broken}
+use Rattle.schedule.proofs.Arcs.{none-broken, found-broken}
 use Rattle.schedule.proofs.Periods.{not-exceeded, lowest-first, over-exceeds, period-none, period-over, period-first}
 
 -- ---- there is one first broken arc, and one first overload
@@ -23,14 +25,14 @@ same-by i x p q = go (decLt i x) (decLt x i)
     go (no m) (yes l) = absurd (q l)
     go (no m) (no n) = omega arith
 
-broken-once : (g : Network) (s : Schedule) (i j x y : ℕ) → FirstBroken g s i j → FirstBroken g s x y → (i ≡ x) × (j ≡ y)
-broken-once g s i j x y F G = (from, same-by j y (λ l. omega (arith, G′ .rest j (F .there) l, F .late)) (λ l. omega (arith, F .rest y (G′ .there) l, G′ .late)))
+broken-once : {A : ℕ → ℕ → Type 0} (s : ℕ → ℕ) (w : ℕ → ℕ → ℕ) (i j x y : ℕ) → FirstBroken A s w i j → FirstBroken A s w x y → (i ≡ x) × (j ≡ y)
+broken-once {A} s w i j x y F G = (from, same-by j y (λ l. omega (arith, G′ .rest j (F .there) l, F .late)) (λ l. omega (arith, F .rest y (G′ .there) l, G′ .late)))
   where
     from : i ≡ x
     from = same-by i x (λ l. omega (arith, G .kept i j (F .there) l, F .late)) (λ l. omega (arith, F .kept x y (G .there) l, G .late))
 
-    G′ : FirstBroken g s i y
-    G′ = subst (λ (z : ℕ). FirstBroken g s z y) (sym from) G
+    G′ : FirstBroken A s w i y
+    G′ = subst (λ (z : ℕ). FirstBroken A s w z y) (sym from) G
 
 over-once : (c : Work) (t k u x : ℕ) → FirstOver c t k → FirstOver c u x → (t ≡ u) × (k ≡ x)
 over-once c t k u x F G = (period, same-by k x (λ l. omega (arith, G′ .lowest k l, F .over)) (λ l. omega (arith, F .lowest x l, G′ .over)))
@@ -83,28 +85,15 @@ module _ (g : Network) (c : Work) where
       (λ z. let h : firstPeriod c ≤ 0 = ltb-false 0 (firstPeriod c) z in f l (omega arith) (check-fits _ _ refl l refl h)))
 
   -- IT FITS: every arc is kept, and in no period at all is more of a kind occupied than there is
-  pub fits-means : checkOf g c ≡ Fits → Keeps g (c .start) × Enough c
+  fits-means : checkOf g c ≡ Fits → Keeps g (c .start) × Enough c
   fits-means e =
       by-answer
       (λ l h. let z : _≡_ {A = ℕ} 0 1 = cc in absurd (omega arith))
       (λ l m h. let z : _≡_ {A = ℕ} 0 1 = cc in absurd (omega arith))
       (λ l m h. (none-broken g (c .start) l, λ t k. not-exceeded c t (period-none c m t) k))
 
-  found-first : brokenFrom g (c .start) < g .elements → FirstBroken g (c .start) (brokenFrom g (c .start)) (brokenTo g (c .start) (brokenFrom g (c .start)))
-  found-first l =
-      let w = found-broken g (c .start) l in
-      record {
-        there = w .0;
-        late = w .1;
-        kept = λ i j a h. unbroken g (c .start) i (broken-first g (c .start) .before i h) j a;
-        rest =
-            λ j a h.
-            ltb-false (c .start j) (c .start (brokenFrom g (c .start)) + g .weight (brokenFrom g (c .start)) j)
-            (fails _ λ e. clash (and-both _ _ (a .drawn) e) (broken-to-first g (c .start) (brokenFrom g (c .start)) .before j h));
-      }
-
   -- A BROKEN ARC: it is the first, by from and then to
-  pub broken-means : (i j : ℕ) → checkOf g c ≡ Broken (i + 1) (j + 1) → FirstBroken g (c .start) i j
+  broken-means : (i j : ℕ) → checkOf g c ≡ Broken (i + 1) (j + 1) → FirstBroken (Arc g) (c .start) (g .weight) i j
   broken-means i j e =
       by-answer
       (λ l h.
@@ -112,7 +101,7 @@ module _ (g : Network) (c : Work) where
       let q′ : brokenTo g (c .start) (brokenFrom g (c .start)) + 1 ≡ j + 1 = cc in
       let p : brokenFrom g (c .start) ≡ i = omega arith in
       let q : brokenTo g (c .start) (brokenFrom g (c .start)) ≡ j = omega arith in
-      subst₂ (λ (x y : ℕ). FirstBroken g (c .start) x y) p q (found-first l))
+      subst₂ (λ (x y : ℕ). FirstBroken (Arc g) (c .start) (g .weight) x y) p q (found-broken g (c .start) l))
       (λ l m h. let z : _≡_ {A = ℕ} 0 1 = cc in absurd (omega arith))
       (λ l m h. let z : _≡_ {A = ℕ} 0 1 = cc in absurd (omega arith))
 
@@ -128,7 +117,7 @@ module _ (g : Network) (c : Work) where
       }
 
   -- AN OVERLOAD: every arc is kept, the period is the first, and the kind the lowest in it
-  pub over-means : (t k : ℕ) → checkOf g c ≡ Overload t (k + 1) → Keeps g (c .start) × FirstOver c t k
+  over-means : (t k : ℕ) → checkOf g c ≡ Overload t (k + 1) → Keeps g (c .start) × FirstOver c t k
   over-means t k e =
       by-answer
       (λ l h. let z : _≡_ {A = ℕ} 0 1 = cc in absurd (omega arith))
@@ -143,26 +132,36 @@ module _ (g : Network) (c : Work) where
 
   not-kept : {P : Type 0} → brokenFrom g (c .start) < g .elements → Keeps g (c .start) → P
   not-kept l k =
-      let w = found-broken g (c .start) l in
-      absurd (omega (arith, k (brokenFrom g (c .start)) (brokenTo g (c .start) (brokenFrom g (c .start))) (w .0), w .1))
+      let F = found-broken g (c .start) l in
+      absurd (omega (arith, k (brokenFrom g (c .start)) (brokenTo g (c .start) (brokenFrom g (c .start))) (F .there), F .late))
 
-  pub means-fits : Keeps g (c .start) → Enough c → checkOf g c ≡ Fits
+  means-fits : Keeps g (c .start) → Enough c → checkOf g c ≡ Fits
   means-fits k n =
       by-answer
       (λ l h. not-kept l k)
       (λ l m h. let o = over-first m in absurd (omega (arith, o .over, n (firstPeriod c) (lowestKind c (firstPeriod c)) (o .kind))))
       (λ l m h. sym h)
 
-  pub means-broken : (i j : ℕ) → FirstBroken g (c .start) i j → checkOf g c ≡ Broken (i + 1) (j + 1)
+  means-broken : (i j : ℕ) → FirstBroken (Arc g) (c .start) (g .weight) i j → checkOf g c ≡ Broken (i + 1) (j + 1)
   means-broken i j F =
       by-answer
-      (λ l h. let e = broken-once g (c .start) _ _ i j (found-first l) F in sym h ∙ ap₂ (λ (x y : ℕ). Broken (x + 1) (y + 1)) (e .0) (e .1))
+      (λ l h. let e = broken-once (c .start) (g .weight) _ _ i j (found-broken g (c .start) l) F in sym h ∙ ap₂ (λ (x y : ℕ). Broken (x + 1) (y + 1)) (e .0) (e .1))
       (λ l m h. absurd (omega (arith, none-broken g (c .start) l i j (F .there), F .late)))
       (λ l m h. absurd (omega (arith, none-broken g (c .start) l i j (F .there), F .late)))
 
-  pub means-over : (t k : ℕ) → Keeps g (c .start) → FirstOver c t k → checkOf g c ≡ Overload t (k + 1)
+  means-over : (t k : ℕ) → Keeps g (c .start) → FirstOver c t k → checkOf g c ≡ Overload t (k + 1)
   means-over t k keeps F =
       by-answer
       (λ l h. not-kept l keeps)
       (λ l m h. let e = over-once c _ _ t k (over-first m) F in sym h ∙ ap₂ (λ (x y : ℕ). Overload x (y + 1)) (e .0) (e .1))
       (λ l m h. absurd (omega (arith, not-exceeded c t (period-none c m t) k (F .kind), F .over)))
+
+  -- so each answer is given exactly where it is what it means
+  pub fits-says : (checkOf g c ≡ Fits) ↔ (Keeps g (c .start) × Enough c)
+  fits-says = (fits-means, λ w. means-fits (w .0) (w .1))
+
+  pub broken-says : (i j : ℕ) → (checkOf g c ≡ Broken (i + 1) (j + 1)) ↔ FirstBroken (Arc g) (c .start) (g .weight) i j
+  broken-says i j = (broken-means i j, means-broken i j)
+
+  pub over-says : (t k : ℕ) → (checkOf g c ≡ Overload t (k + 1)) ↔ (Keeps g (c .start) × FirstOver c t k)
+  over-says t k = (over-means t k, λ w. means-over t k (w .0) (w .1))

@@ -1,6 +1,5 @@
 -- Laws of the definitions of `specs/`, which callers cite: the earliest starts of a network, that there is a rank, the list of starts, the crew
--- check's parts and answers, the document's cases. `Levels` and `Candidates` are for the proofs
--- of the code alone.
+-- check's parts and answers. `Levels` and `Candidates` are for the proofs of the code alone.
 pub mod Starts
 pub mod Ranks
 pub mod Arcs
@@ -9,4 +8,3 @@ pub mod Answers
 pub mod Arrays
 pub mod Levels
 pub mod Candidates
-pub mod Cases

@@ -11,22 +11,11 @@ use Rattle.words.specs.Members.{first, IsFirst}
 use Rattle.words.proofs.Firsts.{the-first, first-below}
 use Rattle.words.proofs.Sums.{sum-le, sum-zero}
 use Rattle.words.proofs.Tests.{clash, fails, by-test, cond-least, cond-true, cond-false}
-use Rattle.order.specs.Before.{Before}
 use Rattle.flow_math.specs.Crew as crew
 use Rattle.flow_math.proofs.Crew.{active-says, none-active}
-use Rattle.schedule.specs.Network.{Network, Arc, Keeps}
 use Rattle.schedule.specs.Starts.{endOf}
 use Rattle.schedule.specs.Checks.{Work, atWork, occupied, exceeds, lowestKind, overloaded, lastFinish, quiet, firstPeriod}
-use Rattle.schedule.proofs.Starts.{end-largest, before-ends}
-
--- ---- who is at work
-
--- IN A SCHEDULE THAT KEEPS THE ARCS, OF TWO THAT ARE AT WORK IN ONE PERIOD NEITHER IS BEFORE THE OTHER
-pub at-work-unrelated :
-    (g : Network) (c : Work) → ((i j : ℕ) → Arc g i j → c .worked i ≤ g .weight i j) → Keeps g (c .start)
-    → (t i j : ℕ) → atWork c t i ≡ true → atWork c t j ≡ true → Before (Arc g) i j → ⊥
-at-work-unrelated g c w k t i j a b r =
-    omega (arith, before-ends g (c .worked) (c .start) w k r, active-says (c .start) (c .worked) t i .0 a .1, active-says (c .start) (c .worked) t j .0 b .0)
+use Rattle.schedule.proofs.Starts.{end-largest}
 
 -- ---- the first overloaded period
 
@@ -89,7 +78,7 @@ module _ (c : Work) where
   unfolding lastFinish
   none-after t h =
       idle t λ i l.
-      let f : c .start i + c .worked i ≤ endOf (c .count) (c .start) (c .worked) = end-largest (c .count) (c .start) (c .worked) .upper _ (i, l, refl) in
+      let f : c .start i + c .worked i ≤ endOf (c .count) (c .start) (c .worked) = end-largest (c .count) (c .start) (c .worked) .upper _ (record { element = i; picked = l; finish = refl }) in
       ap (λ (x : Bool). ltb (c .start i) t && x) (lt-leb t (c .start i + c .worked i) (omega arith)) ∙ and-false (ltb (c .start i) t)
 
   -- a start at `t`, or none

@@ -1,7 +1,7 @@
 -- Laws of the earliest starts: they keep every arc, are the least that do, and each is the largest finish of those before it, or 0. Assumes nothing.
-use mathlib.Core.Path.{_≡_, sym, _∙_, ap, subst}
+use mathlib.Core.Path.{_≡_, sym, _∙_, ap}
 use mathlib.Core.Bool.{true, cond}
-use mathlib.Core.Logic.{_⊎_, inl, inr}
+use mathlib.Core.Logic.{_⊎_, inl, inr, ⊎-elim, _↔_}
 use Prim.Native.Nat.{ℕ, zero, suc, _+_, _*_, _≤_, _<_}
 use native.Mathlib.Nat.{not-suc-le-zero, suc-mul}
 use native.Mathlib.Omega.{arith}
@@ -9,10 +9,10 @@ use Rattle.words.specs.Sums.{maximum}
 use Rattle.words.proofs.Maxima.{maximum-at, maximum-least, maximum-cong, maximum-reached}
 use Rattle.words.proofs.Tests.{cond-cong, cond-at, cond-least, cond-reached}
 use Rattle.order.specs.Before.{Before, last}
-use Rattle.order.proofs.Before.{before-least}
+use Rattle.flow_math.proofs.Kept.{kept-before}
 use Rattle.schedule.specs.Network.{Network, Arc, Schedule, Keeps, Ranked}
-use Rattle.schedule.specs.Starts.{asked, rounds, earliestOf, ArcAsks, FinishBefore, FinishOf, endOf}
-use Rattle.schedule.specs.Lists.{LargestOr0}
+use Rattle.schedule.specs.Starts.{asked, rounds, earliestOf, endOf}
+use Rattle.schedule.specs.Lists.{LargestOr0, FinishOf}
 
 module _ (g : Network) where
   -- what the arcs ask goes by the starts of those that have an arc to it
@@ -49,7 +49,7 @@ module _ (g : Network) where
       go (inl z) = inl z
       go (inr w) = at (w .0) (w .1) (w .2) (cond-reached (g .arc (w .0) j) (s (w .0) + g .weight (w .0) j))
 
-  -- a round later a element starts no later than in a schedule that keeps every arc
+  -- a round later an element starts no later than in a schedule that keeps every arc
   pub rounds-least : (s : Schedule) → Keeps g s → (r j : ℕ) → j < g .elements → rounds r g j ≤ s j
   unfolding rounds
   rounds-least s k zero j hj = omega arith
@@ -73,7 +73,7 @@ module _ (g : Network) where
   earliest-bound b h j hj = rounds-bound b h (g .elements) j hj
 
   module _ (R : Ranked g) where
-    -- a element of rank below `r` has its start after `r` rounds
+    -- an element of rank below `r` has its start after `r` rounds
     settled : (r j : ℕ) → j < g .elements → R .rank j < r → rounds (suc r) g j ≡ rounds r g j
     unfolding rounds
     settled zero j hj l = absurd (not-suc-le-zero l)
@@ -89,42 +89,38 @@ module _ (g : Network) where
     pub earliest-keeps : Keeps g (earliestOf g)
     earliest-keeps i j a = omega (arith, asked-at (earliestOf g) i j a, earliest-fixed j (a .to))
 
-    -- starts that no arc asks more of, and that are no later, are the earliest
-    pub earliest-only : (s : Schedule) → Keeps g s → ((j : ℕ) → j < g .elements → s j ≤ earliestOf g j) → (j : ℕ) → j < g .elements → s j ≡ earliestOf g j
-    earliest-only s k h j hj = omega (arith, h j hj, earliest-least s k j hj)
-
-    -- the start is the largest that an arc asks, or 0, whatever the weights are
-    pub earliest-direct : (j : ℕ) → j < g .elements → LargestOr0 (ArcAsks g (earliestOf g) j) (earliestOf g j)
-    earliest-direct j hj =
-        record {
-          upper = λ y f. omega (arith, earliest-keeps (f .0) j (f .1), f .2);
-          reached = subst (λ (x : ℕ). (x ≡ 0) ⊎ ArcAsks g (earliestOf g) j x) (sym (earliest-fixed j hj)) (asked-reached (earliestOf g) j hj);
-        }
-
--- those before end no later than the start, in any schedule that keeps every arc
-pub before-ends : (g : Network) (d s : ℕ → ℕ) → ((i j : ℕ) → Arc g i j → d i ≤ g .weight i j) → Keeps g s → {i j : ℕ} → Before (Arc g) i j → s i + d i ≤ s j
-before-ends g d s w k r = before-least (λ x y. s x + d x ≤ s y) (λ x y a. omega (arith, k x y a, w x y a)) (λ x y z p q. omega arith) r
+-- the largest finish of the same elements, by other names of their starts and durations
+pub largest-same :
+    {P Q : ℕ → Type 0} {s t d e : ℕ → ℕ} {x y : ℕ} → x ≡ y → ((i : ℕ) → P i ↔ Q i) → ((i : ℕ) → P i → s i + d i ≡ t i + e i)
+    → LargestOr0 (FinishOf P s d) x → LargestOr0 (FinishOf Q t e) y
+largest-same {P} {Q} {s} {t} {d} {e} {x} {y} q same finish L =
+    record {
+      upper = λ z F.
+          let p = same (F .element) .1 (F .picked) in
+          omega (arith, L .upper z (record { element = F .element; picked = p; finish = F .finish ∙ sym (finish (F .element) p) }));
+      reached = ⊎-elim (λ z. inl (sym q ∙ z)) (λ F. inr (record { element = F .element; picked = same (F .element) .0 (F .picked); finish = sym q ∙ F .finish ∙ finish (F .element) (F .picked) })) (L .reached);
+    }
 
 -- THE START IS THE LARGEST FINISH OF THOSE BEFORE IT IN THE ORDER, OR 0
 pub earliest-largest :
     (g : Network) (d : ℕ → ℕ) → Ranked g → ((i j : ℕ) → g .weight i j ≡ d i)
-    → (j : ℕ) → j < g .elements → LargestOr0 (FinishBefore g (earliestOf g) d j) (earliestOf g j)
+    → (j : ℕ) → j < g .elements → LargestOr0 (FinishOf (λ i. Before (Arc g) i j) (earliestOf g) d) (earliestOf g j)
 earliest-largest g d R w j hj =
     record {
-      upper = λ y f. omega (arith, before-ends g d (earliestOf g) (λ i k a. omega (arith, w i k)) (earliest-keeps g R) (f .1), f .2);
-      reached = go (asked-reached g (earliestOf g) j hj);
+      upper = λ y F.
+          omega (arith, kept-before (earliestOf g) d (g .weight) (λ i k a. omega (arith, w i k)) (earliest-keeps g R) (F .element) j (F .picked), F .finish);
+      reached =
+          ⊎-elim
+          (λ z. inl (earliest-fixed g R j hj ∙ z))
+          (λ v. inr (record { element = v .0; picked = last (v .1); finish = omega (arith, earliest-fixed g R j hj, v .2, w (v .0) j) }))
+          (asked-reached g (earliestOf g) j hj);
     }
-  where
-    go : (asked g (earliestOf g) j ≡ 0) ⊎ ((i : ℕ) × Arc g i j × (asked g (earliestOf g) j ≡ earliestOf g i + g .weight i j)) → (earliestOf g j ≡ 0) ⊎ FinishBefore g (earliestOf g) d j (earliestOf g j)
-    go (inl z) = inl (earliest-fixed g R j hj ∙ z)
-    go (inr v) = inr (v .0, last (v .1), omega (arith, earliest-fixed g R j hj, v .2, w (v .0) j))
 
 -- THE END STARTS AT THE LARGEST FINISH OF ALL, OR AT 0
-pub end-largest : (m : ℕ) (s d : ℕ → ℕ) → LargestOr0 (FinishOf m s d) (endOf m s d)
+pub end-largest : (m : ℕ) (s d : ℕ → ℕ) → LargestOr0 (FinishOf (λ i. i < m) s d) (endOf m s d)
 unfolding endOf
 end-largest m s d =
-    record { upper = λ y f. omega (arith, maximum-at m (λ i. s i + d i) (f .0) (f .1), f .2); reached = go (maximum-reached m (λ i. s i + d i)) }
-  where
-    go : (maximum m (λ i. s i + d i) ≡ 0) ⊎ ((i : ℕ) × (i < m) × (maximum m (λ i. s i + d i) ≡ s i + d i)) → (maximum m (λ i. s i + d i) ≡ 0) ⊎ FinishOf m s d (maximum m (λ i. s i + d i))
-    go (inl z) = inl z
-    go (inr v) = inr v
+    record {
+      upper = λ y F. omega (arith, maximum-at m (λ i. s i + d i) (F .element) (F .picked), F .finish);
+      reached = ⊎-elim inl (λ v. inr (record { element = v .0; picked = v .1; finish = v .2 })) (maximum-reached m (λ i. s i + d i));
+    }

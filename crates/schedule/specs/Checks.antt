@@ -4,18 +4,19 @@ use mathlib.Core.Bool.{Bool, cond, _&&_}
 use Prim.Native.Nat.{ℕ, suc, _+_, _≤_, _<_}
 use lib.Dec.{ltb}
 use Rattle.words.specs.Members.{first}
+use Rattle.flow_math.specs.Kept.{isBroken}
 use Rattle.flow_math.specs.Crew.{active}
 use Rattle.flow_math.specs.Crew as crew
-use Rattle.schedule.specs.Network.{Network, Arc, Schedule}
+use Rattle.schedule.specs.Network.{Network, Schedule}
 use Rattle.schedule.specs.Starts.{endOf}
 use Rattle.schedule.specs.declared.Checked.{Checked}
 use Rattle.schedule.specs.declared.Checked.the-variants.{Fits, Broken, Overload}
 
 -- ---- "find the first arc i to j, by from and then to, with start of i plus its duration greater than the start of j"
 
--- the arc from i to j is there, and j starts before the arc lets it
+-- the arc from i to j is there, and is broken
 abbrev pub breaks : Network → Schedule → ℕ → ℕ → Bool
-breaks g s i j = g .arc i j && ltb (s j) (s i + g .weight i j)
+breaks g s i j = g .arc i j && isBroken s (g .weight) i j
 
 -- the first element to which an arc from i is broken; the number of elements where none is
 unfoldable pub brokenTo : Network → Schedule → ℕ → ℕ
@@ -78,14 +79,7 @@ checkOf g c =
     (Broken (brokenFrom g (c .start) + 1) (brokenTo g (c .start) (brokenFrom g (c .start)) + 1))
     (cond (ltb 0 (firstPeriod c)) (Overload (firstPeriod c) (lowestKind c (firstPeriod c) + 1)) Fits)
 
--- ---- what the answers mean, without any search (proofs/Answers.antt shows it)
-
--- the arc from i to j is broken, every arc from an earlier element is kept, and so is every arc from i to an earlier one
-pub record FirstBroken (g : Network) (s : Schedule) (i j : ℕ) : Type 0 where
-  pub there : Arc g i j
-  pub late : s j < s i + g .weight i j
-  pub kept : (x y : ℕ) → Arc g x y → x < i → s x + g .weight x y ≤ s y
-  pub rest : (y : ℕ) → Arc g i y → y < j → s i + g .weight i y ≤ s y
+-- ---- what the answers mean, without any search (proofs/Answers.antt shows it); the first broken arc is flow_math's FirstBroken
 
 -- in no period at all is more of a kind occupied than there is
 abbrev pub Enough : Work → Type 0

@@ -1,7 +1,8 @@
 -- A network of arcs, and the schedules that keep its arcs. Assumes nothing.
 use mathlib.Core.Bool.{Bool}
-use Prim.Native.Nat.{ℕ, _+_, _≤_, _<_}
+use Prim.Native.Nat.{ℕ, _<_}
 use Rattle.order.specs.Arcs.{Drawn}
+use Rattle.flow_math.specs.Kept as kept
 
 -- So many elements, which pairs of them are arcs, and how long after the start of i the arc from i to j lets j start.
 -- (Here that weight is the duration of i; a wait on an arc would be added to it.)
@@ -18,11 +19,11 @@ Arc g = Drawn (g .elements) (g .arc)
 abbrev pub Schedule : Type 0
 Schedule = ℕ → ℕ
 
--- "It keeps every arc: for each arc i to j, job or extra, the start of i plus its duration is at most the start of j."
+-- "It keeps every arc": what that means is flow_math's Kept
 abbrev pub Keeps : Network → Schedule → Type 0
-Keeps g s = (i j : ℕ) → Arc g i j → s i + g .weight i j ≤ s j
+Keeps g s = kept.Keeps (Arc g) s (g .weight)
 
--- no circle, said by a rank below the number of elements that rises along every arc (`ranked` and `unranked` of proofs/Ranks.antt)
+-- no circle, said by a rank below the number of elements that rises along every arc (`ranked` of proofs/Ranks.antt)
 pub record Ranked (g : Network) : Type 0 where
   pub rank : ℕ → ℕ
   pub below : (i : ℕ) → i < g .elements → rank i < g .elements

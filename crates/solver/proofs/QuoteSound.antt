@@ -5,8 +5,6 @@
 --   ends                the rounds end by a search that found nothing: the number of rounds is never what stops them
 --   need-small          the need is at most elements times 65,535
 --   handed-small        no element hands over more than its demand
---   crew-bound          no crew occupies more than the need, in any period
---   crew-peak           for all durations from 1 to `gap` some crew occupies all of it in one period
 --   no-flow-frees-more  no resource flow of a units sends more than a - need straight from the start to the end
 use mathlib.Core.Path.{_≡_, sym, ap, _∙_, subst}
 use mathlib.Core.List.{List}
@@ -21,8 +19,6 @@ use Rattle.order.specs.Orders.{afterRows, isBefore}
 use Rattle.order.specs.Rows.{after}
 use Rattle.order.specs.declared.Order.{Order}
 use Rattle.order.proofs.Orders.{after-member, after-row}
-use Rattle.flow_math.specs.Crew.{Crew, occupied}
-use Rattle.flow_math.specs.Peak.{Peak}
 use Rattle.flow_math.specs.Flow.{ResourceFlow}
 use Rattle.flow_math.specs.Handover.{row}
 use Rattle.flow_math.proofs.Theorems
@@ -58,17 +54,6 @@ pub handed-small : (m : ℕ) (o : Order) (demand : List ℕ) → Plan m o demand
 unfolding row
 handed-small m o demand P i j hi hj =
     omega (arith, sound m o demand P .handover .rows i hi, sum-term elements (λ k. handed (flowOf m o demand) i k) j hj)
-
-pub crew-bound : (m : ℕ) (o : Order) (demand : List ℕ) → Plan m o demand → (s w : ℕ → ℕ) → Crew elements (isBefore o) s w → (t : ℕ) → 1 ≤ t
-    → occupied elements (asked demand) s w t ≤ quoteOf m o demand .need
-crew-bound m o demand P s w c t h =
-    omega (arith, sound m o demand P .need, Theorems.crew-bound elements (isBefore o) (asked demand) s w t (P .strict) c h)
-
-pub crew-peak : (m : ℕ) (o : Order) (demand : List ℕ) → Plan m o demand → (w : ℕ → ℕ) (gap : ℕ) → ((i : ℕ) → i < elements → (1 ≤ w i) × (w i ≤ gap))
-    → (K : Peak elements (isBefore o) (asked demand) w gap) × (occupied elements (asked demand) (K .starts) w (K .period) ≡ quoteOf m o demand .need)
-crew-peak m o demand P w gap h =
-    let k = Theorems.crew-peak elements (isBefore o) (asked demand) w gap (P .strict) h in
-    (k, k .full ∙ sym (sound m o demand P .need))
 
 pub no-flow-frees-more : (m : ℕ) (o : Order) (demand : List ℕ) → Plan m o demand → (a : ℕ) (g : ℕ → ℕ → ℕ) → ResourceFlow elements (isBefore o) (asked demand) a g
     → g 0 (suc elements) + quoteOf m o demand .need ≤ a
