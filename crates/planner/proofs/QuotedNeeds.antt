@@ -32,11 +32,13 @@ use Rattle.solver.specs.Sound.{Sound, Plan as Quotable}
 use Rattle.solver.proofs.First.{quote-first, set-small, set-within}
 use Rattle.kinds.specs.Needs.{demandAt, demandsFor, quoteFor, exceeds, lowestKind, lowestOverload, noOverload}
 use Rattle.kinds.specs.declared.Overload.{Overload}
-use Rattle.planner.specs.Open.{planIn, planOrder, isFine, orCause, Opens}
-use Rattle.planner.specs.Need.{demandFor, availableFor, needFor, overKind, isOverloaded, shownSet, overCause}
-use Rattle.planner.specs.Verdict.{orOverload}
+use Rattle.planner.specs.Faults.{isFine}
+use Rattle.planner.specs.Open.{planIn, planOrder, Opens}
+use Rattle.planner.specs.Need.{demandFor, availableFor, needFor, overKind, isOverloaded, shownSet, overCause, orOverloaded}
+use Rattle.planner.specs.model.Opening.{openedOf, overloadIn, orFound}
 use Rattle.planner.specs.declared.Fault.{Fault}
 use Rattle.planner.specs.declared.Fault.the-variants.{Fine, Refused}
+use Rattle.planner.specs.declared.open.Opened.{Opened}
 use Rattle.planner.proofs.OpenLaws.{plan-in, plan-not, said-in, opens-readable}
 use Rattle.planner.proofs.FileOrders.{opens-strict}
 
@@ -86,7 +88,7 @@ module _ (s : List ℕ) (small : AreBytes s) (o : Opens s) where
 
   -- ---- the demands of a kind, as the solver gets them
 
-  pub demand-at : (k i : ℕ) → i < elements → demandFor (planIn s) k i ≡ getD (planIn s .demand) (elements * k + i) 0
+  demand-at : (k i : ℕ) → i < elements → demandFor (planIn s) k i ≡ getD (planIn s .demand) (elements * k + i) 0
   unfolding demandsFor
   demand-at k i h = getD-table elements (demandAt (planIn s .demand) k) i 0 h
 
@@ -96,7 +98,7 @@ module _ (s : List ℕ) (small : AreBytes s) (o : Opens s) where
       ap (λ (q : Plan). getD (q .demand) (elements * k + i) 0) (plan-in s (opens-readable s o)) in
       omega (arith, demand-at k i h, demands-small s small (elements * k + i))
 
-  pub demand-none : (k i : ℕ) → k < 8 → planIn s .count ≤ i → i < elements → demandFor (planIn s) k i ≡ 0
+  demand-none : (k i : ℕ) → k < 8 → planIn s .count ≤ i → i < elements → demandFor (planIn s) k i ≡ 0
   demand-none k i hk l h = demand-at k i h ∙ said-of .no-demand k i hk l h
 
   pub demand-in : (k i : ℕ) → k < 8 → i < planIn s .count → demandFor (planIn s) k i ≡ fileDemand s k i
@@ -143,7 +145,7 @@ module _ (s : List ℕ) (small : AreBytes s) (o : Opens s) where
       (λ k h. ap (λ (x : ℕ). ltb (availableFor (planIn s) k) x) (need-quoted k (omega (arith, kinds-few s))))
 
   pub lowest-none : isOverloaded (planIn s) ≡ false
-      → lowestOverload (planIn s .count) (planOrder s) (planIn s .demand) (planIn s .available) (planIn s .kinds) ≡ noOverload (planIn s .kinds)
+      → overloadIn (planOrder s) (planIn s) ≡ noOverload (planIn s .kinds)
   unfolding lowestOverload isOverloaded
   lowest-none e = cond-false _ (noOverload (planIn s .kinds)) (ap (λ (k : ℕ). ltb k (planIn s .kinds)) kind-is ∙ e)
 
@@ -152,7 +154,7 @@ module _ (s : List ℕ) (small : AreBytes s) (o : Opens s) where
   over-below e = ltb-true (overKind (planIn s)) (planIn s .kinds) e
 
   pub lowest-found : isOverloaded (planIn s) ≡ true
-      → lowestOverload (planIn s .count) (planOrder s) (planIn s .demand) (planIn s .available) (planIn s .kinds) ≡ overFor (planIn s)
+      → overloadIn (planOrder s) (planIn s) ≡ overFor (planIn s)
   unfolding lowestOverload isOverloaded
   lowest-found e =
       cond-true _ (noOverload (planIn s .kinds)) (ap (λ (k : ℕ). ltb k (planIn s .kinds)) kind-is ∙ e)
@@ -162,12 +164,23 @@ module _ (s : List ℕ) (small : AreBytes s) (o : Opens s) where
 
 -- ---- 7 IN ITS TURN, where an operation without a fault has a plan that opens
 
-pub weighed : (s : List ℕ) → AreBytes s → (f : Fault) → (isFine f ≡ true → Opens s)
-    → orOverload f (lowestOverload (planIn s .count) (planOrder s) (planIn s .demand) (planIn s .available) (planIn s .kinds)) (planIn s .kinds)
-    ≡ orCause f (isOverloaded (planIn s)) (overCause (planIn s))
+weighed : (s : List ℕ) → AreBytes s → (f : Fault) → (isFine f ≡ true → Opens s)
+    → orFound f (overloadIn (planOrder s) (planIn s)) (planIn s .kinds) ≡ orOverloaded f (planIn s)
 unfolding overCause isOverloaded
 weighed s small (Refused c) opens = refl
 weighed s small Fine opens =
     by-test (isOverloaded (planIn s))
     (λ e. rw (lowest-found s small (opens refl) e))
     (λ e. rw (lowest-none s small (opens refl) e, le-ltb (planIn s .kinds) (planIn s .kinds) (omega arith), e))
+
+-- ---- of what the code holds: `o` is the plan that was opened
+
+module _ (s : List ℕ) {o : Opened} (held : o ≡ openedOf s) where
+  pub opened-kinds : o .plan .kinds ≤ 8
+  opened-kinds = rw held (kinds-few s)
+
+  -- 7 in its turn, after a fault `before`
+  pub weighed-held : AreBytes s → (before : Fault) {f : Fault} → (isFine before ≡ true → Opens s) → f ≡ orFound before (overloadIn (o .order) (o .plan)) (o .plan .kinds)
+      → f ≡ orOverloaded before (planIn s)
+  weighed-held bytes before opens found =
+      found ∙ ap (λ (x : Opened). orFound before (overloadIn (x .order) (x .plan)) (x .plan .kinds)) held ∙ weighed s bytes before opens

@@ -11,7 +11,8 @@ use Rattle.plan.specs.Meaning.{Readable}
 use Rattle.plan.specs.declared.Cause.the-variants.{Length, RecordType, Field, Spare}
 use Rattle.schedule.specs.declared.Checked.{Checked}
 use Rattle.schedule.specs.declared.Checked.the-variants.{Fits, Broken, Overload}
-use Rattle.planner.specs.Open.{planIn, faultOf, orCause}
+use Rattle.planner.specs.Faults.{orCause}
+use Rattle.planner.specs.Open.{planIn, faultOf}
 use Rattle.planner.specs.Numbers.{numbersOf, causeNumber, verdictNumbers, outputNumbers, crewCheckNumbers}
 use Rattle.planner.specs.Output.{outputOf}
 use Rattle.planner.specs.Need.{isOverloaded, overCause}

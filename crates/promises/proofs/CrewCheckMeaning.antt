@@ -21,7 +21,8 @@ use Rattle.schedule.specs.model.Arrays.{crewNet}
 use Rattle.schedule.specs.declared.Checked.{Checked}
 use Rattle.schedule.specs.declared.Checked.the-variants.{Fits, Broken, Overload}
 use Rattle.schedule.proofs.Answers.{fits-means, broken-means, over-means}
-use Rattle.planner.specs.Open.{planIn, rowsOf, isFine, Opens}
+use Rattle.planner.specs.Faults.{isFine}
+use Rattle.planner.specs.Open.{planIn, rowsOf, Opens}
 use Rattle.planner.specs.CrewCheck.{checkedOf, someZero, crewCheckFault, crewWork, crewFound, crewCheckAnswer}
 use Rattle.plan.specs.Meaning.{FileArc}
 use Rattle.planner.specs.Times.{KeepsWorked, FirstBrokenArc}

@@ -20,10 +20,10 @@ use Rattle.order.specs.Orders.{Direct}
 use Rattle.order.specs.Rows.{after}
 use Rattle.order.proofs.Orders.{direct-same}
 use Rattle.plan.specs.Meaning.{Readable}
-use Rattle.plan.specs.Causes.{answerOf}
 use Rattle.plan.specs.Records.{recordAt, activityCount}
 use Rattle.kinds.specs.Needs.{demandAt, demandsFor}
-use Rattle.planner.specs.Open.{planIn, rowsOf, jobOrder, planOrder, circlesOf, isFine, faultOf}
+use Rattle.planner.specs.Faults.{isFine}
+use Rattle.planner.specs.Open.{planIn, rowsOf, jobOrder, planOrder, readFault, orCircles, faultOf}
 use Rattle.planner.specs.Need.{needFor}
 use Rattle.planner.specs.Verdict.{verdictFault, verdictAnswer}
 use Rattle.planner.specs.Needs.{needsFault, needsAnswer, needNumbers, needsOut}
@@ -31,13 +31,13 @@ use Rattle.planner.specs.Flow.{isKind, flowFault, flowAnswer, flowOut}
 use Rattle.planner.specs.File.{flowLength}
 use Rattle.promises.specs.Same.{SamePlan}
 use Rattle.planner.specs.declared.Cause.the-variants.{NoKind, Short}
+use Rattle.planner.specs.declared.Fault.{Fault}
 use Rattle.planner.proofs.FaultLaws.{cause-same}
 use Rattle.planner.proofs.OutputLaws.{output-same, lent-same}
-use Rattle.planner.proofs.OpenLaws.{said-in}
+use Rattle.planner.proofs.OpenLaws.{said-in, read-none}
 use Rattle.planner.proofs.FileOrders.{job-arcs, plan-arcs}
 use Rattle.planner.proofs.QuotedNeeds.{kinds-few, count-in, kinds-in, available-in}
 use Rattle.promises.proofs.AlikePlans.{Alike, need-same, over-same, why-same, count-same, bytes-same}
-use Rattle.promises.proofs.CircleFaults.{readable-fault}
 use Rattle.planner.proofs.FlowLaws.{flow-fine}
 
 -- ---- FILES THAT SAY THE SAME PLAN
@@ -68,10 +68,9 @@ module _ (s t : List ℕ) (e : Readable s) (f : Readable t) (same : SamePlan s t
   faults : faultOf s ≡ faultOf t
   unfolding faultOf
   faults =
-      readable-fault (answerOf s) (circlesOf (jobOrder s) (planOrder s)) e
-      ∙ ap (λ o. circlesOf o (planOrder s)) job-orders
-      ∙ ap (λ o. circlesOf (jobOrder t) o) plan-orders
-      ∙ sym (readable-fault (answerOf t) (circlesOf (jobOrder t) (planOrder t)) f)
+      ap (λ (x : Fault). orCircles x (jobOrder s) (planOrder s)) (read-none s e ∙ sym (read-none t f))
+      ∙ ap (λ o. orCircles (readFault t) o (planOrder s)) job-orders
+      ∙ ap (λ o. orCircles (readFault t) (jobOrder t) o) plan-orders
 
   -- the demands
   demand-at : (k i : ℕ) → k < 8 → i < elements → demandAt (planIn s .demand) k i ≡ demandAt (planIn t .demand) k i

@@ -2,25 +2,21 @@
 --
 --   verdict-small, needs-small, starts-small, flow-small, overload-small, crew-small    the six operations
 use mathlib.Core.Path.{_≡_, refl, sym, _∙_, subst}
-use mathlib.Core.Bool.{Bool, true, false, not, cond}
+use mathlib.Core.Bool.{Bool, true, not, cond}
 use mathlib.Core.List.{List}
 use mathlib.Core.Logic.{⊎-elim}
 use Prim.Native.Nat.{ℕ, _+_, _-_, _^_, _≤_, _<_}
 use native.Mathlib.Omega.{arith}
 use lib.Dec.{ltb}
 use lib.ListN.{length, getD}
-use borrow.Author.Tests.{ltb-true}
 use Rattle.words.proofs.Counts.{count-le}
 use Rattle.words.proofs.Tests.{by-test, cond-has, cond-least}
 use Rattle.records.specs.Bytes.{AreBytes}
 use Rattle.order.specs.Stored.{elements}
 use Rattle.order.specs.Sets.{member, sizeOf}
-use Rattle.order.specs.Orders.{circleOf}
-use Rattle.order.specs.declared.Order.{Order}
 use Rattle.order.specs.declared.Set.{Set}
 use Rattle.plan.specs.Causes.{isLength, answerOf}
 use Rattle.plan.specs.Records.{recordCount}
-use Rattle.plan.specs.declared.Answer.{Answer}
 use Rattle.plan.specs.declared.Answer.the-variants as answer
 use Rattle.plan.specs.declared.Cause.{Cause as Unread}
 use Rattle.plan.specs.declared.Cause.the-variants.{Length}
@@ -34,7 +30,8 @@ use Rattle.schedule.proofs.Arcs.{broken-first, broken-to-first}
 use Rattle.schedule.proofs.Periods.{lowest-first, period-bound}
 use Rattle.solver.proofs.QuoteSound.{need-small}
 use Rattle.kinds.specs.Needs.{demandsFor}
-use Rattle.planner.specs.Open.{planIn, rowsOf, jobOrder, planOrder, isFine, circlesOf, orUnreadable, faultOf, orCause, Opens}
+use Rattle.planner.specs.Faults.{isFine, orCause}
+use Rattle.planner.specs.Open.{planIn, rowsOf, planOrder, faultOf, Opens}
 use Rattle.planner.specs.Output.{outputOf}
 use Rattle.planner.specs.Need.{overKind, isOverloaded, shownSet, overCause}
 use Rattle.planner.specs.Verdict.{verdictFault, verdictOf, verdictAnswer}
@@ -45,12 +42,12 @@ use Rattle.planner.specs.Flow.{isKind, flowFault, flowCount, flowAnswer}
 use Rattle.planner.specs.Overload.{overloadFault, overCount, overloadAnswer}
 use Rattle.planner.specs.CrewCheck.{badLists, crewCheckFault, crewWork, crewFound, checkedOf, crewCheckAnswer}
 use Rattle.planner.specs.declared.Cause.{Cause}
-use Rattle.planner.specs.declared.Cause.the-variants.{Unreadable, JobCircle, PlanCircle, NoKind, Short, Lists}
+use Rattle.planner.specs.declared.Cause.the-variants.{NoKind, Short, Lists}
 use Rattle.planner.specs.declared.Fault.{Fault}
 use Rattle.planner.specs.declared.Output.{Output}
 use Rattle.planner.specs.declared.Fault.the-variants.{Fine, Refused}
-use Rattle.planner.proofs.FaultLaws.{cause-fine}
-use Rattle.planner.proofs.OpenLaws.{count-few, count-within}
+use Rattle.planner.proofs.FaultLaws.{cause-fine, Every, every-turn}
+use Rattle.planner.proofs.OpenLaws.{count-few, count-within, every-open}
 use Rattle.planner.proofs.QuotedNeeds.{kinds-few, need-quoted, quotable, over-below}
 use Rattle.planner.proofs.FlowUnits.{count-room, length-few}
 use Rattle.planner.proofs.FlowLaws.{kind-within, flow-fine, not-over}
@@ -60,18 +57,10 @@ use Rattle.yaffledesk.specs.Codes.{unreadCode, causeCode, verdictCode, o
 -- ---- a fault whose code is small, and the next cause in turn
 
 abbrev pub SmallFault : Fault → Type 0
-SmallFault f = (c : Cause) → f ≡ Refused c → causeCode c < 2 ^ 64
-
-small-cause : (c : Cause) → causeCode c < 2 ^ 64 → SmallFault (Refused c)
-small-cause c h d e = let q : c ≡ d = cc in subst (λ (x : Cause). causeCode x < 2 ^ 64) q h
-
-small-fine : SmallFault Fine
-small-fine c e = absurd (let z : _≡_ {A = ℕ} 0 1 = cc in omega arith)
+SmallFault f = Every (λ (c : Cause). causeCode c < 2 ^ 64) f
 
 small-turn : (f : Fault) (t : Bool) (c : Cause) → SmallFault f → (isFine f ≡ true → t ≡ true → causeCode c < 2 ^ 64) → SmallFault (orCause f t c)
-small-turn Fine true c small next = small-cause c (next refl refl)
-small-turn Fine false c small next = small
-small-turn (Refused d) t c small next = small
+small-turn = every-turn (λ (c : Cause). causeCode c < 2 ^ 64)
 
 -- the answers, by the fault
 
@@ -109,23 +98,8 @@ unread-small s c e =
     at : (p : ℕ) → p ≤ 2048 → Placed p c → unreadCode c < 2 ^ 64
     at p l = ⊎-elim (λ q. of q (omega arith)) (⊎-elim (λ q. of q (omega arith)) (λ q. of q (omega arith)))
 
-circles-small : (job whole : Order) → SmallFault (circlesOf job whole)
-unfolding circlesOf
-circles-small job whole =
-    cond-has SmallFault (ltb (circleOf job) elements) (Refused (JobCircle (circleOf job + 1)))
-    (cond (ltb (circleOf whole) elements) (Refused (PlanCircle (circleOf whole + 1))) Fine)
-    (λ e. small-cause (JobCircle (circleOf job + 1)) (let h = ltb-true (circleOf job) elements e in omega arith))
-    (λ _. cond-has SmallFault (ltb (circleOf whole) elements) (Refused (PlanCircle (circleOf whole + 1))) Fine
-    (λ e. small-cause (PlanCircle (circleOf whole + 1)) (let h = ltb-true (circleOf whole) elements e in omega arith))
-    (λ _. small-fine))
-
 pub open-small : (s : List ℕ) → SmallFault (faultOf s)
-unfolding faultOf
-open-small s = go (answerOf s) refl
-  where
-    go : (a : Answer) → answerOf s ≡ a → SmallFault (orUnreadable a (circlesOf (jobOrder s) (planOrder s)))
-    go answer.Readable e = circles-small (jobOrder s) (planOrder s)
-    go (answer.Refused c) e = small-cause (Unreadable c) (unread-small s c e)
+open-small s = every-open (λ (c : Cause). causeCode c < 2 ^ 64) s (λ u e. unread-small s u e) (λ i h. omega arith) (λ i h. omega arith)
 
 -- ---- 7, where the plan opens: the kind is at most 8, and no element demands more than 65,535
 

@@ -1,7 +1,7 @@
 -- `planner::ops::needs::put_numbers` meets its contract. The invariant: so many numbers are written over the front. Assumes nothing.
 use mathlib.Core.Path.{_≡_, refl, ap, _∙_}
 use mathlib.Core.List.{List}
-use Prim.Native.Nat.{ℕ, _≤_, _<_, _-_}
+use Prim.Native.Nat.{ℕ, _≤_, _-_}
 use native.Mathlib.Omega.{arith}
 use lib.ListN.{length, length-set, getD, set}
 use borrow.Author.Needs.{needs}
