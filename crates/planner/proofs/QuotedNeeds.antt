@@ -1,16 +1,14 @@
 -- What the solver quotes of a plan that opens is what the definitions say: the needs, the lowest overloaded kind, and 7 in its turn. Assumes nothing.
-use mathlib.Core.Path.{_≡_, refl, sym, ap, _∙_, subst}
+use mathlib.Core.Path.{_≡_, refl, ap, _∙_, subst}
 use mathlib.Core.Bool.{true, false}
 use mathlib.Core.List.{List}
-use Prim.Native.Nat.{ℕ, _+_, _*_, _/_, _%_, _^_, _≤_, _<_}
-use native.Mathlib.Nat.{div-add-mod', div-le-self, mod-lt}
+use Prim.Native.Nat.{ℕ, _+_, _*_, _^_, _≤_, _<_}
 use native.Mathlib.Omega.{arith}
 use lib.Dec.{ltb}
 use lib.ListN.{getD}
-use lib.Pow.{pow-pos}
 use borrow.Author.Tests.{le-ltb, ltb-true}
 use Rattle.words.specs.Bits.{bit}
-use Rattle.words.proofs.Bits.{bit-zero, bit-ext, bit-cat-high}
+use Rattle.words.proofs.Bits.{digits-below}
 use Rattle.words.proofs.Firsts.{first-cong}
 use Rattle.words.proofs.Tables.{getD-table}
 use Rattle.words.proofs.Tests.{fails, by-test, cond-true, cond-false}
@@ -41,21 +39,6 @@ use Rattle.planner.specs.declared.Fault.the-variants.{Fine, Refused}
 use Rattle.planner.specs.declared.open.Opened.{Opened}
 use Rattle.planner.proofs.OpenLaws.{plan-in, plan-not, said-in, opens-readable}
 use Rattle.planner.proofs.FileOrders.{opens-strict}
-
--- a number whose digits from place n on are 0 is below 2 ^ n
-digits-below : (k n w : ℕ) → w < 2 ^ k → ((i : ℕ) → n ≤ i → bit w i ≡ false) → w < 2 ^ n
-digits-below k n w h none =
-    let parts : w / 2 ^ n * 2 ^ n + w % 2 ^ n ≡ w = div-add-mod' w (2 ^ n) in
-    let low : w % 2 ^ n < 2 ^ n = mod-lt w (pow-pos n) in
-    let high : w / 2 ^ n ≡ 0 =
-    bit-ext k (w / 2 ^ n) 0 (omega (arith, div-le-self w (2 ^ n))) (pow-pos k)
-    (λ i l.
-    sym (bit-cat-high n (w / 2 ^ n) (w % 2 ^ n) i low)
-    ∙ ap (λ (x : ℕ). bit x (n + i)) parts
-    ∙ none (n + i) (omega arith)
-    ∙ sym (bit-zero i)) in
-    let all : 0 * 2 ^ n + w % 2 ^ n ≡ w = ap (λ (x : ℕ). x * 2 ^ n + w % 2 ^ n) (sym high) ∙ parts in
-    omega arith
 
 -- a plan has no more than 8 kinds, readable or not
 pub kinds-few : (s : List ℕ) → planIn s .kinds ≤ 8

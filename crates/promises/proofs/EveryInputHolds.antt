@@ -1,6 +1,6 @@
 -- DEMAND 1 HOLDS OF OURS: every answer is a result or a refusal by a number that document 01 gives the operation, and a refusal changes nothing. Assumes nothing.
 use mathlib.Core.Path.{_≡_, refl}
-use mathlib.Core.Bool.{Bool, not}
+use mathlib.Core.Bool.{Bool}
 use mathlib.Core.List.{List, [], _∷_, _++_}
 use mathlib.Core.Logic.{_⊎_, inl, inr}
 use Prim.Native.Nat.{ℕ, _+_, _-_}
@@ -18,11 +18,10 @@ use Rattle.planner.specs.Verdict.{verdictFault, verdictOf}
 use Rattle.planner.specs.Needs.{needsFault, needNumbers, needsOut}
 use Rattle.planner.specs.Starts.{needed, startsFault, startNumbers, startsOut}
 use Rattle.planner.specs.Overload.{overloadFault, overCount, overBytes, overloadOut}
-use Rattle.planner.specs.Flow.{isKind, flowFault, flowCount, recordBytes, flowOut}
-use Rattle.planner.specs.File.{flowLength}
+use Rattle.planner.specs.Flow.{flowFault, flowCount, recordBytes, flowOut}
 use Rattle.planner.specs.CrewCheck.{badLists, crewCheckFault, crewFound, checkedOf}
 use Rattle.planner.specs.declared.Cause.{Cause}
-use Rattle.planner.specs.declared.Cause.the-variants.{Unreadable, NoKind, Short, Lists}
+use Rattle.planner.specs.declared.Cause.the-variants.{Unreadable, Short, Lists}
 use Rattle.planner.specs.declared.Fault.{Fault}
 use Rattle.planner.specs.declared.Fault.the-variants.{Fine, Refused}
 use Rattle.planner.specs.declared.Decision.the-variants as verdict
@@ -114,13 +113,10 @@ overload-only s n = then-only s (ltb n 24) (Short 24)
 flow-only : (s : List ℕ) (kind n : ℕ) → Only (opening ++ 8 ∷ 9 ∷ 7 ∷ []) (flowFault s kind n)
 unfolding flowFault overCause
 flow-only s kind n =
-    let q = planIn s in
     let L = opening ++ 8 ∷ 9 ∷ 7 ∷ [] in
-    let known = orCause (faultOf s) (not (isKind kind (q .kinds))) (NoKind (q .kinds)) in
-    let roomy = orCause known (ltb n (flowLength (q .count))) (Short (flowLength (q .count))) in
-    only-cause L roomy (isOverloaded q) (overCause q)
-    (only-cause L known (ltb n (flowLength (q .count))) (Short (flowLength (q .count)))
-    (only-cause L (faultOf s) (not (isKind kind (q .kinds))) (NoKind (q .kinds)) (only-more opening (8 ∷ 9 ∷ 7 ∷ []) (faultOf s) (fault-only s))
+    only-cause L _ _ _
+    (only-cause L _ _ _
+    (only-cause L _ _ _ (only-more opening (8 ∷ 9 ∷ 7 ∷ []) (faultOf s) (fault-only s))
     (inr (inr (inr (inr (inr (inr (inl refl))))))))
     (inr (inr (inr (inr (inr (inr (inr (inl refl)))))))))
     (inr (inr (inr (inr (inr (inr (inr (inr (inl refl)))))))))

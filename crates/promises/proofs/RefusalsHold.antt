@@ -121,8 +121,8 @@ module _ (s : List ℕ) (small : AreBytes s) (o : Opens s) where
             let q = planIn s in
             let C = NoKind (q .kinds) in
             given (flowFault s kind n) (flowCount q (kind - 1)) C
-            (cause-before _ (isOverloaded q) (overCause q) C
-            (cause-before _ (ltb n (flowLength (q .count))) (Short (flowLength (q .count))) C
+            (cause-before _ _ _ C
+            (cause-before _ _ _ C
             (cause-next (faultOf s) (not (isKind kind (q .kinds))) C o (no-kind kind never))))
             ∙ two 8 K;
         flow-short = λ kind n p r h.
@@ -130,7 +130,7 @@ module _ (s : List ℕ) (small : AreBytes s) (o : Opens s) where
             let C = Short (flowLength (q .count)) in
             let l : n < flowLength (q .count) = rw m h in
             given (flowFault s kind n) (flowCount q (kind - 1)) C
-            (cause-before _ (isOverloaded q) (overCause q) C
+            (cause-before _ _ _ C
             (short-next (orCause (faultOf s) (not (isKind kind (q .kinds))) (NoKind (q .kinds))) n (flowLength (q .count))
             (ap isFine (cause-none (faultOf s) (not (isKind kind (q .kinds))) (NoKind (q .kinds)) o (a-kind kind p r))) l))
             ∙ two 9 (ap flowLength m);
