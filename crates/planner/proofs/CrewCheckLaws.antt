@@ -1,27 +1,29 @@
 -- Crew check: its cause 10, and what it answers. Assumes nothing.
 use mathlib.Core.Path.{_≡_, refl, sym, ap, _∙_}
-use mathlib.Core.Bool.{Bool, true, false, not, _||_, cond}
+use mathlib.Core.Bool.{Bool, true, false, not, _||_}
 use mathlib.Core.List.{List}
 use mathlib.Core.Logic.{_≢_}
 use Prim.Native.Nat.{ℕ}
 use native.Mathlib.Omega.{arith}
 use lib.Dec.{eqb}
 use lib.ListN.{length}
-use borrow.Author.Tests.{eq-eqb, ne-eqb, eqb-true, not-true, not-false}
+use borrow.Author.Tests.{eq-eqb, ne-eqb, eqb-true}
 use Rattle.words.proofs.Tests.{clash}
 use Rattle.schedule.specs.Checks.{checkOf}
 use Rattle.schedule.specs.model.Arrays.{crewNet, workOf, Listed}
 use Rattle.schedule.specs.declared.Checked.{Checked}
-use Rattle.schedule.specs.declared.Checked.the-variants.{Fits}
-use Rattle.planner.specs.Open.{planIn, isFine, faultOf, orCause, openedOf, Opens}
-use Rattle.planner.specs.CrewCheck.{someZero, badLists, crewCheckFault, crewFound, crewLooked, checkedOf, crewCheckAnswer}
+use Rattle.planner.specs.Faults.{isFine, orCause}
+use Rattle.planner.specs.Open.{planIn, faultOf, Opens}
+use Rattle.planner.specs.CrewCheck.{someZero, badLists, crewCheckFault, crewFound, checkedOf, crewCheckAnswer}
+use Rattle.planner.specs.model.Opening.{openedOf}
 use Rattle.planner.specs.declared.Cause.the-variants.{Lists}
 use Rattle.planner.specs.declared.Fault.{Fault}
 use Rattle.planner.specs.declared.Fault.the-variants.{Fine, Refused}
 use Rattle.planner.specs.declared.CrewChecked.{CrewChecked}
 use Rattle.planner.specs.declared.open.Opened.{Opened}
-use Rattle.planner.specs.declared.ops.crew_check.Looked.{Looked}
+use Rattle.planner.specs.declared.CrewChecked.the-variants.{Found}
 use Rattle.planner.proofs.FaultLaws.{cause-fine}
+use Rattle.planner.proofs.OutputLaws.{Ends}
 use Rattle.planner.proofs.OpenLaws.{count-few}
 
 -- ---- the lists
@@ -60,39 +62,27 @@ crew-fine s starts worked e =
     let l = lists-fine (planIn s .count) starts worked (w .1) in
     (w .0, l .0, l .1, l .2)
 
--- ---- the answer
-
-checked-fine : (f : Fault) (x y : Checked) → checkedOf f (cond (isFine f) x y) ≡ checkedOf f x
-checked-fine Fine x y = refl
-checked-fine (Refused c) x y = refl
-
-pub answered : (s starts worked : List ℕ) {l : Looked} {r : CrewChecked} → l ≡ crewLooked s starts worked → r ≡ checkedOf (l .fault) (l .value) → r ≡ crewCheckAnswer s starts worked
-unfolding crewLooked
-answered s starts worked e q =
-    q ∙ ap (λ (x : Looked). checkedOf (x .fault) (x .value)) e ∙ checked-fine (crewCheckFault s starts worked) (crewFound s starts worked) Fits
-
 -- ---- what the code holds: `o` is the plan that was opened, `t` whether the lists are bad, `f` the fault with 10 in its turn, and `b` what the code's
 -- test said of it
 
-module _ (s starts worked : List ℕ) {o : Opened} {f : Fault} {t b : Bool}
-    (held : o ≡ openedOf s) (lists : t ≡ badLists (o .plan .count) starts worked) (found : f ≡ orCause (o .fault) t (Lists (o .plan .count))) (test : b ≡ isFine f) where
-  fault-is : f ≡ crewCheckFault s starts worked
+module _ (s starts worked : List ℕ) {o : Opened} (held : o ≡ openedOf s) where
+  pub ends : {t b : Bool} {f : Fault} → t ≡ badLists (o .plan .count) starts worked → f ≡ orCause (o .fault) t (Lists (o .plan .count)) → b ≡ isFine f
+      → Ends (crewCheckFault s starts worked) f b
   unfolding crewCheckFault
-  fault-is = rw (found, lists, held)
+  ends lists found test = record { fault = rw (found, lists, held); test = test }
 
-  said-is : {v : Bool} → b ≡ v → isFine (crewCheckFault s starts worked) ≡ v
-  said-is e = sym (ap isFine fault-is) ∙ sym test ∙ e
-
-  pub not-looked : not b ≡ true → record { fault = f; value = Fits } ≡ crewLooked s starts worked
-  unfolding crewLooked
-  not-looked h = rw (fault-is, said-is (not-true b h))
-
-  pub listed : not b ≡ false → Listed starts worked
-  listed h =
-      let w = crew-fine s starts worked (said-is (not-false b h)) in
+  pub listed : isFine (crewCheckFault s starts worked) ≡ true → Listed starts worked
+  listed e =
+      let w = crew-fine s starts worked e in
       record { few = omega (arith, w .1, count-few s); paired = w .2 ∙ sym (w .1) }
 
-  pub looked-at : {r : Checked} → not b ≡ false → r ≡ checkOf (crewNet (o .rows) starts worked) (workOf (o .plan .demand) (o .plan .available) starts worked)
-      → record { fault = f; value = r } ≡ crewLooked s starts worked
-  unfolding crewLooked crewFound
-  looked-at h e = rw (fault-is, said-is (not-false b h), e, held)
+  -- beside a fault it does not matter what was found
+  pub answered : {f : Fault} {b : Bool} (x : Checked) {r : CrewChecked} → Ends (crewCheckFault s starts worked) f b → r ≡ checkedOf f x
+      → (isFine (crewCheckFault s starts worked) ≡ true → x ≡ checkOf (crewNet (o .rows) starts worked) (workOf (o .plan .demand) (o .plan .available) starts worked))
+      → r ≡ crewCheckAnswer s starts worked
+  unfolding crewFound
+  answered x e q h = q ∙ ap (λ (y : Fault). checkedOf y x) (e .fault) ∙ same (crewCheckFault s starts worked) (λ t. h t ∙ rw held)
+    where
+      same : (y : Fault) → (isFine y ≡ true → x ≡ crewFound s starts worked) → checkedOf y x ≡ checkedOf y (crewFound s starts worked)
+      same Fine h = ap Found (h refl)
+      same (Refused c) h = refl

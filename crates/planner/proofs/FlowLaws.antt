@@ -6,7 +6,7 @@ use Prim.Native.Nat.{ℕ, _+_, _-_, _≤_, _<_}
 use native.Mathlib.Omega.{arith}
 use lib.Dec.{ltb, leb}
 use lib.ListN.{length, getD}
-use borrow.Author.Tests.{lt-ltb, le-ltb, ltb-true, ltb-false, leb-true, not-true, not-false}
+use borrow.Author.Tests.{lt-ltb, ltb-true, ltb-false, leb-true, not-false}
 use Rattle.words.proofs.Firsts.{before-first}
 use Rattle.words.proofs.Tests.{and-left, and-right}
 use Rattle.records.specs.Bytes.{AreBytes}
@@ -14,27 +14,24 @@ use Rattle.records.specs.Records.{startingWith}
 use Rattle.solver.specs.model.Network.{handed}
 use Rattle.solver.specs.model.Quote.{quoteOf, flowOf}
 use Rattle.solver.specs.Sound.{asked}
-use Rattle.kinds.specs.Needs.{demandsFor, lowestOverload}
+use Rattle.kinds.specs.Needs.{demandsFor}
 use Rattle.kinds.specs.Flows.{Bounded, markOf, kindUnits, pairsOf}
 use Rattle.kinds.specs.model.Writing.{Room, Lent, lent, putFlow}
 use Rattle.order.specs.Stored.{elements}
-use Rattle.planner.specs.Open.{planIn, isFine, faultOf, orCause, openedOf, Opens}
-use Rattle.planner.specs.Output.{outputOf}
-use Rattle.planner.specs.Need.{availableFor, needFor, overKind, isOverloaded, overCause}
-use Rattle.planner.specs.Verdict.{orOverload}
-use Rattle.planner.specs.Flow.{isKind, flowFault, flowCount, recordBytes, flowCounted, flowAnswer, flowOut}
+use Rattle.planner.specs.Faults.{isFine, orCause, orShort}
+use Rattle.planner.specs.Open.{planIn, faultOf, Opens}
+use Rattle.planner.specs.Need.{availableFor, needFor, overKind, isOverloaded, overCause, orOverloaded}
+use Rattle.planner.specs.Flow.{isKind, flowFault, flowCount, recordBytes}
 use Rattle.planner.specs.File.{flowLength}
-use Rattle.planner.specs.declared.Cause.the-variants.{NoKind, Short}
+use Rattle.planner.specs.model.Opening.{openedOf, overloadIn, orFound}
+use Rattle.planner.specs.declared.Cause.the-variants.{NoKind}
 use Rattle.planner.specs.declared.Fault.{Fault}
 use Rattle.planner.specs.declared.Fault.the-variants.{Fine}
-use Rattle.planner.specs.declared.Output.{Output}
-use Rattle.planner.specs.declared.answer.Counted.{Counted}
 use Rattle.planner.specs.declared.open.Opened.{Opened}
-use Rattle.planner.proofs.FaultLaws.{cause-fine, cause-none}
-use Rattle.planner.proofs.OutputLaws.{counted-fine, lent-kept, lent-written}
+use Rattle.planner.proofs.FaultLaws.{cause-fine, cause-none, short-fine, short-none}
+use Rattle.planner.proofs.OutputLaws.{Ends}
 use Rattle.planner.proofs.OpenLaws.{count-few}
-use Rattle.planner.proofs.QuotedNeeds.{kinds-few, need-quoted}
-use Rattle.planner.proofs.VerdictLaws.{weighed-held}
+use Rattle.planner.proofs.QuotedNeeds.{kinds-few, need-quoted, weighed-held}
 use Rattle.planner.proofs.FlowUnits.{bounded-in, room-in, flow-put}
 
 -- ---- the kind
@@ -63,13 +60,13 @@ module _ (s : List ℕ) (kind n : ℕ) where
   known = orCause (faultOf s) (not (isKind kind (planIn s .kinds))) (NoKind (planIn s .kinds))
 
   abbrev roomy : Fault
-  roomy = orCause known (ltb n (flowLength (planIn s .count))) (Short (flowLength (planIn s .count)))
+  roomy = orShort known n (flowLength (planIn s .count))
 
   roomy-fine : isFine roomy ≡ true → Opens s × (isKind kind (planIn s .kinds) ≡ true) × (flowLength (planIn s .count) ≤ n)
   roomy-fine e =
-      let r = cause-fine known (ltb n (flowLength (planIn s .count))) (Short (flowLength (planIn s .count))) e in
+      let r = short-fine known n (flowLength (planIn s .count)) e in
       let k = cause-fine (faultOf s) (not (isKind kind (planIn s .kinds))) (NoKind (planIn s .kinds)) (r .0) in
-      (k .0, not-false (isKind kind (planIn s .kinds)) (k .1), ltb-false n (flowLength (planIn s .count)) (r .1))
+      (k .0, not-false (isKind kind (planIn s .kinds)) (k .1), r .1)
 
   pub flow-fine : isFine (flowFault s kind n) ≡ true
       → Opens s × (isKind kind (planIn s .kinds) ≡ true) × (flowLength (planIn s .count) ≤ n) × (isOverloaded (planIn s) ≡ false)
@@ -84,8 +81,7 @@ module _ (s : List ℕ) (kind n : ℕ) where
   unfolding flowFault
   fine-flow o k l e =
       let a = cause-none (faultOf s) (not (isKind kind (planIn s .kinds))) (NoKind (planIn s .kinds)) o (ap not k) in
-      let r = cause-none known (ltb n (flowLength (planIn s .count))) (Short (flowLength (planIn s .count))) (ap isFine a)
-      (le-ltb n (flowLength (planIn s .count)) l) in
+      let r = short-none known n (flowLength (planIn s .count)) (ap isFine a) l in
       cause-none roomy (isOverloaded (planIn s)) (overCause (planIn s)) (ap isFine r) e
 
 -- no kind needs more than there is
@@ -96,51 +92,32 @@ not-over s e k h =
     ltb-false (availableFor (planIn s) k) (needFor (planIn s) k)
     (before-first (planIn s .kinds) (λ i. ltb (availableFor (planIn s) i) (needFor (planIn s) i)) k (omega (arith, l)))
 
--- ---- what Flow writes, and what it answers
+-- ---- what the code holds: `o` is the plan that was opened
 
-module _ (s : List ℕ) (kind : ℕ) (out : List ℕ) where
-  out-kept : isFine (flowFault s kind (length out)) ≡ false → out ≡ flowOut s kind out
-  unfolding flowOut
-  out-kept e = lent-kept (flowFault s kind (length out)) (recordBytes (planIn s) (kind - 1)) out e
-
-  out-written : isFine (flowFault s kind (length out)) ≡ true → startingWith (recordBytes (planIn s) (kind - 1)) out ≡ flowOut s kind out
-  unfolding flowOut
-  out-written e = lent-written (flowFault s kind (length out)) (recordBytes (planIn s) (kind - 1)) out e
-
-pub answered : (s : List ℕ) (kind n : ℕ) {l : Counted} {r : Output} → l ≡ flowCounted s kind n → r ≡ outputOf (l .fault) (l .value) → r ≡ flowAnswer s kind n
-answered s kind n e q = q ∙ ap (λ (x : Counted). outputOf (x .fault) (x .value)) e ∙ counted-fine (flowFault s kind n) (flowCount (planIn s) (kind - 1))
-
--- ---- what the code holds: `o` is the plan that was opened, `long` the length needed, `t` whether the kind is one, `first` and `second` the faults
--- with 8 and then 9 in their turn, `f` that with 7 after them, and `b` what the code's test said of it
-
-module _ (s : List ℕ) (kind : ℕ) (out : List ℕ) (bytes : AreBytes s) {o : Opened} {long : ℕ} {t b : Bool} {first second f : Fault}
-    (held : o ≡ openedOf s) (length-is : long ≡ flowLength (o .plan .count)) (one : t ≡ isKind kind (o .plan .kinds))
-    (eight : first ≡ orCause (o .fault) (not t) (NoKind (o .plan .kinds))) (nine : second ≡ orCause first (ltb (length out) long) (Short long))
-    (seven : f ≡ orOverload second (lowestOverload (o .plan .count) (o .order) (o .plan .demand) (o .plan .available) (o .plan .kinds)) (o .plan .kinds))
-    (test : b ≡ isFine f) where
-  second-is : second ≡ roomy s kind (length out)
-  second-is = rw (nine, eight, one, length-is, held)
-
-  fault-is : f ≡ flowFault s kind (length out)
+module _ (s : List ℕ) (kind : ℕ) (out : List ℕ) (bytes : AreBytes s) {o : Opened} (held : o ≡ openedOf s) where
+  -- `long` is the length needed, `t` whether the kind is one, `first` and `second` the faults with 8 and then 9 in their turn, `f` that with 7 after them, and `b`
+  -- what the code's test said of it
+  pub ends : {long : ℕ} {t b : Bool} {first second f : Fault} → long ≡ flowLength (o .plan .count) → t ≡ isKind kind (o .plan .kinds)
+      → first ≡ orCause (o .fault) (not t) (NoKind (o .plan .kinds)) → second ≡ orShort first (length out) long
+      → f ≡ orFound second (overloadIn (o .order) (o .plan)) (o .plan .kinds) → b ≡ isFine f → Ends (flowFault s kind (length out)) f b
   unfolding flowFault
-  fault-is =
-      weighed-held s held bytes second (λ e. roomy-fine s kind (length out) (sym (ap isFine second-is) ∙ e) .0) seven
-      ∙ ap (λ (x : Fault). orCause x (isOverloaded (planIn s)) (overCause (planIn s))) second-is
+  ends {second = second} long one eight nine seven test =
+      record {
+        fault =
+            weighed-held s held bytes second (λ e. roomy-fine s kind (length out) (sym (ap isFine second-is) ∙ e) .0) seven
+            ∙ ap (λ (x : Fault). orOverloaded x (planIn s)) second-is;
+        test = test;
+      }
+    where
+      second-is : second ≡ roomy s kind (length out)
+      second-is = rw (nine, eight, one, long, held)
 
-  said-is : {v : Bool} → b ≡ v → isFine (flowFault s kind (length out)) ≡ v
-  said-is e = sym (ap isFine fault-is) ∙ sym test ∙ e
-
-  pub kept : not b ≡ true → (record { fault = f; value = 0 } ≡ flowCounted s kind (length out)) × (out ≡ flowOut s kind out)
-  kept h =
-      let v = said-is (not-true b h) in
-      (rw (fault-is, v), out-kept s kind out v)
-
-  module _ (h : not b ≡ false) where
-    goes-on : Opens s × (isKind kind (planIn s .kinds) ≡ true) × (flowLength (planIn s .count) ≤ length out) × (isOverloaded (planIn s) ≡ false)
-    goes-on = flow-fine s kind (length out) (said-is (not-false b h))
+  module _ (e : isFine (flowFault s kind (length out)) ≡ true) where
+    goes : Opens s × (isKind kind (planIn s .kinds) ≡ true) × (flowLength (planIn s .count) ≤ length out) × (isOverloaded (planIn s) ≡ false)
+    goes = flow-fine s kind (length out) e
 
     within : (0 < kind) × (kind ≤ planIn s .kinds)
-    within = kind-within kind (planIn s .kinds) (goes-on .1)
+    within = kind-within kind (planIn s .kinds) (goes .1)
 
     pub kind-few : (0 < kind) × (kind ≤ 8)
     kind-few = (within .0, omega (arith, within .1, kinds-few s))
@@ -149,7 +126,7 @@ module _ (s : List ℕ) (kind : ℕ) (out : List ℕ) (bytes : AreBytes s) {o : 
     below = omega (arith, kind-few .0, kind-few .1)
 
     enough : needFor (planIn s) (kind - 1) ≤ availableFor (planIn s) (kind - 1)
-    enough = not-over s (goes-on .3) (kind - 1) (omega (arith, within .0, within .1))
+    enough = not-over s (goes .3) (kind - 1) (omega (arith, within .0, within .1))
 
     -- what the writing of the flow asks
     pub flow-asked : (kind - 1 < 8) × (o .plan .count ≤ elements)
@@ -160,20 +137,16 @@ module _ (s : List ℕ) (kind : ℕ) (out : List ℕ) (bytes : AreBytes s) {o : 
         rw held (
           below,
           count-few s,
-          bounded-in s bytes (goes-on .0) (kind - 1) below,
-          omega (arith, enough, need-quoted s bytes (goes-on .0) (kind - 1) below),
-          room-in s bytes (goes-on .0) (kind - 1) below out enough (goes-on .2),
+          bounded-in s bytes (goes .0) (kind - 1) below,
+          omega (arith, enough, need-quoted s bytes (goes .0) (kind - 1) below),
+          room-in s bytes (goes .0) (kind - 1) below out enough (goes .2),
         )
 
-    pub written : {r : ℕ} {out′ : List ℕ}
-        → lent r out′ ≡ putFlow (kind - 1 + 1) (kindUnits (o .order) (o .plan .demand) (kind - 1) (getD (o .plan .available) (kind - 1) 0) (o .plan .count))
+    -- the records are written
+    pub written : {r : ℕ} {after : List ℕ}
+        → lent r after ≡ putFlow (kind - 1 + 1) (kindUnits (o .order) (o .plan .demand) (kind - 1) (getD (o .plan .available) (kind - 1) 0) (o .plan .count))
         (markOf (o .plan .job) (o .plan .count)) (o .plan .count) (lent 0 out)
-        → (record { fault = f; value = r } ≡ flowCounted s kind (length out)) × (out′ ≡ flowOut s kind out)
-    written {r} {out′} e =
-        (rw (count, fault-is, said-is (not-false b h)), ap (λ (l : Lent). l .out) put ∙ out-written s kind out (said-is (not-false b h)))
-      where
-        put : lent r out′ ≡ lent (flowCount (planIn s) (kind - 1)) (startingWith (recordBytes (planIn s) (kind - 1)) out)
-        put = (rw held at e) ∙ flow-put s bytes (goes-on .0) (kind - 1) below out
-
-        count : r ≡ flowCount (planIn s) (kind - 1)
-        count = ap (λ (l : Lent). l .count) put
+        → (r ≡ flowCount (planIn s) (kind - 1)) × (after ≡ startingWith (recordBytes (planIn s) (kind - 1)) out)
+    written q =
+        let put = (rw held at q) ∙ flow-put s bytes (goes .0) (kind - 1) below out in
+        (ap (λ (l : Lent). l .count) put, ap (λ (l : Lent). l .out) put)

@@ -79,7 +79,7 @@ module _ (s : List ℕ) (small : AreBytes s) (o : Opens s) (k : ℕ) (hk : k < 8
 
   -- ---- its units fit four bytes, and pass between the nodes 0 to m + 1
 
-  pub units-below : (u v : ℕ) → flowUnits (planIn s) k u v < 256 ^ 4
+  units-below : (u v : ℕ) → flowUnits (planIn s) k u v < 256 ^ 4
   unfolding flowUnits
   units-below u v =
       let l = units-small (planIn s .count) (isBefore (planOrder s)) (demandFor (planIn s) k) (handed (flowOf (planIn s .count) (planOrder s) (demandsFor (planIn s .demand) k)))
@@ -109,7 +109,7 @@ module _ (s : List ℕ) (small : AreBytes s) (o : Opens s) (k : ℕ) (hk : k < 8
 
   -- ---- AS THE CODE HAS IT
 
-  pub units-coded : (u v : ℕ) → codedUnits s k u v ≡ flowUnits (planIn s) k u v
+  units-coded : (u v : ℕ) → codedUnits s k u v ≡ flowUnits (planIn s) k u v
   unfolding units flowUnits
   units-coded u v =
       let f : ℕ → ℕ → ℕ = handed (flowOf (planIn s .count) (planOrder s) (demandsFor (planIn s .demand) k)) in

@@ -1,8 +1,8 @@
 -- Laws of the definitions of `specs/`, which the proofs of the code and the crate `promises` go by.
 --
--- FaultLaws (causes in turn), OutputLaws (answers and lent memory), OpenLaws (the causes 1 to 6), FileOrders (arcs, orders and starts, in the file's own terms), QuotedNeeds
--- (needs and overload), FlowUnits (flows), and for each operation one: VerdictLaws (Verdict), NeedsLaws (Needs), StartsLaws, FlowLaws (Flow), OverloadLaws (Overload),
--- CrewCheckLaws (Crew check); RefusalBounds (what a refusal tells is small).
+-- FaultLaws (causes in turn), OutputLaws (answers, lent memory, and how an operation ends), OpenLaws (the causes 1 to 6), FileOrders (arcs, orders and
+-- starts, in the file's own terms), QuotedNeeds (needs and overload), FlowUnits (flows), and for each operation one: VerdictLaws (Verdict), NeedsLaws (Needs),
+-- StartsLaws, FlowLaws (Flow), OverloadLaws (Overload), CrewCheckLaws (Crew check); RefusalBounds (what a refusal tells is small).
 pub mod FaultLaws
 pub mod OutputLaws
 pub mod OpenLaws

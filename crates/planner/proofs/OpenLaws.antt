@@ -1,17 +1,19 @@
 -- What a plan that meets none of the causes 1 to 6 is, and what the code holds of it. Assumes nothing.
-use mathlib.Core.Path.{_≡_, refl, ap}
-use mathlib.Core.Bool.{Bool, true, false, cond, false≢true}
+use mathlib.Core.Path.{_≡_, refl, sym, ap, _∙_}
+use mathlib.Core.Bool.{true, false}
 use mathlib.Core.List.{List}
 use Prim.Native.Nat.{ℕ, _+_, _≤_, _<_}
 use native.Mathlib.Omega.{arith}
 use lib.Dec.{ltb}
 use lib.ListN.{getD}
-use borrow.Author.Tests.{lt-ltb, le-ltb, ltb-false}
+use borrow.Author.Tests.{lt-ltb, le-ltb, ltb-true, ltb-false}
+use Rattle.words.proofs.Firsts.{first-le}
 use Rattle.words.proofs.Tests.{by-test, cond-true, cond-false}
 use Rattle.records.specs.Bytes.{AreBytes}
 use Rattle.order.specs.Stored.{elements}
 use Rattle.order.specs.Before.{Acyclic}
-use Rattle.order.specs.Orders.{Direct, orderIn, extendedBy, joinedRows, circleOf}
+use Rattle.order.specs.Rows.{after, circleIn}
+use Rattle.order.specs.Orders.{Direct, OrderOf, orderIn, extendedBy, joinedRows, circleOf}
 use Rattle.order.specs.declared.Order.{Order}
 use Rattle.order.proofs.Orders.{direct-order, order-begun, circle-none, circle-le}
 use Rattle.plan.specs.Records.{activities}
@@ -21,16 +23,21 @@ use Rattle.plan.specs.model.Plans.{planOf, emptyPlan}
 use Rattle.plan.specs.Meaning.{Readable}
 use Rattle.plan.specs.model.Said.{Said}
 use Rattle.plan.proofs.Said.{said, durations-small}
+use Rattle.plan.specs.declared.Cause.{Cause as Unread}
 use Rattle.plan.specs.declared.Answer.{Answer}
 use Rattle.plan.specs.declared.Answer.the-variants as answer
 use Rattle.plan.specs.declared.Plan.{Plan}
 use Rattle.plan.specs.declared.Reading.{Reading}
 use Rattle.schedule.specs.model.Arrays.{AllAtMost}
-use Rattle.planner.specs.Open.{planIn, rowsOf, jobOrder, planOrder, isFine, circlesOf, orUnreadable, faultOf, openedOf, Opens}
-use Rattle.planner.specs.declared.Cause.the-variants.{JobCircle, PlanCircle}
+use Rattle.planner.specs.Faults.{isFine, orCause}
+use Rattle.planner.specs.Open.{planIn, rowsOf, jobOrder, planOrder, unreadFault, readFault, orCircle, orCircles, faultOf, Opens}
+use Rattle.planner.specs.model.Opening.{readPlan, orderedOf, openedOf}
+use Rattle.planner.specs.declared.Cause.{Cause}
+use Rattle.planner.specs.declared.Cause.the-variants.{Unreadable, JobCircle, PlanCircle}
 use Rattle.planner.specs.declared.Fault.{Fault}
 use Rattle.planner.specs.declared.Fault.the-variants.{Fine, Refused}
 use Rattle.planner.specs.declared.open.Opened.{Opened}
+use Rattle.planner.proofs.FaultLaws.{fine-is, cause-fine, cause-next, cause-none, Every, every-fine, every-this, every-turn}
 
 -- ---- the plan that is read
 
@@ -57,64 +64,48 @@ count-within s =
 pub count-few : (s : List ℕ) → planIn s .count ≤ elements
 count-few s = omega (arith, count-within s)
 
--- ---- the circles, as the code finds them
+-- ---- the first step: no fault is found in a file exactly where it is readable
 
-module _ (job whole : Order) where
-  pub circles-job : (i : ℕ) → i ≡ circleOf job → i < elements → Refused (JobCircle (i + 1)) ≡ circlesOf job whole
-  unfolding circlesOf
-  circles-job i e l =
-      let h : circleOf job < elements = omega arith in
-      rw (lt-ltb (circleOf job) elements h, e)
-
-  pub circles-plan : (i j : ℕ) → i ≡ circleOf job → elements ≤ i → j ≡ circleOf whole → j < elements → Refused (PlanCircle (j + 1)) ≡ circlesOf job whole
-  unfolding circlesOf
-  circles-plan i j e l f m =
-      let h : elements ≤ circleOf job = omega arith in
-      let k : circleOf whole < elements = omega arith in
-      rw (le-ltb (circleOf job) elements h, lt-ltb (circleOf whole) elements k, f)
-
-  pub circles-none : (i j : ℕ) → i ≡ circleOf job → elements ≤ i → j ≡ circleOf whole → elements ≤ j → Fine ≡ circlesOf job whole
-  unfolding circlesOf
-  circles-none i j e l f m =
-      let h : elements ≤ circleOf job = omega arith in
-      let k : elements ≤ circleOf whole = omega arith in
-      rw (le-ltb (circleOf job) elements h, le-ltb (circleOf whole) elements k)
-
--- no circle is found: there is none
-circles-fine : (job rows : List ℕ) → isFine (circlesOf (orderIn job) (orderIn rows)) ≡ true → Acyclic (Direct job) × Acyclic (Direct rows)
-unfolding circlesOf
-circles-fine job rows e = go (ltb (circleOf (orderIn job)) elements) (ltb (circleOf (orderIn rows)) elements) refl refl e
+pub read-fine : (s : List ℕ) → isFine (readFault s) ≡ isReadable (answerOf s)
+unfolding readFault
+read-fine s = go (answerOf s)
   where
-    none : (xs : List ℕ) → ltb (circleOf (orderIn xs)) elements ≡ false → Acyclic (Direct xs)
-    none xs f = circle-none (direct-order xs) .0 (omega (arith, circle-le (direct-order xs), ltb-false (circleOf (orderIn xs)) elements f))
+    go : (a : Answer) → isFine (unreadFault a) ≡ isReadable a
+    go answer.Readable = refl
+    go (answer.Refused c) = refl
 
-    go : (a b : Bool) → ltb (circleOf (orderIn job)) elements ≡ a → ltb (circleOf (orderIn rows)) elements ≡ b
-        → isFine (cond a (Refused (JobCircle (circleOf (orderIn job) + 1))) (cond b (Refused (PlanCircle (circleOf (orderIn rows) + 1))) Fine)) ≡ true
-        → Acyclic (Direct job) × Acyclic (Direct rows)
-    go true b p q e = absurd (false≢true e)
-    go false true p q e = absurd (false≢true e)
-    go false false p q e = (none job p, none rows q)
+pub read-none : (s : List ℕ) → Readable s → readFault s ≡ Fine
+read-none s e = fine-is (readFault s) (read-fine s ∙ e)
+
+-- ---- the second: a circle in an order, in its turn
+
+module _ (f : Fault) (o : Order) (cause : ℕ → Cause) where
+  -- the arcs of the order lead nothing back to itself
+  pub round-none : {A : ℕ → ℕ → Type 0} → OrderOf o A → isFine f ≡ true → Acyclic A → orCircle f o cause ≡ Fine
+  round-none r h free = cause-none f (ltb (circleOf o) elements) (cause (circleOf o + 1)) h (le-ltb (circleOf o) elements (omega (arith, circle-none r .1 free)))
+
+  round-fine : {A : ℕ → ℕ → Type 0} → OrderOf o A → isFine (orCircle f o cause) ≡ true → (isFine f ≡ true) × Acyclic A
+  round-fine r e =
+      let w = cause-fine f (ltb (circleOf o) elements) (cause (circleOf o + 1)) e in
+      (w .0, circle-none r .0 (omega (arith, circle-le r, ltb-false (circleOf o) elements (w .1))))
+
+  -- element i is the lowest before itself
+  pub round-found : (i : ℕ) → isFine f ≡ true → circleOf o ≡ i → i < elements → orCircle f o cause ≡ Refused (cause (i + 1))
+  round-found i h e l =
+      cause-next f (ltb (circleOf o) elements) (cause (circleOf o + 1)) h (lt-ltb (circleOf o) elements (omega arith)) ∙ ap (λ (x : ℕ). Refused (cause (x + 1))) e
 
 -- ---- what it means that a plan opens
 
-unread-fine : (a : Answer) (f : Fault) → isFine (orUnreadable a f) ≡ true → (isReadable a ≡ true) × (isFine f ≡ true)
-unread-fine answer.Readable f e = (refl, e)
-unread-fine (answer.Refused c) f e = absurd (false≢true e)
+module _ (s : List ℕ) (o : Opens s) where
+  steps : (isFine (orCircle (readFault s) (jobOrder s) JobCircle) ≡ true) × Acyclic (Direct (rowsOf s))
+  unfolding faultOf
+  steps = round-fine (orCircle (readFault s) (jobOrder s) JobCircle) (planOrder s) PlanCircle (direct-order (rowsOf s)) o
 
-pub opens-readable : (s : List ℕ) → Opens s → Readable s
-unfolding faultOf
-opens-readable s e = unread-fine (answerOf s) (circlesOf (jobOrder s) (planOrder s)) e .0
+  pub opens-readable : Readable s
+  opens-readable = sym (read-fine s) ∙ round-fine (readFault s) (jobOrder s) JobCircle (direct-order (planIn s .job)) (steps .0) .0
 
--- neither order has a circle
-opens-circles : (s : List ℕ) → Opens s → Acyclic (Direct (planIn s .job)) × Acyclic (Direct (rowsOf s))
-unfolding faultOf
-opens-circles s e = circles-fine (planIn s .job) (rowsOf s) (unread-fine (answerOf s) (circlesOf (jobOrder s) (planOrder s)) e .1)
-
-pub opens-job : (s : List ℕ) → Opens s → Acyclic (Direct (planIn s .job))
-opens-job s e = opens-circles s e .0
-
-pub opens-plan : (s : List ℕ) → Opens s → Acyclic (Direct (rowsOf s))
-opens-plan s e = opens-circles s e .1
+  pub opens-plan : Acyclic (Direct (rowsOf s))
+  opens-plan = steps .1
 
 -- a file's durations are small
 pub opens-small : (s : List ℕ) → AreBytes s → Opens s → AllAtMost 65535 (planIn s .duration)
@@ -122,18 +113,44 @@ opens-small s small e i =
     let q : getD (planIn s .duration) i 0 ≡ getD (planOf s .duration) i 0 = ap (λ (x : Plan). getD (x .duration) i 0) (plan-in s (opens-readable s e)) in
     omega (arith, durations-small s small i)
 
--- ---- the plan that is opened, from what the code holds
+-- what holds of each of the causes 1 to 6
+pub every-open : (P : Cause → Type 0) (s : List ℕ) → ((u : Unread) → answerOf s ≡ answer.Refused u → P (Unreadable u)) → ((i : ℕ) → i < elements → P (JobCircle (i + 1)))
+    → ((i : ℕ) → i < elements → P (PlanCircle (i + 1))) → Every P (faultOf s)
+unfolding faultOf readFault
+every-open P s unread job whole =
+    round (orCircle (readFault s) (jobOrder s) JobCircle) (planOrder s) PlanCircle (round (readFault s) (jobOrder s) JobCircle (reads (answerOf s) refl) job) whole
+  where
+    reads : (a : Answer) → answerOf s ≡ a → Every P (unreadFault a)
+    reads answer.Readable e = every-fine P
+    reads (answer.Refused u) e = every-this P (Unreadable u) (unread u e)
+
+    round : (f : Fault) (o : Order) (cause : ℕ → Cause) → Every P f → ((i : ℕ) → i < elements → P (cause (i + 1))) → Every P (orCircle f o cause)
+    round f o cause h each = every-turn P f (ltb (circleOf o) elements) (cause (circleOf o + 1)) h (λ _ e. each (circleOf o) (ltb-true (circleOf o) elements e))
+
+-- ---- what the code holds after each step
 
 answered : (s : List ℕ) → readOf s .answer ≡ answerOf s
 unfolding readOf
 answered s = refl
 
-pub opened-as :
-    (s : List ℕ) {r : Reading} {rows : List ℕ} {job whole : Order} {found fault : Fault} → r ≡ readOf s → rows ≡ joinedRows (r .plan .job) (r .plan .extra)
-    → job ≡ orderIn (r .plan .job) → whole ≡ extendedBy job (r .plan .extra) → found ≡ circlesOf job whole → fault ≡ orUnreadable (r .answer) found
-    → record { plan = r .plan; rows = rows; order = whole; fault = fault } ≡ openedOf s
-unfolding faultOf
-opened-as s read joined j w c f = rw (f, c, w, j, joined, read, answered s, order-begun (planIn s .job) (planIn s .extra))
+pub read-as : (s : List ℕ) {r : Reading} {f : Fault} → r ≡ readOf s → f ≡ unreadFault (r .answer) → record { plan = r .plan; fault = f } ≡ readPlan s
+unfolding readFault
+read-as s read e = rw (e, read, answered s)
+
+-- the search for a circle ends
+pub circle-most : (o : Order) → circleOf o ≤ elements
+unfolding circleOf circleIn
+circle-most o = first-le elements (λ i. after (o .rows) i i)
+
+pub circles-as :
+    (before : Fault) (job whole : Order) {five f : Fault} {i j : ℕ} → i ≡ circleOf job → five ≡ orCause before (ltb i elements) (JobCircle (i + 1))
+    → j ≡ circleOf whole → f ≡ orCause five (ltb j elements) (PlanCircle (j + 1)) → f ≡ orCircles before job whole
+circles-as before job whole a b c d = rw (d, c, b, a)
+
+pub ordered-as :
+    (q : Plan) (before : Fault) {rows : List ℕ} {job whole : Order} {f : Fault} → rows ≡ joinedRows (q .job) (q .extra) → job ≡ orderIn (q .job)
+    → whole ≡ extendedBy job (q .extra) → f ≡ orCircles before job whole → record { plan = q; rows = rows; order = whole; fault = f } ≡ orderedOf q before
+ordered-as q before joined j w e = rw (e, w, j, joined, order-begun (q .job) (q .extra))
 
 -- the plan that the code holds has no more activities than there are elements
 pub opened-few : (s : List ℕ) {o : Opened} → o ≡ openedOf s → o .plan .count ≤ elements

@@ -1,16 +1,14 @@
 -- What the solver quotes of a plan that opens is what the definitions say: the needs, the lowest overloaded kind, and 7 in its turn. Assumes nothing.
-use mathlib.Core.Path.{_≡_, refl, sym, ap, _∙_, subst}
+use mathlib.Core.Path.{_≡_, refl, ap, _∙_, subst}
 use mathlib.Core.Bool.{true, false}
 use mathlib.Core.List.{List}
-use Prim.Native.Nat.{ℕ, _+_, _*_, _/_, _%_, _^_, _≤_, _<_}
-use native.Mathlib.Nat.{div-add-mod', div-le-self, mod-lt}
+use Prim.Native.Nat.{ℕ, _+_, _*_, _^_, _≤_, _<_}
 use native.Mathlib.Omega.{arith}
 use lib.Dec.{ltb}
 use lib.ListN.{getD}
-use lib.Pow.{pow-pos}
 use borrow.Author.Tests.{le-ltb, ltb-true}
 use Rattle.words.specs.Bits.{bit}
-use Rattle.words.proofs.Bits.{bit-zero, bit-ext, bit-cat-high}
+use Rattle.words.proofs.Bits.{digits-below}
 use Rattle.words.proofs.Firsts.{first-cong}
 use Rattle.words.proofs.Tables.{getD-table}
 use Rattle.words.proofs.Tests.{fails, by-test, cond-true, cond-false}
@@ -32,28 +30,15 @@ use Rattle.solver.specs.Sound.{Sound, Plan as Quotable}
 use Rattle.solver.proofs.First.{quote-first, set-small, set-within}
 use Rattle.kinds.specs.Needs.{demandAt, demandsFor, quoteFor, exceeds, lowestKind, lowestOverload, noOverload}
 use Rattle.kinds.specs.declared.Overload.{Overload}
-use Rattle.planner.specs.Open.{planIn, planOrder, isFine, orCause, Opens}
-use Rattle.planner.specs.Need.{demandFor, availableFor, needFor, overKind, isOverloaded, shownSet, overCause}
-use Rattle.planner.specs.Verdict.{orOverload}
+use Rattle.planner.specs.Faults.{isFine}
+use Rattle.planner.specs.Open.{planIn, planOrder, Opens}
+use Rattle.planner.specs.Need.{demandFor, availableFor, needFor, overKind, isOverloaded, shownSet, overCause, orOverloaded}
+use Rattle.planner.specs.model.Opening.{openedOf, overloadIn, orFound}
 use Rattle.planner.specs.declared.Fault.{Fault}
 use Rattle.planner.specs.declared.Fault.the-variants.{Fine, Refused}
+use Rattle.planner.specs.declared.open.Opened.{Opened}
 use Rattle.planner.proofs.OpenLaws.{plan-in, plan-not, said-in, opens-readable}
 use Rattle.planner.proofs.FileOrders.{opens-strict}
-
--- a number whose digits from place n on are 0 is below 2 ^ n
-digits-below : (k n w : ℕ) → w < 2 ^ k → ((i : ℕ) → n ≤ i → bit w i ≡ false) → w < 2 ^ n
-digits-below k n w h none =
-    let parts : w / 2 ^ n * 2 ^ n + w % 2 ^ n ≡ w = div-add-mod' w (2 ^ n) in
-    let low : w % 2 ^ n < 2 ^ n = mod-lt w (pow-pos n) in
-    let high : w / 2 ^ n ≡ 0 =
-    bit-ext k (w / 2 ^ n) 0 (omega (arith, div-le-self w (2 ^ n))) (pow-pos k)
-    (λ i l.
-    sym (bit-cat-high n (w / 2 ^ n) (w % 2 ^ n) i low)
-    ∙ ap (λ (x : ℕ). bit x (n + i)) parts
-    ∙ none (n + i) (omega arith)
-    ∙ sym (bit-zero i)) in
-    let all : 0 * 2 ^ n + w % 2 ^ n ≡ w = ap (λ (x : ℕ). x * 2 ^ n + w % 2 ^ n) (sym high) ∙ parts in
-    omega arith
 
 -- a plan has no more than 8 kinds, readable or not
 pub kinds-few : (s : List ℕ) → planIn s .kinds ≤ 8
@@ -85,7 +70,7 @@ module _ (s : List ℕ) (small : AreBytes s) (o : Opens s) where
 
   -- ---- the demands of a kind, as the solver gets them
 
-  pub demand-at : (k i : ℕ) → i < elements → demandFor (planIn s) k i ≡ getD (planIn s .demand) (elements * k + i) 0
+  demand-at : (k i : ℕ) → i < elements → demandFor (planIn s) k i ≡ getD (planIn s .demand) (elements * k + i) 0
   unfolding demandsFor
   demand-at k i h = getD-table elements (demandAt (planIn s .demand) k) i 0 h
 
@@ -95,7 +80,7 @@ module _ (s : List ℕ) (small : AreBytes s) (o : Opens s) where
       ap (λ (q : Plan). getD (q .demand) (elements * k + i) 0) (plan-in s (opens-readable s o)) in
       omega (arith, demand-at k i h, demands-small s small (elements * k + i))
 
-  pub demand-none : (k i : ℕ) → k < 8 → planIn s .count ≤ i → i < elements → demandFor (planIn s) k i ≡ 0
+  demand-none : (k i : ℕ) → k < 8 → planIn s .count ≤ i → i < elements → demandFor (planIn s) k i ≡ 0
   demand-none k i hk l h = demand-at k i h ∙ said-of .no-demand k i hk l h
 
   pub demand-in : (k i : ℕ) → k < 8 → i < planIn s .count → demandFor (planIn s) k i ≡ fileDemand s k i
@@ -142,7 +127,7 @@ module _ (s : List ℕ) (small : AreBytes s) (o : Opens s) where
       (λ k h. ap (λ (x : ℕ). ltb (availableFor (planIn s) k) x) (need-quoted k (omega (arith, kinds-few s))))
 
   pub lowest-none : isOverloaded (planIn s) ≡ false
-      → lowestOverload (planIn s .count) (planOrder s) (planIn s .demand) (planIn s .available) (planIn s .kinds) ≡ noOverload (planIn s .kinds)
+      → overloadIn (planOrder s) (planIn s) ≡ noOverload (planIn s .kinds)
   unfolding lowestOverload isOverloaded
   lowest-none e = cond-false _ (noOverload (planIn s .kinds)) (ap (λ (k : ℕ). ltb k (planIn s .kinds)) kind-is ∙ e)
 
@@ -151,7 +136,7 @@ module _ (s : List ℕ) (small : AreBytes s) (o : Opens s) where
   over-below e = ltb-true (overKind (planIn s)) (planIn s .kinds) e
 
   pub lowest-found : isOverloaded (planIn s) ≡ true
-      → lowestOverload (planIn s .count) (planOrder s) (planIn s .demand) (planIn s .available) (planIn s .kinds) ≡ overFor (planIn s)
+      → overloadIn (planOrder s) (planIn s) ≡ overFor (planIn s)
   unfolding lowestOverload isOverloaded
   lowest-found e =
       cond-true _ (noOverload (planIn s .kinds)) (ap (λ (k : ℕ). ltb k (planIn s .kinds)) kind-is ∙ e)
@@ -161,12 +146,23 @@ module _ (s : List ℕ) (small : AreBytes s) (o : Opens s) where
 
 -- ---- 7 IN ITS TURN, where an operation without a fault has a plan that opens
 
-pub weighed : (s : List ℕ) → AreBytes s → (f : Fault) → (isFine f ≡ true → Opens s)
-    → orOverload f (lowestOverload (planIn s .count) (planOrder s) (planIn s .demand) (planIn s .available) (planIn s .kinds)) (planIn s .kinds)
-    ≡ orCause f (isOverloaded (planIn s)) (overCause (planIn s))
+weighed : (s : List ℕ) → AreBytes s → (f : Fault) → (isFine f ≡ true → Opens s)
+    → orFound f (overloadIn (planOrder s) (planIn s)) (planIn s .kinds) ≡ orOverloaded f (planIn s)
 unfolding overCause isOverloaded
 weighed s small (Refused c) opens = refl
 weighed s small Fine opens =
     by-test (isOverloaded (planIn s))
     (λ e. rw (lowest-found s small (opens refl) e))
     (λ e. rw (lowest-none s small (opens refl) e, le-ltb (planIn s .kinds) (planIn s .kinds) (omega arith), e))
+
+-- ---- of what the code holds: `o` is the plan that was opened
+
+module _ (s : List ℕ) {o : Opened} (held : o ≡ openedOf s) where
+  pub opened-kinds : o .plan .kinds ≤ 8
+  opened-kinds = rw held (kinds-few s)
+
+  -- 7 in its turn, after a fault `before`
+  pub weighed-held : AreBytes s → (before : Fault) {f : Fault} → (isFine before ≡ true → Opens s) → f ≡ orFound before (overloadIn (o .order) (o .plan)) (o .plan .kinds)
+      → f ≡ orOverloaded before (planIn s)
+  weighed-held bytes before opens found =
+      found ∙ ap (λ (x : Opened). orFound before (overloadIn (x .order) (x .plan)) (x .plan .kinds)) held ∙ weighed s bytes before opens

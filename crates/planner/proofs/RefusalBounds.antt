@@ -23,7 +23,8 @@ use Rattle.plan.proofs.CausePlaces.{told-small}
 use Rattle.solver.proofs.QuoteSound.{need-small}
 use Rattle.kinds.specs.Needs.{demandsFor}
 use Rattle.planner.specs.Numbers.{plain, refusalOf}
-use Rattle.planner.specs.Open.{planIn, jobOrder, planOrder, isFine, circlesOf, orUnreadable, faultOf, orCause, Opens}
+use Rattle.planner.specs.Open.{planIn, planOrder, faultOf, Opens}
+use Rattle.planner.specs.Faults.{isFine, orCause}
 use Rattle.planner.specs.Need.{overKind, isOverloaded, overCause}
 use Rattle.planner.specs.Verdict.{verdictFault}
 use Rattle.planner.specs.Needs.{needsFault}
@@ -37,8 +38,8 @@ use Rattle.planner.specs.declared.Cause.the-variants.{Unreadable, JobCir
 use Rattle.planner.specs.declared.Fault.{Fault}
 use Rattle.planner.specs.declared.Fault.the-variants.{Fine, Refused}
 use Rattle.planner.specs.declared.Refusal.{Refusal}
-use Rattle.planner.proofs.FaultLaws.{cause-fine}
-use Rattle.planner.proofs.OpenLaws.{count-few, count-within}
+use Rattle.planner.proofs.FaultLaws.{cause-fine, Every, every-turn}
+use Rattle.planner.proofs.OpenLaws.{count-few, count-within, every-open}
 use Rattle.planner.proofs.QuotedNeeds.{kinds-few, need-quoted, quotable, over-below, set-fits}
 use Rattle.planner.proofs.FlowUnits.{length-few}
 
@@ -54,40 +55,19 @@ plain-small number values first h l = record { number = h; first = l; second = o
 -- ---- a fault whose refusal is small, and the next cause in turn
 
 abbrev pub SmallFault : Fault → Type 0
-SmallFault f = (c : Cause) → f ≡ Refused c → Small (refusalOf c)
-
-small-cause : (c : Cause) → Small (refusalOf c) → SmallFault (Refused c)
-small-cause c h d e = let q : c ≡ d = cc in subst (λ (x : Cause). Small (refusalOf x)) q h
-
-small-fine : SmallFault Fine
-small-fine c e = absurd (let z : _≡_ {A = ℕ} 0 1 = cc in omega arith)
+SmallFault f = Every (λ (c : Cause). Small (refusalOf c)) f
 
 small-turn : (f : Fault) (t : Bool) (c : Cause) → SmallFault f → (isFine f ≡ true → t ≡ true → Small (refusalOf c)) → SmallFault (orCause f t c)
-small-turn Fine true c small next = small-cause c (next refl refl)
-small-turn Fine false c small next = small
-small-turn (Refused d) t c small next = small
+small-turn = every-turn (λ (c : Cause). Small (refusalOf c))
 
 -- ---- the causes 1 to 6
 
-circles-small : (job whole : Order) → SmallFault (circlesOf job whole)
-unfolding circlesOf
-circles-small job whole =
-    cond-has SmallFault (ltb (circleOf job) elements) (Refused (JobCircle (circleOf job + 1)))
-    (cond (ltb (circleOf whole) elements) (Refused (PlanCircle (circleOf whole + 1))) Fine)
-    (λ e. small-cause (JobCircle (circleOf job + 1)) (plain-small 5 1 _ (omega arith) (omega (arith, ltb-true (circleOf job) elements e))))
-    (λ _. cond-has SmallFault (ltb (circleOf whole) elements) (Refused (PlanCircle (circleOf whole + 1))) Fine
-    (λ e. small-cause (PlanCircle (circleOf whole + 1)) (plain-small 6 1 _ (omega arith) (omega (arith, ltb-true (circleOf whole) elements e))))
-    (λ _. small-fine))
-
 pub open-refuses : (s : List ℕ) → SmallFault (faultOf s)
-unfolding faultOf
-open-refuses s = go (answerOf s) refl
-  where
-    go : (a : Answer) → answerOf s ≡ a → SmallFault (orUnreadable a (circlesOf (jobOrder s) (planOrder s)))
-    go answer.Readable e = circles-small (jobOrder s) (planOrder s)
-    go (answer.Refused c) e =
-        let w = told-small s c e in
-        small-cause (Unreadable c) (plain-small _ _ _ (w .number) (omega (arith, w .place)))
+open-refuses s =
+    every-open (λ (c : Cause). Small (refusalOf c)) s
+    (λ u e. let w = told-small s u e in plain-small _ _ _ (w .number) (omega (arith, w .place)))
+    (λ i h. plain-small 5 1 _ (omega arith) (omega arith))
+    (λ i h. plain-small 6 1 _ (omega arith) (omega arith))
 
 -- ---- 7, where the plan opens: the kind is at most 8, and no element demands more than 65,535
 

@@ -1,5 +1,5 @@
 -- Crew check: what it answers. Assumes nothing.
-use mathlib.Core.Bool.{Bool, not, _||_, cond}
+use mathlib.Core.Bool.{Bool, not, _||_}
 use mathlib.Core.List.{List}
 use Prim.Native.Nat.{ℕ}
 use lib.Dec.{ltb, eqb}
@@ -8,14 +8,13 @@ use Rattle.words.specs.Members.{first}
 use Rattle.schedule.specs.Checks.{Work, checkOf}
 use Rattle.schedule.specs.model.Arrays.{crewNet, workOf}
 use Rattle.schedule.specs.declared.Checked.{Checked}
-use Rattle.schedule.specs.declared.Checked.the-variants.{Fits}
-use Rattle.planner.specs.Open.{planIn, rowsOf, isFine, faultOf, orCause}
+use Rattle.planner.specs.Faults.{orCause}
+use Rattle.planner.specs.Open.{planIn, rowsOf, faultOf}
 use Rattle.planner.specs.declared.Cause.the-variants.{Lists}
 use Rattle.planner.specs.declared.Fault.{Fault}
 use Rattle.planner.specs.declared.Fault.the-variants as fault
 use Rattle.planner.specs.declared.CrewChecked.{CrewChecked}
 use Rattle.planner.specs.declared.CrewChecked.the-variants.{Found, Refused}
-use Rattle.planner.specs.declared.ops.crew_check.Looked.{Looked}
 
 -- some number is 0
 unfoldable pub someZero : List ℕ → Bool
@@ -36,12 +35,6 @@ crewWork s starts worked = workOf (planIn s .demand) (planIn s .available) start
 -- "fits, broken arc, or overload with period .. and kind"
 unfoldable pub crewFound : List ℕ → List ℕ → List ℕ → Checked
 crewFound s starts worked = checkOf (crewNet (rowsOf s) starts worked) (crewWork s starts worked)
-
--- beside a fault stands `Fits`
-unfoldable pub crewLooked : List ℕ → List ℕ → List ℕ → Looked
-crewLooked s starts worked =
-    let found = crewFound s starts worked in
-    record { fault = crewCheckFault s starts worked; value = cond (isFine (crewCheckFault s starts worked)) found Fits }
 
 abbrev pub checkedOf : Fault → Checked → CrewChecked
 checkedOf fault.Fine found = Found found

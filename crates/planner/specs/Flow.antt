@@ -1,5 +1,5 @@
 -- Flow: what it answers, and what the lent bytes then hold. Assumes nothing.
-use mathlib.Core.Bool.{Bool, not, cond, _&&_}
+use mathlib.Core.Bool.{Bool, not, _&&_}
 use mathlib.Core.List.{List}
 use Prim.Native.Nat.{ℕ, _+_, _-_, _*_, _/_}
 use lib.Dec.{ltb, leb}
@@ -12,13 +12,13 @@ use Rattle.solver.specs.model.Quote.{flowOf}
 use Rattle.kinds.specs.Needs.{demandsFor}
 use Rattle.kinds.specs.Flows.{markOf, flowBytes, pairsOf}
 use Rattle.planner.specs.File.{flowLength}
-use Rattle.planner.specs.Open.{planIn, orderFor, isFine, faultOf, orCause}
+use Rattle.planner.specs.Faults.{orCause, orShort}
+use Rattle.planner.specs.Open.{planIn, orderFor, faultOf}
 use Rattle.planner.specs.Output.{outputOf, lentAfter}
-use Rattle.planner.specs.Need.{demandFor, availableFor, needFor, isOverloaded, overCause}
-use Rattle.planner.specs.declared.Cause.the-variants.{NoKind, Short}
+use Rattle.planner.specs.Need.{demandFor, availableFor, needFor, orOverloaded}
+use Rattle.planner.specs.declared.Cause.the-variants.{NoKind}
 use Rattle.planner.specs.declared.Fault.{Fault}
 use Rattle.planner.specs.declared.Output.{Output}
-use Rattle.planner.specs.declared.answer.Counted.{Counted}
 
 -- "kind not 1 to K"
 abbrev pub isKind : ℕ → ℕ → Bool
@@ -33,8 +33,7 @@ unfoldable pub flowFault : List ℕ → ℕ → ℕ → Fault
 flowFault s kind n =
     let q = planIn s in
     let known = orCause (faultOf s) (not (isKind kind (q .kinds))) (NoKind (q .kinds)) in
-    let roomy = orCause known (ltb n (flowLength (q .count))) (Short (flowLength (q .count))) in
-    orCause roomy (isOverloaded q) (overCause q)
+    orOverloaded (orShort known n (flowLength (q .count))) q
 
 -- THE FLOW SHOWN is free: it is what the solver hands over from activity to activity, with what the start and the end then pass and take. That it is
 -- a flow of the paper's is `file-flow` of promises/proofs/FileFlows.antt. From node u to node v, where node 0 is the start and m + 1 the end, pass
@@ -48,12 +47,6 @@ flowCount q k = pairsOf (flowUnits q k) (q .count + 2)
 
 unfoldable pub recordBytes : Plan → ℕ → List ℕ
 recordBytes q k = flowBytes (k + 1) (flowUnits q k) (markOf (q .job) (q .count)) (q .count + 2)
-
--- beside a fault stands 0
-abbrev pub flowCounted : List ℕ → ℕ → ℕ → Counted
-flowCounted s kind n =
-    let count = flowCount (planIn s) (kind - 1) in
-    record { fault = flowFault s kind n; value = cond (isFine (flowFault s kind n)) count 0 }
 
 -- THE ANSWER: "Flow returns its record count"
 abbrev pub flowAnswer : List ℕ → ℕ → ℕ → Output

@@ -9,9 +9,11 @@ use Rattle.order.specs.declared.Set.{Set}
 use Rattle.plan.specs.declared.Plan.{Plan}
 use Rattle.flow_math.specs.Heaviest.{needOf}
 use Rattle.kinds.specs.Needs.{demandsFor, quoteFor}
+use Rattle.planner.specs.Faults.{orCause}
 use Rattle.planner.specs.Open.{orderFor}
 use Rattle.planner.specs.declared.Cause.{Cause}
 use Rattle.planner.specs.declared.Cause.the-variants.{Overloaded}
+use Rattle.planner.specs.declared.Fault.{Fault}
 
 -- the demand of the element i
 abbrev pub demandFor : Plan → ℕ → ℕ → ℕ
@@ -39,3 +41,7 @@ shownSet q k = quoteFor (q .count) (orderFor q) (q .demand) k .set
 -- "overloaded | 7 | kind, need, set, size"
 unfoldable pub overCause : Plan → Cause
 overCause q = Overloaded (overKind q + 1) (needFor q (overKind q)) (shownSet q (overKind q))
+
+-- 7 in its turn
+abbrev pub orOverloaded : Fault → Plan → Fault
+orOverloaded f q = orCause f (isOverloaded q) (overCause q)

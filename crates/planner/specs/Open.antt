@@ -1,6 +1,6 @@
--- What every operation does first, and the causes 1 to 6. Assumes nothing.
+-- What every operation does first, in two steps: the reading of the file, with its causes 1 to 4, and the two orders, with their causes 5 and 6. Assumes nothing.
 use mathlib.Core.Path.{_≡_}
-use mathlib.Core.Bool.{Bool, true, false, cond}
+use mathlib.Core.Bool.{true}
 use mathlib.Core.List.{List}
 use Prim.Native.Nat.{ℕ, _+_}
 use lib.Dec.{ltb}
@@ -12,11 +12,13 @@ use Rattle.plan.specs.Causes.{answerOf}
 use Rattle.plan.specs.declared.Plan.{Plan}
 use Rattle.plan.specs.declared.Answer.{Answer}
 use Rattle.plan.specs.declared.Answer.the-variants as answer
+use Rattle.planner.specs.Faults.{isFine, orCause}
 use Rattle.planner.specs.declared.Cause.{Cause}
 use Rattle.planner.specs.declared.Cause.the-variants.{Unreadable, JobCircle, PlanCircle}
 use Rattle.planner.specs.declared.Fault.{Fault}
 use Rattle.planner.specs.declared.Fault.the-variants.{Fine, Refused}
-use Rattle.planner.specs.declared.open.Opened.{Opened}
+
+-- ---- the plan
 
 -- the plan that is read: what the file says, or the empty plan where the file is not readable
 abbrev pub planIn : List ℕ → Plan
@@ -39,33 +41,28 @@ orderFor q = orderIn (rowsFor q)
 abbrev pub planOrder : List ℕ → Order
 planOrder s = orderFor (planIn s)
 
-abbrev pub isFine : Fault → Bool
-isFine Fine = true
-isFine (Refused c) = false
+-- ---- "Check order: 1; then records in file order, 2, 3, 4 within each; then 5, 6."
 
--- "circle in the job order", "circle in the plan order only": "lowest activity before itself there"
-unfoldable pub circlesOf : Order → Order → Fault
-circlesOf job whole =
-    cond (ltb (circleOf job) elements) (Refused (JobCircle (circleOf job + 1)))
-    (cond (ltb (circleOf whole) elements) (Refused (PlanCircle (circleOf whole + 1))) Fine)
+-- the reader's cause, as a fault
+abbrev pub unreadFault : Answer → Fault
+unreadFault answer.Readable = Fine
+unreadFault (answer.Refused c) = Refused (Unreadable c)
 
--- the reader's cause, or else the next fault
-abbrev pub orUnreadable : Answer → Fault → Fault
-orUnreadable answer.Readable next = next
-orUnreadable (answer.Refused c) next = Refused (Unreadable c)
+-- the first step: 1 to 4
+unfoldable pub readFault : List ℕ → Fault
+readFault s = unreadFault (answerOf s)
 
--- "Check order: 1; then records in file order, 2, 3, 4 within each; then 5, 6."
+-- a circle in an order, in its turn: "lowest activity before itself there"
+abbrev pub orCircle : Fault → Order → (ℕ → Cause) → Fault
+orCircle f o cause = orCause f (ltb (circleOf o) elements) (cause (circleOf o + 1))
+
+-- the second step, after a fault: 5, "circle in the job order", and 6, "circle in the plan order only"
+abbrev pub orCircles : Fault → Order → Order → Fault
+orCircles f job whole = orCircle (orCircle f job JobCircle) whole PlanCircle
+
 unfoldable pub faultOf : List ℕ → Fault
-faultOf s = orUnreadable (answerOf s) (circlesOf (jobOrder s) (planOrder s))
+faultOf s = orCircles (readFault s) (jobOrder s) (planOrder s)
 
-abbrev pub openedOf : List ℕ → Opened
-openedOf s = record { plan = planIn s; rows = rowsOf s; order = planOrder s; fault = faultOf s }
-
--- the plan's bytes meet none of these causes
+-- the plan's bytes meet none of these causes. An operation has its own causes after them
 abbrev pub Opens : List ℕ → Type 0
 Opens s = isFine (faultOf s) ≡ true
-
--- An operation has its own causes after that, in turn: the next is the fault where there is none yet and its test holds.
-abbrev pub orCause : Fault → Bool → Cause → Fault
-orCause Fine test cause = cond test (Refused cause) Fine
-orCause (Refused c) test cause = Refused c

@@ -2,23 +2,21 @@
 use mathlib.Core.Bool.{cond}
 use mathlib.Core.List.{List, []}
 use Prim.Native.Nat.{ℕ, _+_}
-use lib.Dec.{ltb}
 use lib.ListN.{length}
 use Rattle.order.specs.Stored.{numberOf}
 use Rattle.order.specs.Sets.{sizeOf}
 use Rattle.records.specs.Records.{overloadRecord}
 use Rattle.plan.specs.declared.Plan.{Plan}
-use Rattle.planner.specs.Open.{planIn, isFine, faultOf, orCause}
+use Rattle.planner.specs.Faults.{orShort}
+use Rattle.planner.specs.Open.{planIn, faultOf}
 use Rattle.planner.specs.Output.{outputOf, lentAfter}
 use Rattle.planner.specs.Need.{needFor, overKind, isOverloaded, shownSet}
-use Rattle.planner.specs.declared.Cause.the-variants.{Short}
 use Rattle.planner.specs.declared.Fault.{Fault}
 use Rattle.planner.specs.declared.Output.{Output}
-use Rattle.planner.specs.declared.answer.Counted.{Counted}
 
 -- "Needs, Starts, Overload: 9.": "24 bytes for Overload", also where the plan is accepted; n bytes are lent
 unfoldable pub overloadFault : List ℕ → ℕ → Fault
-overloadFault s n = orCause (faultOf s) (ltb n 24) (Short 24)
+overloadFault s n = orShort (faultOf s) n 24
 
 -- "Overload: its record, or "none" when accepted.": how many records that are, and their bytes
 unfoldable pub overCount : Plan → ℕ
@@ -28,10 +26,6 @@ unfoldable pub overBytes : Plan → List ℕ
 overBytes q =
     let bytes = overloadRecord (overKind q + 1) (sizeOf (shownSet q (overKind q))) (needFor q (overKind q)) (numberOf (shownSet q (overKind q))) in
     cond (isOverloaded q) bytes []
-
--- beside a fault stands 0
-abbrev pub overloadCounted : List ℕ → ℕ → Counted
-overloadCounted s n = record { fault = overloadFault s n; value = cond (isFine (overloadFault s n)) (overCount (planIn s)) 0 }
 
 -- THE ANSWER
 abbrev pub overloadAnswer : List ℕ → ℕ → Output

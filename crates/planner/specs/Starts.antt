@@ -8,23 +8,19 @@ use Rattle.words.specs.Tables.{table}
 use Rattle.schedule.specs.Starts.{endOf}
 use Rattle.schedule.specs.model.Arrays.{byDuration, startsOf}
 use Rattle.schedule.specs.Lists.{at}
-use Rattle.planner.specs.Open.{planIn, rowsOf, faultOf, orCause}
+use Rattle.planner.specs.Faults.{orShort}
+use Rattle.planner.specs.Open.{planIn, rowsOf, faultOf}
 use Rattle.planner.specs.Output.{outputOf, lentAfter}
-use Rattle.planner.specs.declared.Cause.the-variants.{Short}
 use Rattle.planner.specs.declared.Fault.{Fault}
 use Rattle.planner.specs.declared.Output.{Output}
-use Rattle.planner.specs.declared.answer.Counted.{Counted}
 
 -- "Starts: m+1 numbers, activities 1 to m and then the end."
 abbrev pub needed : List ℕ → ℕ
 needed s = planIn s .count + 1
 
--- "Needs, Starts, Overload: 9.": the causes 1 to 6, then 9, "lent slice too short", with the "length needed"; n numbers are lent
+-- "Needs, Starts, Overload: 9."; n numbers are lent
 unfoldable pub startsFault : List ℕ → ℕ → Fault
-startsFault s n = orCause (faultOf s) (ltb n (needed s)) (Short (needed s))
-
-abbrev pub startsCounted : List ℕ → ℕ → Counted
-startsCounted s n = record { fault = startsFault s n; value = needed s }
+startsFault s n = orShort (faultOf s) n (needed s)
 
 -- THE ANSWER
 abbrev pub startsAnswer : List ℕ → ℕ → Output

@@ -1,6 +1,7 @@
 // The operations of the planner, each on the plan's bytes. Every operation has a file in `ops`: it opens the plan (`open`), looks for its own causes
-// in turn, and gives a fault and a value, which become its answer at the surface (`answer`).
+// in turn (`faults`), and answers by its fault and what it found or wrote (`answer`).
 mod answer;
+mod faults;
 mod numbers;
 mod open;
 mod ops;

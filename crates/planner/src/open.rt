@@ -1,82 +1,82 @@
-// What every operation does first: it reads the plan's bytes, and looks for a circle in the job order and in the plan order.
+// What every operation does first, in two steps: it reads the plan's bytes, and then builds the orders and looks for a circle in each.
 ghost use mathlib.Core.Path.{_≡_};
-ghost use Rattle.planner.specs.Open.{isFine, circlesOf, orUnreadable, orCause, openedOf};
+ghost use Rattle.planner.specs.Open.{unreadFault, orCircles};
+ghost use Rattle.planner.specs.model.Opening.{readPlan, orderedOf, openedOf};
 use crate::Cause;
 use crate::Fault;
+use crate::faults::or_cause;
+use order::ELEMENTS;
+use order::Order;
 
-// A plan that was read, its direct arcs (job and extra together, as rows), its plan order, and the first of the causes 1 to 6.
-pub struct Opened {
+// A plan that was read, and the first of the causes 1 to 4.
+pub struct Read {
     pub plan: plan::Plan,
-    pub rows: order::Rows,
-    pub order: order::Order,
     pub fault: Fault,
 }
 
-pub fn is_fine(fault: Fault) -> bool
-    ensures { λ r. ⌜ r ≡ isFine fault ⌝ }
-{
-    match fault {
-        Fault::Fine => true,
-        Fault::Refused(_) => false,
-    }
+// A plan with its direct arcs (job and extra together, as rows), its plan order, and the fault with 5 and 6 in their turn.
+pub struct Opened {
+    pub plan: plan::Plan,
+    pub rows: order::Rows,
+    pub order: Order,
+    pub fault: Fault,
 }
 
-// The next cause in turn: it is the fault where there is none yet and the test holds.
-pub fn or_cause(fault: Fault, test: bool, cause: Cause) -> Fault
-    ensures { λ r. ⌜ r ≡ orCause fault test cause ⌝ }
-{
-    match fault {
-        Fault::Fine => if test {
-            Fault::Refused(cause)
-        } else {
-            Fault::Fine
-        },
-        Fault::Refused(c) => Fault::Refused(c),
-    }
-}
-
-// The reader's cause, or else the next fault.
-fn or_unreadable(answer: plan::Answer, next: Fault) -> Fault
-    ensures { λ r. ⌜ r ≡ orUnreadable answer next ⌝ }
+// The reader's cause, as a fault.
+fn unread_fault(answer: plan::Answer) -> Fault
+    ensures { λ r. ⌜ r ≡ unreadFault answer ⌝ }
 {
     match answer {
-        plan::Answer::Readable => next,
+        plan::Answer::Readable => Fault::Fine,
         plan::Answer::Refused(c) => Fault::Refused(Cause::Unreadable(c)),
     }
 }
 
-// A circle in the job order, or else one in the plan order.
-fn circles(job: order::Order, whole: order::Order) -> Fault
-    ensures { λ r. ⌜ r ≡ circlesOf job whole ⌝ }
-{
-    let i = job.circle();
-    if i < order::ELEMENTS {
-        return Fault::Refused(Cause::JobCircle(i + 1));
-    }
-    let j = whole.circle();
-    if j < order::ELEMENTS {
-        return Fault::Refused(Cause::PlanCircle(j + 1));
-    }
-    Fault::Fine
-}
-
-// Reads a plan and looks for circles.
-pub fn open_plan(s: &[u8]) -> Opened
-    ensures { λ r. ⌜ r ≡ openedOf (now (s .entry)) ⌝ }
+// The first step: reads a plan.
+pub fn read_plan(s: &[u8]) -> Read
+    ensures { λ r. ⌜ r ≡ readPlan (now (s .entry)) ⌝ }
 {
     let reading = plan::read(s);
-    let q = reading.plan;
+    let plan = reading.plan;
     let answer = reading.answer;
+    let fault = unread_fault(answer);
+    Read { plan, fault }
+}
+
+// A circle in the job order, and then one in the plan order, in their turn.
+fn or_circles(fault: Fault, job: Order, whole: Order) -> Fault
+    ensures { λ r. ⌜ r ≡ orCircles fault job whole ⌝ }
+{
+    let i = job.circle();
+    let five = or_cause(fault, i < ELEMENTS, Cause::JobCircle(i + 1));
+    let j = whole.circle();
+    or_cause(five, j < ELEMENTS, Cause::PlanCircle(j + 1))
+}
+
+// The second step: builds the orders of a plan, and looks for circles, after what was found before.
+pub fn ordered(q: plan::Plan, found: Fault) -> Opened
+    ensures { λ r. ⌜ r ≡ orderedOf q found ⌝ }
+{
     let arcs = q.job;
     let extra = q.extra;
     let rows = order::joined(arcs, extra);
-    let job = order::Order::of(arcs);
+    let job = Order::of(arcs);
     let whole = job.with_arcs(extra);
-    let fault = or_unreadable(answer, circles(job, whole));
+    let fault = or_circles(found, job, whole);
     Opened {
         plan: q,
         rows,
         order: whole,
         fault,
     }
+}
+
+// Both steps.
+pub fn open_plan(s: &[u8]) -> Opened
+    ensures { λ r. ⌜ r ≡ openedOf (now (s .entry)) ⌝ }
+{
+    let read = read_plan(s);
+    let q = read.plan;
+    let fault = read.fault;
+    ordered(q, fault)
 }

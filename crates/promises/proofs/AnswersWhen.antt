@@ -5,8 +5,8 @@ use mathlib.Core.List.{List, _++_}
 use Prim.Native.Nat.{ℕ, _≤_, _<_}
 use lib.Dec.{ltb}
 use lib.ListN.{length, drop}
-use borrow.Author.Tests.{lt-ltb, le-ltb}
-use Rattle.planner.specs.Open.{planIn, faultOf, orCause, Opens}
+use Rattle.planner.specs.Faults.{orCause}
+use Rattle.planner.specs.Open.{planIn, faultOf, Opens}
 use Rattle.planner.specs.Starts.{needed, startsFault, startsAnswer, startNumbers, startsOut}
 use Rattle.planner.specs.CrewCheck.{badLists, crewCheckFault, crewFound, checkedOf, crewCheckAnswer}
 use Rattle.planner.specs.declared.Cause.{Cause}
@@ -15,7 +15,7 @@ use Rattle.planner.specs.declared.Fault.{Fault}
 use Rattle.planner.specs.declared.Fault.the-variants.{Fine, Refused}
 use Rattle.planner.specs.declared.Output.the-variants as output
 use Rattle.planner.specs.declared.CrewChecked.the-variants as crew
-use Rattle.planner.proofs.FaultLaws.{cause-before, cause-next, cause-none}
+use Rattle.planner.proofs.FaultLaws.{cause-before, cause-next, cause-none, short-next, short-none}
 use Rattle.planner.proofs.OutputLaws.{output-refused, output-fine, lent-refused, lent-fine}
 use Rattle.planner.proofs.StartsLaws.{length-numbers}
 
@@ -28,11 +28,11 @@ module _ (s : List ℕ) where
 
   fault-short : (n : ℕ) → Opens s → n < needed s → startsFault s n ≡ Refused (Short (needed s))
   unfolding startsFault
-  fault-short n o l = cause-next (faultOf s) (ltb n (needed s)) (Short (needed s)) o (lt-ltb n (needed s) l)
+  fault-short n o l = short-next (faultOf s) n (needed s) o l
 
   fault-none : (n : ℕ) → Opens s → needed s ≤ n → startsFault s n ≡ Fine
   unfolding startsFault
-  fault-none n o l = cause-none (faultOf s) (ltb n (needed s)) (Short (needed s)) o (le-ltb n (needed s) l)
+  fault-none n o l = short-none (faultOf s) n (needed s) o l
 
   -- the causes 1 to 6
   pub starts-refused : (n : ℕ) (c : Cause) → faultOf s ≡ Refused c → startsAnswer s n ≡ output.Refused c

@@ -11,7 +11,8 @@ use Rattle.plan.specs.Meaning.{Readable}
 use Rattle.plan.specs.declared.Cause.the-variants.{Length, RecordType, Field, Spare}
 use Rattle.schedule.specs.declared.Checked.{Checked}
 use Rattle.schedule.specs.declared.Checked.the-variants.{Fits, Broken, Overload}
-use Rattle.planner.specs.Open.{planIn, faultOf, orCause}
+use Rattle.planner.specs.Faults.{orCause, orShort}
+use Rattle.planner.specs.Open.{planIn, faultOf}
 use Rattle.planner.specs.Numbers.{numbersOf, causeNumber, verdictNumbers, outputNumbers, crewCheckNumbers}
 use Rattle.planner.specs.Output.{outputOf}
 use Rattle.planner.specs.Need.{isOverloaded, overCause}
@@ -36,13 +37,7 @@ use Rattle.promises.proofs.CircleFaults.{job-circle-means, plan-circle-
 module _ (s : List ℕ) (c : Cause) (e : faultOf s ≡ Refused c) where
   flow-before : (kind n : ℕ) → flowFault s kind n ≡ Refused c
   unfolding flowFault
-  flow-before kind n =
-      let q = planIn s in
-      let known = orCause (faultOf s) (not (isKind kind (q .kinds))) (NoKind (q .kinds)) in
-      let roomy = orCause known (ltb n (flowLength (q .count))) (Short (flowLength (q .count))) in
-      cause-before roomy (isOverloaded q) (overCause q) c
-      (cause-before known (ltb n (flowLength (q .count))) (Short (flowLength (q .count))) c
-      (cause-before (faultOf s) (not (isKind kind (q .kinds))) (NoKind (q .kinds)) c e))
+  flow-before kind n = cause-before _ _ _ c (cause-before _ _ _ c (cause-before _ _ _ c e))
 
   outputs : (f : Fault) (v : ℕ) → f ≡ Refused c → outputNumbers (outputOf f v) ≡ numbersOf c
   outputs f v p = ap (λ (x : Fault). outputNumbers (outputOf x v)) p
@@ -51,17 +46,12 @@ module _ (s : List ℕ) (c : Cause) (e : faultOf s ≡ Refused c) where
   unfolding verdictFault needsFault startsFault overloadFault crewCheckFault
   every-gives =
       record {
-        verdict =
-            ap (λ (x : Fault). verdictNumbers (verdictOf x (planIn s .count) (planIn s .kinds)))
-            (cause-before (faultOf s) (isOverloaded (planIn s)) (overCause (planIn s)) c e);
-        needs = λ n.
-            outputs (needsFault s n) (planIn s .kinds) (cause-before (faultOf s) (ltb n (planIn s .kinds)) (Short (planIn s .kinds)) c e);
-        starts = λ n. outputs (startsFault s n) (needed s) (cause-before (faultOf s) (ltb n (needed s)) (Short (needed s)) c e);
-        overload = λ n. outputs (overloadFault s n) (overCount (planIn s)) (cause-before (faultOf s) (ltb n 24) (Short 24) c e);
+        verdict = ap (λ (x : Fault). verdictNumbers (verdictOf x (planIn s .count) (planIn s .kinds))) (cause-before _ _ _ c e);
+        needs = λ n. outputs (needsFault s n) (planIn s .kinds) (cause-before _ _ _ c e);
+        starts = λ n. outputs (startsFault s n) (needed s) (cause-before _ _ _ c e);
+        overload = λ n. outputs (overloadFault s n) (overCount (planIn s)) (cause-before _ _ _ c e);
         flow = λ kind n. outputs (flowFault s kind n) (flowCount (planIn s) (kind - 1)) (flow-before kind n);
-        crew-check = λ starts worked.
-            ap (λ (x : Fault). crewCheckNumbers (checkedOf x (crewFound s starts worked)))
-            (cause-before (faultOf s) (badLists (planIn s .count) starts worked) (Lists (planIn s .count)) c e);
+        crew-check = λ starts worked. ap (λ (x : Fault). crewCheckNumbers (checkedOf x (crewFound s starts worked))) (cause-before _ _ _ c e);
       }
 
 -- ---- and a refusal of any operation by a number from 1 to 6 is the file's fault
@@ -99,24 +89,25 @@ module _ (n : ℕ) (ys : List ℕ) (some : 1 ≤ n) (low : n ≤ 6) where
   turn-gives Fine false d h g = g
   turn-gives (Refused c) b d h g = g
 
+  -- of an operation with one cause more, 9
+  nine : (s : List ℕ) (lent length v : ℕ) → outputNumbers (outputOf (orShort (faultOf s) lent length) v) ≡ n ∷ ys → Gives (faultOf s) (n ∷ ys)
+  nine s lent length v e = turn-gives (faultOf s) (ltb lent length) (Short length) (omega arith) (output-gives (orShort (faultOf s) lent length) v e)
+
   pub fault-gives : (s : List ℕ) → SomeGives ours s (n ∷ ys) → Gives (faultOf s) (n ∷ ys)
   unfolding verdictFault needsFault startsFault overloadFault flowFault crewCheckFault overCause
   fault-gives s (inl e) =
       turn-gives (faultOf s) (isOverloaded (planIn s)) (overCause (planIn s)) (omega arith)
       (verdict-gives (verdictFault s) (planIn s .count) (planIn s .kinds) e)
-  fault-gives s (inr (inl w)) =
-      turn-gives (faultOf s) (ltb (w .0) (planIn s .kinds)) (Short (planIn s .kinds)) (omega arith) (output-gives (needsFault s (w .0)) (planIn s .kinds) (w .1))
-  fault-gives s (inr (inr (inl w))) =
-      turn-gives (faultOf s) (ltb (w .0) (needed s)) (Short (needed s)) (omega arith) (output-gives (startsFault s (w .0)) (needed s) (w .1))
-  fault-gives s (inr (inr (inr (inl w)))) =
-      turn-gives (faultOf s) (ltb (w .0) 24) (Short 24) (omega arith) (output-gives (overloadFault s (w .0)) (overCount (planIn s)) (w .1))
+  fault-gives s (inr (inl w)) = nine s (w .0) (planIn s .kinds) (planIn s .kinds) (w .1)
+  fault-gives s (inr (inr (inl w))) = nine s (w .0) (needed s) (needed s) (w .1)
+  fault-gives s (inr (inr (inr (inl w)))) = nine s (w .0) 24 (overCount (planIn s)) (w .1)
   fault-gives s (inr (inr (inr (inr (inl w))))) =
       let q = planIn s in
       let known = orCause (faultOf s) (not (isKind (w .0) (q .kinds))) (NoKind (q .kinds)) in
-      let roomy = orCause known (ltb (w .1) (flowLength (q .count))) (Short (flowLength (q .count))) in
       turn-gives (faultOf s) (not (isKind (w .0) (q .kinds))) (NoKind (q .kinds)) (omega arith)
       (turn-gives known (ltb (w .1) (flowLength (q .count))) (Short (flowLength (q .count))) (omega arith)
-      (turn-gives roomy (isOverloaded q) (overCause q) (omega arith) (output-gives (flowFault s (w .0) (w .1)) (flowCount q (w .0 - 1)) (w .2))))
+      (turn-gives (orShort known (w .1) (flowLength (q .count))) (isOverloaded q) (overCause q) (omega arith)
+      (output-gives (flowFault s (w .0) (w .1)) (flowCount q (w .0 - 1)) (w .2))))
   fault-gives s (inr (inr (inr (inr (inr w))))) =
       turn-gives (faultOf s) (badLists (planIn s .count) (w .0) (w .1)) (Lists (planIn s .count)) (omega arith)
       (crew-gives (crewCheckFault s (w .0) (w .1)) (crewFound s (w .0) (w .1)) (w .2))

@@ -1,38 +1,34 @@
 -- DEMAND 1 HOLDS OF OURS: every answer is a result or a refusal by a number that document 01 gives the operation, and a refusal changes nothing. Assumes nothing.
-use mathlib.Core.Path.{_≡_, refl, subst}
-use mathlib.Core.Bool.{Bool, true, false, not, cond}
+use mathlib.Core.Path.{_≡_, refl}
+use mathlib.Core.Bool.{Bool}
 use mathlib.Core.List.{List, [], _∷_, _++_}
 use mathlib.Core.Logic.{_⊎_, inl, inr}
 use Prim.Native.Nat.{ℕ, _+_, _-_}
-use native.Mathlib.Omega.{arith}
 use lib.Dec.{ltb}
 use lib.ListN.{length}
-use Rattle.order.specs.Stored.{elements}
-use Rattle.order.specs.Orders.{circleOf}
-use Rattle.order.specs.declared.Order.{Order}
-use Rattle.plan.specs.Causes.{answerOf}
 use Rattle.plan.specs.declared.Cause.{Cause as Unread}
 use Rattle.plan.specs.declared.Cause.the-variants.{Length, RecordType, Field, Spare}
-use Rattle.plan.specs.declared.Answer.{Answer}
 use Rattle.plan.specs.declared.Answer.the-variants as answer
 use Rattle.schedule.specs.declared.Checked.{Checked}
-use Rattle.planner.specs.Open.{planIn, circlesOf, orUnreadable, jobOrder, planOrder, faultOf, orCause}
+use Rattle.planner.specs.Faults.{orCause}
+use Rattle.planner.specs.Open.{planIn, faultOf}
 use Rattle.planner.specs.Output.{outputOf, lentAfter}
 use Rattle.planner.specs.Need.{isOverloaded, overCause}
 use Rattle.planner.specs.Verdict.{verdictFault, verdictOf}
 use Rattle.planner.specs.Needs.{needsFault, needNumbers, needsOut}
 use Rattle.planner.specs.Starts.{needed, startsFault, startNumbers, startsOut}
 use Rattle.planner.specs.Overload.{overloadFault, overCount, overBytes, overloadOut}
-use Rattle.planner.specs.Flow.{isKind, flowFault, flowCount, recordBytes, flowOut}
-use Rattle.planner.specs.File.{flowLength}
+use Rattle.planner.specs.Flow.{flowFault, flowCount, recordBytes, flowOut}
 use Rattle.planner.specs.CrewCheck.{badLists, crewCheckFault, crewFound, checkedOf}
 use Rattle.planner.specs.declared.Cause.{Cause}
-use Rattle.planner.specs.declared.Cause.the-variants.{Unreadable, JobCircle, PlanCircle, NoKind, Short, Lists}
+use Rattle.planner.specs.declared.Cause.the-variants.{Unreadable, Short, Lists}
 use Rattle.planner.specs.declared.Fault.{Fault}
 use Rattle.planner.specs.declared.Fault.the-variants.{Fine, Refused}
 use Rattle.planner.specs.declared.Decision.the-variants as verdict
 use Rattle.planner.specs.declared.Output.the-variants as output
 use Rattle.planner.specs.declared.CrewChecked.the-variants as crew
+use Rattle.planner.proofs.FaultLaws.{Every, every-turn}
+use Rattle.planner.proofs.OpenLaws.{every-open}
 use Rattle.planner.proofs.OutputLaws.{output-is-refused, lent-refused}
 use Rattle.planner.specs.Numbers.{causeNumber}
 use Rattle.promises.specs.Ours.{ours}
@@ -52,18 +48,10 @@ one-last (x ∷ xs) n = inr (one-last xs n)
 -- ---- a fault has one of these numbers
 
 abbrev Only : List ℕ → Fault → Type 0
-Only xs f = (c : Cause) → f ≡ Refused c → OneOf xs (causeNumber c)
-
-only-this : (xs : List ℕ) (d : Cause) → OneOf xs (causeNumber d) → Only xs (Refused d)
-only-this xs d o c e = let q : d ≡ c = cc in subst (λ (x : Cause). OneOf xs (causeNumber x)) q o
-
-only-fine : (xs : List ℕ) → Only xs Fine
-only-fine xs c e = absurd (let z : _≡_ {A = ℕ} 0 1 = cc in omega arith)
+Only xs f = Every (λ (c : Cause). OneOf xs (causeNumber c)) f
 
 only-cause : (xs : List ℕ) (f : Fault) (b : Bool) (d : Cause) → Only xs f → OneOf xs (causeNumber d) → Only xs (orCause f b d)
-only-cause xs Fine true d h o = only-this xs d o
-only-cause xs Fine false d h o = h
-only-cause xs (Refused x) b d h o = h
+only-cause xs f b d h o = every-turn (λ (c : Cause). OneOf xs (causeNumber c)) f b d h (λ _ _. o)
 
 only-more : (xs ys : List ℕ) (f : Fault) → Only xs f → Only (xs ++ ys) f
 only-more xs ys f h c e = one-more xs ys (causeNumber c) (h c e)
@@ -76,22 +64,9 @@ unread-one (RecordType p) = inr (inl refl)
 unread-one (Field p) = inr (inr (inl refl))
 unread-one (Spare p) = inr (inr (inr (inl refl)))
 
-circles-only : (job whole : Order) → Only opening (circlesOf job whole)
-unfolding circlesOf
-circles-only job whole = go (ltb (circleOf job) elements) (ltb (circleOf whole) elements)
-  where
-    go : (a b : Bool) → Only opening (cond a (Refused (JobCircle (circleOf job + 1))) (cond b (Refused (PlanCircle (circleOf whole + 1))) Fine))
-    go true b = only-this opening (JobCircle (circleOf job + 1)) (inr (inr (inr (inr (inl refl)))))
-    go false true = only-this opening (PlanCircle (circleOf whole + 1)) (inr (inr (inr (inr (inr (inl refl))))))
-    go false false = only-fine opening
-
 fault-only : (s : List ℕ) → Only opening (faultOf s)
-unfolding faultOf
-fault-only s = go (answerOf s)
-  where
-    go : (a : Answer) → Only opening (orUnreadable a (circlesOf (jobOrder s) (planOrder s)))
-    go answer.Readable = circles-only (jobOrder s) (planOrder s)
-    go (answer.Refused u) = only-this opening (Unreadable u) (unread-one u)
+fault-only s =
+    every-open (λ (c : Cause). OneOf opening (causeNumber c)) s (λ u _. unread-one u) (λ i _. inr (inr (inr (inr (inl refl))))) (λ i _. inr (inr (inr (inr (inr (inl refl))))))
 
 -- and one cause more
 then-only : (s : List ℕ) (b : Bool) (d : Cause) → Only (opening ++ causeNumber d ∷ []) (orCause (faultOf s) b d)
@@ -138,13 +113,10 @@ overload-only s n = then-only s (ltb n 24) (Short 24)
 flow-only : (s : List ℕ) (kind n : ℕ) → Only (opening ++ 8 ∷ 9 ∷ 7 ∷ []) (flowFault s kind n)
 unfolding flowFault overCause
 flow-only s kind n =
-    let q = planIn s in
     let L = opening ++ 8 ∷ 9 ∷ 7 ∷ [] in
-    let known = orCause (faultOf s) (not (isKind kind (q .kinds))) (NoKind (q .kinds)) in
-    let roomy = orCause known (ltb n (flowLength (q .count))) (Short (flowLength (q .count))) in
-    only-cause L roomy (isOverloaded q) (overCause q)
-    (only-cause L known (ltb n (flowLength (q .count))) (Short (flowLength (q .count)))
-    (only-cause L (faultOf s) (not (isKind kind (q .kinds))) (NoKind (q .kinds)) (only-more opening (8 ∷ 9 ∷ 7 ∷ []) (faultOf s) (fault-only s))
+    only-cause L _ _ _
+    (only-cause L _ _ _
+    (only-cause L _ _ _ (only-more opening (8 ∷ 9 ∷ 7 ∷ []) (faultOf s) (fault-only s))
     (inr (inr (inr (inr (inr (inr (inl refl))))))))
     (inr (inr (inr (inr (inr (inr (inr (inl refl)))))))))
     (inr (inr (inr (inr (inr (inr (inr (inr (inl refl)))))))))

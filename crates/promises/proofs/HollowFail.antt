@@ -6,7 +6,7 @@ use Prim.Native.Nat.{ℕ, zero, suc, _+_, _≤_, _<_}
 use native.Mathlib.Omega.{arith}
 use lib.Dec.{ltb}
 use lib.ListN.{length, replicate, length-replicate}
-use borrow.Author.Tests.{ltb-true, le-ltb}
+use borrow.Author.Tests.{ltb-true}
 use Rattle.words.specs.Bits.{digit, bit}
 use Rattle.words.specs.model.Loops.{each, run, upto}
 use Rattle.words.specs.Members.{first, members, count}
@@ -29,7 +29,8 @@ use Rattle.plan.specs.Meaning.{Readable, FileArc, fileDuration, fileDemand, fil
 use Rattle.flow_math.specs.Heaviest.{heaviest, needOf}
 use Rattle.kinds.specs.Needs.{demandsFor}
 use Rattle.kinds.specs.Reading.{unitsRead}
-use Rattle.planner.specs.Open.{planIn, isFine, circlesOf, faultOf, orCause}
+use Rattle.planner.specs.Faults.{isFine, orCause}
+use Rattle.planner.specs.Open.{planIn, readFault, faultOf}
 use Rattle.planner.specs.Output.{outputOf, lentAfter}
 use Rattle.planner.specs.Need.{availableFor, needFor}
 use Rattle.planner.specs.Verdict.{verdictOf}
@@ -37,13 +38,12 @@ use Rattle.planner.specs.Needs.{needsFault, needNumbers, needsOut}
 use Rattle.planner.specs.Flow.{flowFault}
 use Rattle.planner.specs.File.{flowLength}
 use Rattle.planner.specs.declared.Cause.{Cause}
-use Rattle.planner.specs.declared.Cause.the-variants.{Short}
 use Rattle.planner.specs.declared.Fault.{Fault}
 use Rattle.planner.specs.declared.Fault.the-variants as fault
 use Rattle.planner.specs.declared.Decision.{Decision}
 use Rattle.planner.specs.declared.Decision.the-variants.{Accepted, Refused}
 use Rattle.planner.specs.declared.Output.the-variants.{Written}
-use Rattle.planner.proofs.FaultLaws.{fine-is, cause-none}
+use Rattle.planner.proofs.FaultLaws.{fine-is, short-none}
 use Rattle.planner.proofs.OutputLaws.{output-is-fine, lent-front}
 use Rattle.planner.proofs.QuotedNeeds.{kinds-in, kinds-few, available-in}
 use Rattle.promises.specs.Planner.{Planner}
@@ -84,7 +84,7 @@ record Computes : Type 0 where
   alike : unordered planA ≡ unordered planC
 
 computes : Computes
-unfolding row putRow rowTable cells digit bit each run upto first members count sum maximum table grow arcsFrom arcsIn circleIn extended circleOf orderOf orderIn joinedRows afterRows field zeros bytes leading activityFields crewFields arcFields fileDuration fileDemand fileKinds fileAvailable durationsOf demandsOf demandTable availableOf withArc arcsAfter arcsUpTo planOf rule activityCause crewCause arcCause causeAt firstRefusal recordsCause isLength answerOf readOf heaviest needOf demandsFor circlesOf faultOf lentAfter needFor needsFault needNumbers needsOut flowLength
+unfolding row putRow rowTable cells digit bit each run upto first members count sum maximum table grow arcsFrom arcsIn circleIn extended circleOf orderOf orderIn joinedRows afterRows field zeros bytes leading activityFields crewFields arcFields fileDuration fileDemand fileKinds fileAvailable durationsOf demandsOf demandTable availableOf withArc arcsAfter arcsUpTo planOf rule activityCause crewCause arcCause causeAt firstRefusal recordsCause isLength answerOf readOf heaviest needOf demandsFor readFault faultOf lentAfter needFor needsFault needNumbers needsOut flowLength
 computes =
     record {
       a-fault = refl;
@@ -191,7 +191,7 @@ no-records f r e = sym (output-is-fine f r 0 e .1)
 
 room-fine : (s : List ℕ) (n : ℕ) → faultOf s ≡ fault.Fine → planIn s .kinds ≤ n → needsFault s n ≡ fault.Fine
 unfolding needsFault
-room-fine s n f h = cause-none (faultOf s) (ltb n (planIn s .kinds)) (Short (planIn s .kinds)) (ap isFine f) (le-ltb n (planIn s .kinds) h)
+room-fine s n f h = short-none (faultOf s) n (planIn s .kinds) (ap isFine f) h
 
 available-written : NeedIsAvailable availableAsNeed
 available-written s r free k h =

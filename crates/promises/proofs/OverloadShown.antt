@@ -6,7 +6,7 @@ use Prim.Native.Nat.{ℕ, _+_, _≤_, _<_}
 use native.Mathlib.Omega.{arith}
 use lib.Dec.{ltb}
 use lib.ListN.{length, getD, replicate, length-replicate}
-use borrow.Author.Tests.{lt-ltb, le-ltb, ltb-true, ltb-false}
+use borrow.Author.Tests.{lt-ltb, ltb-true, ltb-false}
 use Rattle.words.specs.Bits.{bit}
 use Rattle.words.specs.Members.{count}
 use Rattle.words.proofs.Firsts.{first-below, at-first, before-first}
@@ -20,10 +20,9 @@ use Rattle.planner.specs.Need.{availableFor, needFor, overKind, isOverloaded, s
 use Rattle.planner.specs.Needs.{needsFault, needNumbers, needsAnswer, needsOut}
 use Rattle.promises.specs.Ours.{ours}
 use Rattle.promises.specs.PriceList.{quotedNeed, Exceeds, Enough, Shown}
-use Rattle.planner.specs.declared.Cause.the-variants.{Short}
 use Rattle.planner.specs.declared.Fault.the-variants.{Fine}
 use Rattle.planner.specs.declared.Output.the-variants.{Written}
-use Rattle.planner.proofs.FaultLaws.{cause-none}
+use Rattle.planner.proofs.FaultLaws.{short-none}
 use Rattle.planner.proofs.OutputLaws.{output-fine, lent-front}
 use Rattle.planner.proofs.OpenLaws.{opens-readable}
 use Rattle.planner.proofs.QuotedNeeds.{kinds-few, kinds-in, available-in}
@@ -42,8 +41,7 @@ module _ (s : List ℕ) (small : AreBytes s) (o : Opens s) where
     needs-fine : needsFault s (length out) ≡ Fine
     unfolding needsFault
     needs-fine =
-        cause-none (faultOf s) (ltb (length out) (planIn s .kinds)) (Short (planIn s .kinds)) o
-        (le-ltb (length out) (planIn s .kinds) (omega (arith, h, kinds-in s readable)))
+        short-none (faultOf s) (length out) (planIn s .kinds) o (omega (arith, h, kinds-in s readable))
 
     pub needs-answers : needsAnswer s (length out) ≡ Written (fileKinds s)
     needs-answers = output-fine (needsFault s (length out)) (planIn s .kinds) needs-fine ∙ ap Written (kinds-in s readable)

@@ -21,7 +21,8 @@ use Rattle.plan.specs.Records.{activityCount}
 use Rattle.kinds.specs.Needs.{demandsFor}
 use Rattle.kinds.specs.Reading.{unitsRead}
 use Rattle.solver.proofs.QuoteSound.{need-small}
-use Rattle.planner.specs.Open.{planIn, planOrder, isFine, faultOf, orCause, Opens}
+use Rattle.planner.specs.Faults.{isFine, orCause}
+use Rattle.planner.specs.Open.{planIn, planOrder, faultOf, Opens}
 use Rattle.planner.specs.Numbers.{numbersOf}
 use Rattle.planner.specs.Need.{needFor, overKind, isOverloaded, shownSet, overCause}
 use Rattle.planner.specs.Verdict.{verdictFault, verdictOf, verdictAnswer}

@@ -5,14 +5,15 @@ use mathlib.Core.List.{List, [], _∷_}
 use Prim.Native.Nat.{ℕ, _+_, _-_, _≤_, _<_}
 use native.Mathlib.Omega.{arith}
 use lib.Dec.{ltb, leb}
-use borrow.Author.Tests.{lt-ltb, le-ltb, le-leb, leb-true, ltb-true}
+use borrow.Author.Tests.{lt-ltb, le-leb, leb-true, ltb-true}
 use Rattle.words.proofs.Tests.{and-left, and-right, and-both, fails, not-of-false}
 use Rattle.records.specs.Bytes.{AreBytes}
 use Rattle.plan.specs.Meaning.{Readable, fileKinds}
 use Rattle.plan.specs.Records.{activityCount}
 use Rattle.plan.specs.declared.Cause.{Cause as Unread}
 use Rattle.plan.specs.declared.Answer.the-variants as answer
-use Rattle.planner.specs.Open.{planIn, isFine, faultOf, orCause, Opens}
+use Rattle.planner.specs.Faults.{isFine, orCause, orShort}
+use Rattle.planner.specs.Open.{planIn, faultOf, Opens}
 use Rattle.planner.specs.Numbers.{numbersOf, verdictNumbers, outputNumbers}
 use Rattle.planner.specs.Output.{outputOf}
 use Rattle.planner.specs.Need.{isOverloaded, overCause}
@@ -26,7 +27,7 @@ use Rattle.planner.specs.declared.Cause.{Cause}
 use Rattle.planner.specs.declared.Cause.the-variants.{Unreadable, JobCircle, PlanCircle, Overloaded, NoKind, Short, Lists}
 use Rattle.planner.specs.declared.Fault.{Fault}
 use Rattle.planner.specs.declared.Fault.the-variants.{Fine, Refused}
-use Rattle.planner.proofs.FaultLaws.{cause-before, cause-next, cause-none}
+use Rattle.planner.proofs.FaultLaws.{cause-before, cause-next, cause-none, short-next, short-none}
 use Rattle.planner.proofs.OpenLaws.{opens-readable}
 use Rattle.planner.proofs.QuotedNeeds.{count-in, kinds-in}
 use Rattle.promises.specs.Ours.{ours}
@@ -79,13 +80,6 @@ module _ (s : List ℕ) (small : AreBytes s) (o : Opens s) where
   K : planIn s .kinds ≡ fileKinds s
   K = kinds-in s readable
 
-  -- an operation with one cause more, 9
-  short : (n length : ℕ) → n < length → orCause (faultOf s) (ltb n length) (Short length) ≡ Refused (Short length)
-  short n length h = cause-next (faultOf s) (ltb n length) (Short length) o (lt-ltb n length h)
-
-  roomy : (n length : ℕ) → length ≤ n → orCause (faultOf s) (ltb n length) (Short length) ≡ Fine
-  roomy n length h = cause-none (faultOf s) (ltb n length) (Short length) o (le-ltb n length h)
-
   overloads : (k : ℕ) → Exceeds ours s k → overCount (planIn s) ≡ 1
   unfolding overCount
   overloads k x = ap (λ (b : Bool). cond b 1 0) (over-when s small o k x)
@@ -115,20 +109,20 @@ module _ (s : List ℕ) (small : AreBytes s) (o : Opens s) where
   refusals-open =
       record {
         needs-short = λ n h.
-            given (needsFault s n) (planIn s .kinds) (Short (planIn s .kinds)) (short n (planIn s .kinds) (omega (arith, h, K))) ∙ two 9 K;
-        needs = λ n h. done (needsFault s n) (planIn s .kinds) (roomy n (planIn s .kinds) (omega (arith, h, K))) ∙ two 0 K;
+            given (needsFault s n) (planIn s .kinds) (Short (planIn s .kinds)) (short-next (faultOf s) n (planIn s .kinds) o (omega (arith, h, K))) ∙ two 9 K;
+        needs = λ n h. done (needsFault s n) (planIn s .kinds) (short-none (faultOf s) n (planIn s .kinds) o (omega (arith, h, K))) ∙ two 0 K;
         starts-short = λ n h.
-            given (startsFault s n) (needed s) (Short (needed s)) (short n (needed s) (omega (arith, h, m))) ∙ two 9 (ap (λ (x : ℕ). x + 1) m);
-        starts = λ n h. done (startsFault s n) (needed s) (roomy n (needed s) (omega (arith, h, m))) ∙ two 0 (ap (λ (x : ℕ). x + 1) m);
-        overload-short = λ n h. given (overloadFault s n) (overCount (planIn s)) (Short 24) (short n 24 h);
-        overload = λ n h k x. done (overloadFault s n) (overCount (planIn s)) (roomy n 24 h) ∙ two 0 (overloads k x);
-        overload-none = λ n h en. done (overloadFault s n) (overCount (planIn s)) (roomy n 24 h) ∙ two 0 (overloads-none en);
+            given (startsFault s n) (needed s) (Short (needed s)) (short-next (faultOf s) n (needed s) o (omega (arith, h, m))) ∙ two 9 (ap (λ (x : ℕ). x + 1) m);
+        starts = λ n h. done (startsFault s n) (needed s) (short-none (faultOf s) n (needed s) o (omega (arith, h, m))) ∙ two 0 (ap (λ (x : ℕ). x + 1) m);
+        overload-short = λ n h. given (overloadFault s n) (overCount (planIn s)) (Short 24) (short-next (faultOf s) n 24 o h);
+        overload = λ n h k x. done (overloadFault s n) (overCount (planIn s)) (short-none (faultOf s) n 24 o h) ∙ two 0 (overloads k x);
+        overload-none = λ n h en. done (overloadFault s n) (overCount (planIn s)) (short-none (faultOf s) n 24 o h) ∙ two 0 (overloads-none en);
         flow-no-kind = λ kind n never.
             let q = planIn s in
             let C = NoKind (q .kinds) in
             given (flowFault s kind n) (flowCount q (kind - 1)) C
-            (cause-before _ (isOverloaded q) (overCause q) C
-            (cause-before _ (ltb n (flowLength (q .count))) (Short (flowLength (q .count))) C
+            (cause-before _ _ _ C
+            (cause-before _ _ _ C
             (cause-next (faultOf s) (not (isKind kind (q .kinds))) C o (no-kind kind never))))
             ∙ two 8 K;
         flow-short = λ kind n p r h.
@@ -136,10 +130,9 @@ module _ (s : List ℕ) (small : AreBytes s) (o : Opens s) where
             let C = Short (flowLength (q .count)) in
             let l : n < flowLength (q .count) = rw m h in
             given (flowFault s kind n) (flowCount q (kind - 1)) C
-            (cause-before _ (isOverloaded q) (overCause q) C
-            (cause-next (orCause (faultOf s) (not (isKind kind (q .kinds))) (NoKind (q .kinds))) (ltb n (flowLength (q .count))) C
-            (ap isFine (cause-none (faultOf s) (not (isKind kind (q .kinds))) (NoKind (q .kinds)) o (a-kind kind p r)))
-            (lt-ltb n (flowLength (q .count)) l)))
+            (cause-before _ _ _ C
+            (short-next (orCause (faultOf s) (not (isKind kind (q .kinds))) (NoKind (q .kinds))) n (flowLength (q .count))
+            (ap isFine (cause-none (faultOf s) (not (isKind kind (q .kinds))) (NoKind (q .kinds)) o (a-kind kind p r))) l))
             ∙ two 9 (ap flowLength m);
         flow-overloaded = λ kind n p r h k x.
             let q = planIn s in
@@ -148,8 +141,8 @@ module _ (s : List ℕ) (small : AreBytes s) (o : Opens s) where
             let t = over-when s small o k x in
             let known = orCause (faultOf s) (not (isKind kind (q .kinds))) (NoKind (q .kinds)) in
             let known-fine = ap isFine (cause-none (faultOf s) (not (isKind kind (q .kinds))) (NoKind (q .kinds)) o (a-kind kind p r)) in
-            let room = orCause known (ltb n (flowLength (q .count))) (Short (flowLength (q .count))) in
-            let room-fine = ap isFine (cause-none known (ltb n (flowLength (q .count))) (Short (flowLength (q .count))) known-fine (le-ltb n (flowLength (q .count)) l)) in
+            let room = orShort known n (flowLength (q .count)) in
+            let room-fine = ap isFine (short-none known n (flowLength (q .count)) known-fine l) in
             given (flowFault s kind n) (flowCount q (kind - 1)) C (cause-next room (isOverloaded q) C room-fine t)
             ∙ sym (ap (λ (f : Fault). verdictNumbers (verdictOf f (q .count) (q .kinds))) (cause-next (faultOf s) (isOverloaded q) C o t));
       }

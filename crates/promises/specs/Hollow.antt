@@ -11,7 +11,8 @@ use Rattle.words.specs.Tables.{table}
 use Rattle.order.specs.Before.{Acyclic}
 use Rattle.plan.specs.Meaning.{Readable, FileArc, fileKinds, fileDemand, fileAvailable}
 use Rattle.plan.specs.Records.{activityCount}
-use Rattle.planner.specs.Open.{planIn, faultOf, orCause}
+use Rattle.planner.specs.Faults.{orCause}
+use Rattle.planner.specs.Open.{planIn, faultOf}
 use Rattle.planner.specs.Output.{outputOf, lentAfter}
 use Rattle.planner.specs.Need.{availableFor}
 use Rattle.planner.specs.Verdict.{verdictOf}

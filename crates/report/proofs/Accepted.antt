@@ -4,23 +4,22 @@ use mathlib.Core.Bool.{true, false}
 use mathlib.Core.List.{List, _++_}
 use Prim.Native.Nat.{ℕ, _-_, _*_, _≤_, _<_}
 use native.Mathlib.Omega.{arith}
-use lib.Dec.{ltb}
 use lib.ListN.{length, getD, drop}
-use borrow.Author.Tests.{le-ltb, le-leb}
+use borrow.Author.Tests.{le-leb}
 use Rattle.records.specs.Bytes.{AreBytes}
-use Rattle.planner.specs.Open.{planIn, isFine, faultOf, Opens}
+use Rattle.planner.specs.Faults.{isFine}
+use Rattle.planner.specs.Open.{planIn, faultOf, Opens}
 use Rattle.planner.specs.Need.{isOverloaded, overCause}
 use Rattle.planner.specs.Verdict.{verdictFault, verdictOf, verdictAnswer}
 use Rattle.planner.specs.Needs.{needsFault, needNumbers, needsOut}
 use Rattle.planner.specs.Starts.{needed, startsFault, startNumbers, startsOut}
 use Rattle.planner.specs.Flow.{mostRecords, flowFault, flowCount, recordBytes, flowAnswer, flowOut}
-use Rattle.planner.specs.declared.Cause.the-variants.{Short}
 use Rattle.planner.specs.declared.Fault.{Fault}
 use Rattle.planner.specs.declared.Fault.the-variants.{Fine, Refused}
 use Rattle.planner.specs.declared.Decision.{Decision}
 use Rattle.planner.specs.declared.Decision.the-variants as decision
 use Rattle.planner.specs.declared.Output.the-variants.{Written}
-use Rattle.planner.proofs.FaultLaws.{cause-fine, cause-none}
+use Rattle.planner.proofs.FaultLaws.{cause-fine, short-none}
 use Rattle.planner.proofs.OutputLaws.{output-fine, lent-fine, lent-front}
 use Rattle.planner.proofs.OpenLaws.{count-within}
 use Rattle.planner.proofs.QuotedNeeds.{kinds-few}
@@ -54,14 +53,14 @@ module _ (s : List ℕ) (fine : Accepts s) where
   unfolding needsFault needsOut
   need-front out h k l =
       lent-front (needsFault s (length out)) (needNumbers s) out
-      (cause-none (faultOf s) (ltb (length out) (planIn s .kinds)) (Short (planIn s .kinds)) (opens .0) (le-ltb (length out) (planIn s .kinds) h))
+      (short-none (faultOf s) (length out) (planIn s .kinds) (opens .0) h)
       k (omega (arith, length-needs s))
 
   pub start-front : (out : List ℕ) → needed s ≤ length out → (i : ℕ) → i ≤ planIn s .count → getD (startsOut s out) i 0 ≡ getD (startNumbers s) i 0
   unfolding startsFault startsOut
   start-front out h i l =
       lent-front (startsFault s (length out)) (startNumbers s) out
-      (cause-none (faultOf s) (ltb (length out) (needed s)) (Short (needed s)) (opens .0) (le-ltb (length out) (needed s) h))
+      (short-none (faultOf s) (length out) (needed s) (opens .0) h)
       i (omega (arith, length-starts s))
 
   -- ---- Flow of a kind

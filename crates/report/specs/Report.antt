@@ -5,7 +5,8 @@ use mathlib.Core.List.{List, _++_}
 use Prim.Native.Nat.{ℕ, _+_, _*_}
 use Rattle.records.specs.Records.{joined}
 use Rattle.plan.specs.declared.Plan.{Plan}
-use Rattle.planner.specs.Open.{planIn, isFine}
+use Rattle.planner.specs.Faults.{isFine}
+use Rattle.planner.specs.Open.{planIn}
 use Rattle.planner.specs.Needs.{needNumbers}
 use Rattle.planner.specs.Starts.{startNumbers}
 use Rattle.planner.specs.Flow.{mostRecords, flowCount, recordBytes}

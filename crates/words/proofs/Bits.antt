@@ -4,11 +4,11 @@ use mathlib.Core.Path.{_≡_, refl, sym, ap, ap₂, _∙_}
 use mathlib.Core.Bool.{Bool, true, false, not, _&&_, _||_}
 use mathlib.Core.Logic.{_⊎_, inl, inr}
 use Prim.Native.Nat.{ℕ, zero, suc, _+_, _-_, _*_, _/_, _%_, _^_, _≤_, _<_, min, max}
-use native.Mathlib.Nat.{one-mul, mod-lt, mod-eq-of-lt, zero-lt-suc, zero-max, zero-min, zero-sub, pow-suc, pow-succ', div-div-eq-div-mul, zero-div, div-one, lt-of-lt-of-le}
+use native.Mathlib.Nat.{one-mul, div-add-mod', div-le-self, mod-lt, mod-eq-of-lt, zero-lt-suc, zero-max, zero-min, zero-sub, pow-suc, pow-succ', div-div-eq-div-mul, zero-div, div-one, lt-of-lt-of-le}
 use native.Mathlib.Omega.{arith}
 use lib.Dec.{lit<, eqb, eqb·suc-suc, eqb·zero-suc, eqb·suc-zero}
 use lib.Bits.{bitAnd, bitOr, bitXor, differ, and-step, or-step, xor-step, or-lt, and-le-l, and-shr, or-shr, block-odd, block-half}
-use lib.Pow.{pow-mono, pow-lt, shr-shr, high}
+use lib.Pow.{pow-pos, pow-mono, pow-lt, shr-shr, high}
 use lib.Arith.{lt-one}
 use borrow.Author.Tests.{eq-eqb, ne-eqb, eqb-true}
 use Rattle.words.specs.Bits.{digit, bit, minus, withBit}
@@ -246,3 +246,18 @@ bit-cat-low k hi lo i h = bit-by (hi * 2 ^ k + lo) lo i i (digit-cat-low k hi lo
 
 pub bit-cat-high : (k hi lo i : ℕ) → lo < 2 ^ k → bit (hi * 2 ^ k + lo) (k + i) ≡ bit hi i
 bit-cat-high k hi lo i h = bit-by (hi * 2 ^ k + lo) hi (k + i) i (digit-cat-high k hi lo i h)
+
+-- a number whose digits from place n on are 0 is below 2 ^ n
+pub digits-below : (k n w : ℕ) → w < 2 ^ k → ((i : ℕ) → n ≤ i → bit w i ≡ false) → w < 2 ^ n
+digits-below k n w h none =
+    let parts : w / 2 ^ n * 2 ^ n + w % 2 ^ n ≡ w = div-add-mod' w (2 ^ n) in
+    let low : w % 2 ^ n < 2 ^ n = mod-lt w (pow-pos n) in
+    let high : w / 2 ^ n ≡ 0 =
+    bit-ext k (w / 2 ^ n) 0 (omega (arith, div-le-self w (2 ^ n))) (pow-pos k)
+    (λ i l.
+    sym (bit-cat-high n (w / 2 ^ n) (w % 2 ^ n) i low)
+    ∙ ap (λ (x : ℕ). bit x (n + i)) parts
+    ∙ none (n + i) (omega arith)
+    ∙ sym (bit-zero i)) in
+    let all : 0 * 2 ^ n + w % 2 ^ n ≡ w = ap (λ (x : ℕ). x * 2 ^ n + w % 2 ^ n) (sym high) ∙ parts in
+    omega arith

@@ -21,7 +21,8 @@ use Rattle.schedule.specs.declared.Checked.the-variants.{Fits, Broken, Overload
 use Rattle.schedule.proofs.Arcs.{broken-first, broken-to-first}
 use Rattle.schedule.proofs.Periods.{lowest-first, period-bound}
 use Rattle.planner.specs.Numbers.{refusalOf}
-use Rattle.planner.specs.Open.{planIn, rowsOf, isFine}
+use Rattle.planner.specs.Open.{planIn, rowsOf}
+use Rattle.planner.specs.Faults.{isFine}
 use Rattle.planner.specs.Output.{outputOf}
 use Rattle.planner.specs.Need.{isOverloaded}
 use Rattle.planner.specs.Verdict.{verdictFault, verdictOf, verdictAnswer}

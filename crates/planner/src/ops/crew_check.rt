@@ -1,18 +1,12 @@
 // Crew check: starts and worked durations of a crew, against a plan.
 ghost use mathlib.Core.Path.{_≡_};
-ghost use Rattle.planner.specs.CrewCheck.{checkedOf, someZero, badLists, crewLooked, crewCheckAnswer};
+ghost use Rattle.planner.specs.CrewCheck.{checkedOf, someZero, badLists, crewCheckAnswer};
 use crate::Cause;
 use crate::CrewChecked;
 use crate::Fault;
-use crate::open::is_fine;
+use crate::faults::is_fine;
+use crate::faults::or_cause;
 use crate::open::open_plan;
-use crate::open::or_cause;
-
-// How a crew check ends: with a fault, or with what was found.
-pub struct Looked {
-    pub fault: Fault,
-    pub value: schedule::Checked,
-}
 
 // The answer, by the fault and what was found.
 fn checked_of(fault: Fault, value: schedule::Checked) -> CrewChecked
@@ -50,8 +44,9 @@ fn bad_lists(m: usize, starts: &[u32], worked: &[u32]) -> bool
     some_zero(worked)
 }
 
-fn look_at(s: &[u8], starts: &[u32], worked: &[u32]) -> Looked
-    ensures { λ r. ⌜ r ≡ crewLooked (now (s .entry)) (now (starts .entry)) (now (worked .entry)) ⌝ }
+// Crew check of a start and a worked duration for each activity of the plan.
+pub fn crew_check(s: &[u8], starts: &[u32], worked: &[u32]) -> CrewChecked
+    ensures { λ r. ⌜ r ≡ crewCheckAnswer (now (s .entry)) (now (starts .entry)) (now (worked .entry)) ⌝ }
 {
     let opened = open_plan(s);
     let q = opened.plan;
@@ -59,24 +54,11 @@ fn look_at(s: &[u8], starts: &[u32], worked: &[u32]) -> Looked
     let before = opened.fault;
     let fault = or_cause(before, bad_lists(m, starts, worked), Cause::Lists(m));
     if !is_fine(fault) {
-        return Looked {
-            fault,
-            value: schedule::Checked::Fits,
-        };
+        return checked_of(fault, schedule::Checked::Fits);
     }
     let rows = opened.rows;
     let demands = q.demand;
     let available = q.available;
     let value = schedule::crew_check(&rows, &demands, &available, starts, worked);
-    Looked { fault, value }
-}
-
-// Crew check of a start and a worked duration for each activity of the plan.
-pub fn crew_check(s: &[u8], starts: &[u32], worked: &[u32]) -> CrewChecked
-    ensures { λ r. ⌜ r ≡ crewCheckAnswer (now (s .entry)) (now (starts .entry)) (now (worked .entry)) ⌝ }
-{
-    let looked = look_at(s, starts, worked);
-    let fault = looked.fault;
-    let value = looked.value;
     checked_of(fault, value)
 }

@@ -5,14 +5,12 @@ ghost use lib.ListN.{length, replicate};
 ghost use Rattle.words.specs.Tables.{over};
 ghost use Rattle.order.specs.Stored.{elements};
 ghost use Rattle.kinds.specs.Needs.{needsFor};
-ghost use Rattle.planner.specs.Needs.{needsCounted, needsAnswer, needsOut};
-use crate::Cause;
+ghost use Rattle.planner.specs.Needs.{needsAnswer, needsOut};
 use crate::Output;
-use crate::answer::Counted;
 use crate::answer::output_of;
-use crate::open::is_fine;
+use crate::faults::is_fine;
+use crate::faults::or_short;
 use crate::open::open_plan;
-use crate::open::or_cause;
 use order::Order;
 
 // The needs of a plan's kinds, by its order, and zeros behind them.
@@ -36,30 +34,21 @@ fn put_numbers(out: &mut [u32], numbers: [u32; 8], n: usize)
     }
 }
 
-fn write_needs(s: &[u8], out: &mut [u32]) -> Counted
-    ensures { λ r. ⌜ r ≡ needsCounted (now (s .entry)) (length (now (out .entry))) ⌝ }
+// Needs: the need of each kind from 1 to K, to the front of the lent numbers.
+pub fn needs(s: &[u8], out: &mut [u32]) -> Output
+    ensures { λ r. ⌜ r ≡ needsAnswer (now (s .entry)) (length (now (out .entry))) ⌝ }
     ensures { λ _. ⌜ now (out .exit) ≡ needsOut (now (s .entry)) (now (out .entry)) ⌝ }
 {
     let opened = open_plan(s);
     let q = opened.plan;
     let n = q.kinds;
     let before = opened.fault;
-    let fault = or_cause(before, out.len() < n, Cause::Short(n));
+    let fault = or_short(before, out.len(), n);
     if !is_fine(fault) {
-        return Counted { fault, value: n };
+        return output_of(fault, 0);
     }
     let order = opened.order;
     let numbers = needs_of(order, q);
     put_numbers(out, numbers, n);
-    Counted { fault, value: n }
-}
-
-// Needs: the need of each kind from 1 to K, to the front of the lent numbers.
-pub fn needs(s: &[u8], out: &mut [u32]) -> Output
-    ensures { λ r. ⌜ r ≡ needsAnswer (now (s .entry)) (length (now (out .entry))) ⌝ }
-    ensures { λ _. ⌜ now (out .exit) ≡ needsOut (now (s .entry)) (now (out .entry)) ⌝ }
-{
-    let counted = write_needs(s, out);
-    let fault = counted.fault;
-    output_of(fault, counted.value)
+    output_of(fault, n)
 }

@@ -4,14 +4,12 @@ ghost use Prim.Native.Nat.{_+_, _≤_};
 ghost use lib.ListN.{length};
 ghost use Rattle.words.specs.Tables.{over};
 ghost use Rattle.order.specs.Stored.{elements};
-ghost use Rattle.planner.specs.Starts.{startsCounted, startsAnswer, startsOut, withEnd};
-use crate::Cause;
+ghost use Rattle.planner.specs.Starts.{startsAnswer, startsOut, withEnd};
 use crate::Output;
-use crate::answer::Counted;
 use crate::answer::output_of;
-use crate::open::is_fine;
+use crate::faults::is_fine;
+use crate::faults::or_short;
 use crate::open::open_plan;
-use crate::open::or_cause;
 use order::ELEMENTS;
 
 // Writes m starts and the start of the end to the front of the lent numbers.
@@ -25,8 +23,9 @@ fn put_starts(out: &mut [u32], starts: &[u32; ELEMENTS], m: usize, end: u32)
     out[m] = end;
 }
 
-fn write_starts(s: &[u8], out: &mut [u32]) -> Counted
-    ensures { λ r. ⌜ r ≡ startsCounted (now (s .entry)) (length (now (out .entry))) ⌝ }
+// Starts: those of the m activities, and then that of the end, to the front of the lent numbers.
+pub fn starts(s: &[u8], out: &mut [u32]) -> Output
+    ensures { λ r. ⌜ r ≡ startsAnswer (now (s .entry)) (length (now (out .entry))) ⌝ }
     ensures { λ _. ⌜ now (out .exit) ≡ startsOut (now (s .entry)) (now (out .entry)) ⌝ }
 {
     let opened = open_plan(s);
@@ -34,30 +33,14 @@ fn write_starts(s: &[u8], out: &mut [u32]) -> Counted
     let m = q.count;
     let needed = m + 1;
     let before = opened.fault;
-    let fault = or_cause(before, out.len() < needed, Cause::Short(needed));
+    let fault = or_short(before, out.len(), needed);
     if !is_fine(fault) {
-        return Counted {
-            fault,
-            value: needed,
-        };
+        return output_of(fault, 0);
     }
     let rows = opened.rows;
     let durations = q.duration;
     let first = schedule::earliest(&rows, &durations);
     let end = schedule::end_start(&first, &durations, m);
     put_starts(out, &first, m, end);
-    Counted {
-        fault,
-        value: needed,
-    }
-}
-
-// Starts: those of the m activities, and then that of the end, to the front of the lent numbers.
-pub fn starts(s: &[u8], out: &mut [u32]) -> Output
-    ensures { λ r. ⌜ r ≡ startsAnswer (now (s .entry)) (length (now (out .entry))) ⌝ }
-    ensures { λ _. ⌜ now (out .exit) ≡ startsOut (now (s .entry)) (now (out .entry)) ⌝ }
-{
-    let counted = write_starts(s, out);
-    let fault = counted.fault;
-    output_of(fault, counted.value)
+    output_of(fault, needed)
 }

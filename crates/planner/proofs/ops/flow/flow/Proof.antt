@@ -1,14 +1,104 @@
--- `planner::ops::flow::flow` meets its contract, from what was written. Assumes nothing.
-use Rattle.planner.proofs.FlowLaws.{answered}
+-- `planner::ops::flow::flow` meets its contract, from what was opened and what the solver hands over. Assumes nothing.
+use mathlib.Core.List.{List}
+use Prim.Native.Nat.{ℕ, _-_}
+use native.Mathlib.Omega.{arith}
+use lib.ListN.{length}
+use Rattle.records.specs.Bytes.{AreBytes}
+use Rattle.planner.specs.Open.{planIn}
+use Rattle.planner.specs.Flow.{flowFault, flowCount, recordBytes, flowOut}
+use Rattle.planner.proofs.OutputLaws.{Ends, goes-on, refused, done}
+use Rattle.planner.proofs.OpenLaws.{opened-few}
+use Rattle.planner.proofs.QuotedNeeds.{opened-kinds}
+use Rattle.planner.proofs.FlowLaws.{ends, kind-few, flow-asked, written}
 use borrow.Author.Needs.{needs}
 use Rattle.planner.proofs.ops.flow.flow.Statement.{statement}
 use Rattle.planner.proofs.ops.flow.flow.Tie as tie
 
+flow-length-requires : tie.Need-flow-length-requires
+flow-length-requires c κs = let o = c .before .before in opened-few (o .before .before .before .args .s .now) (o .open-plan .ensures)
+
+or-overloaded-requires : tie.Need-or-overloaded-requires
+or-overloaded-requires c κs =
+    let o = c .before .before .before .before .before .before in
+    let s = o .before .before .before .args .s .now in
+    (opened-few s (o .open-plan .ensures), opened-kinds s (o .open-plan .ensures))
+
+-- what the code has found when it looks at its fault
+module _ (t : tie.After-is-fine) where
+  abbrev o : tie.After-open-plan
+  o = t .before .before .before .before .before .before .before .before
+
+  abbrev s : List ℕ
+  s = o .before .before .before .args .s .now
+
+  abbrev out : List ℕ
+  out = o .before .before .before .args .out .now
+
+  bytes : AreBytes s
+  bytes i = let known = o .before .before .shared-slice-known .given in omega (arith, known i)
+
+  abbrev kind : ℕ
+  kind = o .before .before .before .args .kind
+
+  found : Ends (flowFault s kind (length out)) (t .before .or-overloaded .result) (t .is-fine .result)
+  found =
+      let k = t .before .before .before in
+      ends s kind out bytes (o .open-plan .ensures) (k .before .before .flow-length .ensures) (k .before .is-kind .ensures) (k .or-cause .ensures)
+      (t .before .before .or-short .ensures) (t .before .or-overloaded .ensures) (t .is-fine .ensures)
+
 returns : tie.Need-returns
+unfolding flowOut
 returns c =
-    let w = c .before .before .before in
-    let a = w .before .before .before .before .args in
-    (answered (a .s .now) (a .kind) _ (w .write-flow .ensures .0) (c .output-of .ensures), w .write-flow .ensures .1)
+    let t = c .before .before in
+    refused (found t) (flowCount (planIn (s t)) (kind t - 1)) (recordBytes (planIn (s t)) (kind t - 1)) (out t) (c .before .if1 .taken) (c .output-of .ensures)
+
+sub-k : tie.Need-sub-k
+sub-k c =
+    let t = c .before in
+    kind-few (s t) (kind t) (out t) (bytes t) (o t .open-plan .ensures) (goes-on (found t) (c .if1 .left)) .0
+
+array-read-write-flow : tie.Need-array-read-write-flow
+array-read-write-flow c =
+    let h = c .before .before .before .before .before .before in
+    let t = h .before in
+    let few = kind-few (s t) (kind t) (out t) (bytes t) (o t .open-plan .ensures) (goes-on (found t) (h .if1 .left)) in
+    omega (arith, few .0, few .1)
+
+mul-write-flow : tie.Need-mul-write-flow
+mul-write-flow c = record { fits = omega (arith, array-read-write-flow c) }
+
+write-flow-requires : tie.Need-write-flow-requires
+write-flow-requires c κs =
+    let h = c .before .before .before .before .before .before in
+    let t = h .before in
+    flow-asked (s t) (kind t) (out t) (bytes t) (o t .open-plan .ensures) (goes-on (found t) (h .if1 .left))
+
+returns-2 : tie.Need-returns-2
+unfolding flowOut
+returns-2 c =
+    let p = c .before .before .before in
+    let h = p .before .before .before .before .before .before .before in
+    let t = h .before in
+    let w = written (s t) (kind t) (out t) (bytes t) (o t .open-plan .ensures) (goes-on (found t) (h .if1 .left)) (p .write-flow .ensures) in
+    done (found t) (flowCount (planIn (s t)) (kind t - 1)) (recordBytes (planIn (s t)) (kind t - 1)) (out t) (h .if1 .left) (c .output-of2 .ensures) (w .0) (w .1)
 
 pub flow-spec : {M : Type 1} → statement M
-flow-spec = tie.close (tie.spec (λ c κs. search needs) (λ c κs. search needs) (λ c. search needs) returns)
+flow-spec =
+    tie.close
+    (tie.spec
+    (λ c κs. search needs)
+    flow-length-requires
+    (λ c κs. search needs)
+    (λ c κs. search needs)
+    (λ c κs. search needs)
+    or-overloaded-requires
+    (λ c κs. search needs)
+    (λ c κs. search needs)
+    returns
+    sub-k
+    mul-write-flow
+    array-read-write-flow
+    write-flow-requires
+    (λ c κs. search needs)
+    (λ c. search needs)
+    returns-2)

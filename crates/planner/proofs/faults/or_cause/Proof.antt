@@ -1,12 +1,12 @@
--- `planner::open::or_cause` meets its contract, by the cases of the fault and of the test. Assumes nothing.
+-- `planner::faults::or_cause` meets its contract, by the cases of the fault and of the test. Assumes nothing.
 use mathlib.Core.Path.{sym, ap, _∙_}
 use mathlib.Core.Bool.{Bool}
-use Rattle.planner.specs.Open.{orCause}
+use Rattle.planner.specs.Faults.{orCause}
 use Rattle.planner.specs.declared.Fault.{Fault}
 use Rattle.planner.specs.declared.Fault.the-variants.{Fine}
 use borrow.Author.Needs.{needs}
-use Rattle.planner.proofs.open.or_cause.Statement.{statement}
-use Rattle.planner.proofs.open.or_cause.Tie as tie
+use Rattle.planner.proofs.faults.or_cause.Statement.{statement}
+use Rattle.planner.proofs.faults.or_cause.Tie as tie
 
 returns : tie.Need-returns
 returns c = let a = c .before .before .before .args in sym (ap (λ (x : Fault). orCause x (a .test) (a .cause)) (c .before .enum-told .given .1) ∙ ap (λ (b : Bool). orCause Fine b (a .cause)) (c .if1 .taken))

@@ -1,0 +1,2 @@
+-- For the code: what the two steps of the opening give, and 7 in its turn by what a search found (Opening).
+pub mod Opening
