@@ -8,7 +8,7 @@ use Rattle.plan.specs.Meaning.{Readable}
 use Rattle.plan.specs.Causes.{answerOf}
 use Rattle.plan.proofs.Refusals.{readable-is}
 use Rattle.plan.proofs.Said.{plan-same}
-use Rattle.planner.specs.Open.{planIn, faultOf}
+use Rattle.planner.specs.Open.{planIn, readFault, faultOf}
 use Rattle.planner.specs.Flow.{flowFault, flowAnswer, flowOut}
 use Rattle.planner.proofs.OpenLaws.{plan-in}
 use Rattle.promises.specs.Same.{SamePlan}
@@ -25,5 +25,5 @@ module _ (s t : List ℕ) (e : Readable s) (f : Readable t) (same : SamePlan s t
 
   pub equal-flows : (kind : ℕ) (out : List ℕ)
       → (flowAnswer s kind (length out) ≡ flowAnswer t kind (length out)) × (flowOut s kind out ≡ flowOut t kind out)
-  unfolding flowOut flowFault faultOf
+  unfolding flowOut flowFault faultOf readFault
   equal-flows kind out = (rw (answers, plans), rw (answers, plans))
