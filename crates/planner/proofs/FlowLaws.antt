@@ -2,28 +2,23 @@
 use mathlib.Core.Path.{_≡_, sym, ap, _∙_}
 use mathlib.Core.Bool.{Bool, true, false, not}
 use mathlib.Core.List.{List}
-use Prim.Native.Nat.{ℕ, _+_, _-_, _≤_, _<_}
+use Prim.Native.Nat.{ℕ, _-_, _≤_, _<_}
 use native.Mathlib.Omega.{arith}
 use lib.Dec.{ltb, leb}
-use lib.ListN.{length, getD}
+use lib.ListN.{length}
 use borrow.Author.Tests.{lt-ltb, ltb-true, ltb-false, leb-true, not-false}
 use Rattle.words.proofs.Firsts.{before-first}
 use Rattle.words.proofs.Tests.{and-left, and-right}
 use Rattle.records.specs.Bytes.{AreBytes}
 use Rattle.records.specs.Records.{startingWith}
-use Rattle.solver.specs.model.Network.{handed}
-use Rattle.solver.specs.model.Quote.{quoteOf, flowOf}
-use Rattle.solver.specs.Sound.{asked}
-use Rattle.kinds.specs.Needs.{demandsFor}
-use Rattle.kinds.specs.Flows.{Bounded, markOf, kindUnits, pairsOf}
-use Rattle.kinds.specs.model.Writing.{Room, Lent, lent, putFlow}
-use Rattle.order.specs.Stored.{elements}
+use Rattle.kinds.specs.model.Writing.{Lent, lent}
 use Rattle.planner.specs.Faults.{isFine, orCause, orShort}
 use Rattle.planner.specs.Open.{planIn, faultOf, Opens}
 use Rattle.planner.specs.Need.{availableFor, needFor, overKind, isOverloaded, overCause, orOverloaded}
 use Rattle.planner.specs.Flow.{isKind, flowFault, flowCount, recordBytes}
 use Rattle.planner.specs.File.{flowLength}
 use Rattle.planner.specs.model.Opening.{openedOf, overloadIn, orFound}
+use Rattle.planner.specs.model.Records.{FlowAsked, flowPut}
 use Rattle.planner.specs.declared.Cause.the-variants.{NoKind}
 use Rattle.planner.specs.declared.Fault.{Fault}
 use Rattle.planner.specs.declared.Fault.the-variants.{Fine}
@@ -119,20 +114,17 @@ module _ (s : List ℕ) (kind : ℕ) (out : List ℕ) (bytes : AreBytes s) {o : 
     within : (0 < kind) × (kind ≤ planIn s .kinds)
     within = kind-within kind (planIn s .kinds) (goes .1)
 
-    pub kind-few : (0 < kind) × (kind ≤ 8)
-    kind-few = (within .0, omega (arith, within .1, kinds-few s))
+    pub positive : 0 < kind
+    positive = within .0
 
     below : kind - 1 < 8
-    below = omega (arith, kind-few .0, kind-few .1)
+    below = omega (arith, within .0, within .1, kinds-few s)
 
     enough : needFor (planIn s) (kind - 1) ≤ availableFor (planIn s) (kind - 1)
     enough = not-over s (goes .3) (kind - 1) (omega (arith, within .0, within .1))
 
     -- what the writing of the flow asks
-    pub flow-asked : (kind - 1 < 8) × (o .plan .count ≤ elements)
-        × Bounded (o .plan .count) (asked (demandsFor (o .plan .demand) (kind - 1))) (handed (flowOf (o .plan .count) (o .order) (demandsFor (o .plan .demand) (kind - 1))))
-        × (quoteOf (o .plan .count) (o .order) (demandsFor (o .plan .demand) (kind - 1)) .need ≤ getD (o .plan .available) (kind - 1) 0)
-        × Room (pairsOf (kindUnits (o .order) (o .plan .demand) (kind - 1) (getD (o .plan .available) (kind - 1) 0) (o .plan .count)) (o .plan .count + 2)) out
+    pub flow-asked : FlowAsked (o .order) (o .plan) (kind - 1) out
     flow-asked =
         rw held (
           below,
@@ -143,9 +135,7 @@ module _ (s : List ℕ) (kind : ℕ) (out : List ℕ) (bytes : AreBytes s) {o : 
         )
 
     -- the records are written
-    pub written : {r : ℕ} {after : List ℕ}
-        → lent r after ≡ putFlow (kind - 1 + 1) (kindUnits (o .order) (o .plan .demand) (kind - 1) (getD (o .plan .available) (kind - 1) 0) (o .plan .count))
-        (markOf (o .plan .job) (o .plan .count)) (o .plan .count) (lent 0 out)
+    pub written : {r : ℕ} {after : List ℕ} → lent r after ≡ flowPut (o .order) (o .plan) (kind - 1) out
         → (r ≡ flowCount (planIn s) (kind - 1)) × (after ≡ startingWith (recordBytes (planIn s) (kind - 1)) out)
     written q =
         let put = (rw held at q) ∙ flow-put s bytes (goes .0) (kind - 1) below out in

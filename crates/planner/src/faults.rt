@@ -38,6 +38,16 @@ pub fn or_short(fault: Fault, lent: usize, needed: usize) -> Fault
     or_cause(fault, lent < needed, Cause::Short(needed))
 }
 
+// The lowest kind of a plan that needs more than there is, by the plan's order.
+pub fn lowest_of(order: Order, q: plan::Plan) -> kinds::Overload
+    requires { ⌜ (q .count ≤ elements) × (q .kinds ≤ 8) ⌝ }
+    ensures { λ r. ⌜ r ≡ overloadIn order q ⌝ }
+{
+    let demand = q.demand;
+    let available = q.available;
+    kinds::lowest_overload(order, q.count, &demand, &available, q.kinds)
+}
+
 // 7 in its turn: a kind needs more than there is. Nothing is weighed where there is a fault already.
 pub fn or_overloaded(fault: Fault, order: Order, q: plan::Plan) -> Fault
     requires { ⌜ (q .count ≤ elements) × (q .kinds ≤ 8) ⌝ }
@@ -47,9 +57,7 @@ pub fn or_overloaded(fault: Fault, order: Order, q: plan::Plan) -> Fault
         return fault;
     }
     let n = q.kinds;
-    let demand = q.demand;
-    let available = q.available;
-    let over = kinds::lowest_overload(order, q.count, &demand, &available, n);
+    let over = lowest_of(order, q);
     let kind = over.kind + 1;
     let set = over.set;
     let cause = Cause::Overloaded {

@@ -5,6 +5,8 @@ ghost use lib.ListN.{length};
 ghost use Rattle.order.specs.Stored.{elements};
 ghost use Rattle.planner.specs.Flow.{isKind, flowAnswer, flowOut};
 ghost use Rattle.planner.specs.File.{flowLength};
+ghost use Rattle.planner.specs.model.Records.{FlowAsked, flowPut};
+ghost use Rattle.kinds.specs.model.Writing.{lent};
 use crate::Cause;
 use crate::Output;
 use crate::answer::output_of;
@@ -13,6 +15,7 @@ use crate::faults::or_cause;
 use crate::faults::or_overloaded;
 use crate::faults::or_short;
 use crate::open::open_plan;
+use order::Order;
 
 // Whether a kind is one of 1 to n.
 fn is_kind(kind: usize, n: usize) -> bool
@@ -35,6 +38,17 @@ fn flow_length(m: usize) -> usize
     24 * (m * (m - 1) / 2 + 2 * m + 1)
 }
 
+// Writes the records of a plan's flow of kind k + 1 to the front of the lent bytes. Gives their number.
+fn write_records(out: &mut [u8], order: Order, q: plan::Plan, k: usize) -> usize
+    requires { ⌜ FlowAsked order q k (now out) ⌝ }
+    ensures { λ r. ⌜ lent r (now (out .exit)) ≡ flowPut order q k (now (out .entry)) ⌝ }
+{
+    let job = q.job;
+    let demand = q.demand;
+    let available = q.available;
+    kinds::write_flow(out, order, &job, &demand, k, available[k], q.count)
+}
+
 // Flow: the records of a kind's flow, to the front of the lent bytes.
 pub fn flow(s: &[u8], kind: usize, out: &mut [u8]) -> Output
     ensures { λ r. ⌜ r ≡ flowAnswer (now (s .entry)) kind (length (now (out .entry))) ⌝ }
@@ -54,9 +68,6 @@ pub fn flow(s: &[u8], kind: usize, out: &mut [u8]) -> Output
         return output_of(fault, 0);
     }
     let k = kind - 1;
-    let job = q.job;
-    let demand = q.demand;
-    let available = q.available;
-    let value = kinds::write_flow(out, order, &job, &demand, k, available[k], m);
+    let value = write_records(out, order, q, k);
     output_of(fault, value)
 }

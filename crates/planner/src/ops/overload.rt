@@ -5,6 +5,7 @@ ghost use Rattle.planner.specs.Overload.{overloadAnswer, overloadOut};
 use crate::Output;
 use crate::answer::output_of;
 use crate::faults::is_fine;
+use crate::faults::lowest_of;
 use crate::faults::or_short;
 use crate::open::open_plan;
 
@@ -22,9 +23,7 @@ pub fn overload(s: &[u8], out: &mut [u8]) -> Output
     let q = opened.plan;
     let n = q.kinds;
     let order = opened.order;
-    let demand = q.demand;
-    let available = q.available;
-    let over = kinds::lowest_overload(order, q.count, &demand, &available, n);
+    let over = lowest_of(order, q);
     let value = kinds::put_overload(out, over, n);
     output_of(fault, value)
 }

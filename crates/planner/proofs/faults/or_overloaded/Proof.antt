@@ -19,15 +19,15 @@ returns c =
 add-kind : tie.Need-add-kind
 add-kind c =
     let v = c .before in
-    let a = v .before .before .before .before .before .before .before .args in
-    let e = ap (λ (x : Overload). x .kind) (v .lowest-overload .ensures) in
+    let a = v .before .before .before .args in
+    let e = ap (λ (x : Overload). x .kind) (v .lowest-of .ensures) in
     record { fits = omega (arith, e, lowest-le (a .q .count) (a .order) (a .q .demand) (a .q .available) (a .q .kinds)) }
 
 returns-2 : tie.Need-returns-2
 returns-2 c =
     let v = c .before .before .before .before in
-    let a = v .before .before .before .before .before .before .before .args in
-    c .or-cause .ensures ∙ ap (λ (x : Overload). orFound (a .fault) x (a .q .kinds)) (v .lowest-overload .ensures)
+    let a = v .before .before .before .args in
+    c .or-cause .ensures ∙ ap (λ (x : Overload). orFound (a .fault) x (a .q .kinds)) (v .lowest-of .ensures)
 
 pub or-overloaded-spec : {M : Type 1} → statement M
 or-overloaded-spec = tie.close (tie.spec (λ c κs. search needs) returns (λ c κs. search needs) add-kind (λ c κs. search needs) returns-2)

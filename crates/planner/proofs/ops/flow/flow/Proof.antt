@@ -9,7 +9,7 @@ use Rattle.planner.specs.Flow.{flowFault, flowCount, recordBytes, flowOu
 use Rattle.planner.proofs.OutputLaws.{Ends, goes-on, refused, done}
 use Rattle.planner.proofs.OpenLaws.{opened-few}
 use Rattle.planner.proofs.QuotedNeeds.{opened-kinds}
-use Rattle.planner.proofs.FlowLaws.{ends, kind-few, flow-asked, written}
+use Rattle.planner.proofs.FlowLaws.{ends, positive, flow-asked, written}
 use borrow.Author.Needs.{needs}
 use Rattle.planner.proofs.ops.flow.flow.Statement.{statement}
 use Rattle.planner.proofs.ops.flow.flow.Tie as tie
@@ -53,23 +53,11 @@ returns c =
     refused (found t) (flowCount (planIn (s t)) (kind t - 1)) (recordBytes (planIn (s t)) (kind t - 1)) (out t) (c .before .if1 .taken) (c .output-of .ensures)
 
 sub-k : tie.Need-sub-k
-sub-k c =
-    let t = c .before in
-    kind-few (s t) (kind t) (out t) (bytes t) (o t .open-plan .ensures) (goes-on (found t) (c .if1 .left)) .0
+sub-k c = let t = c .before in positive (s t) (kind t) (out t) (bytes t) (o t .open-plan .ensures) (goes-on (found t) (c .if1 .left))
 
-array-read-write-flow : tie.Need-array-read-write-flow
-array-read-write-flow c =
-    let h = c .before .before .before .before .before .before in
-    let t = h .before in
-    let few = kind-few (s t) (kind t) (out t) (bytes t) (o t .open-plan .ensures) (goes-on (found t) (h .if1 .left)) in
-    omega (arith, few .0, few .1)
-
-mul-write-flow : tie.Need-mul-write-flow
-mul-write-flow c = record { fits = omega (arith, array-read-write-flow c) }
-
-write-flow-requires : tie.Need-write-flow-requires
-write-flow-requires c κs =
-    let h = c .before .before .before .before .before .before in
+write-records-requires : tie.Need-write-records-requires
+write-records-requires c κs =
+    let h = c .before in
     let t = h .before in
     flow-asked (s t) (kind t) (out t) (bytes t) (o t .open-plan .ensures) (goes-on (found t) (h .if1 .left))
 
@@ -77,9 +65,9 @@ returns-2 : tie.Need-returns-2
 unfolding flowOut
 returns-2 c =
     let p = c .before .before .before in
-    let h = p .before .before .before .before .before .before .before in
+    let h = p .before .before in
     let t = h .before in
-    let w = written (s t) (kind t) (out t) (bytes t) (o t .open-plan .ensures) (goes-on (found t) (h .if1 .left)) (p .write-flow .ensures) in
+    let w = written (s t) (kind t) (out t) (bytes t) (o t .open-plan .ensures) (goes-on (found t) (h .if1 .left)) (p .write-records .ensures) in
     done (found t) (flowCount (planIn (s t)) (kind t - 1)) (recordBytes (planIn (s t)) (kind t - 1)) (out t) (h .if1 .left) (c .output-of2 .ensures) (w .0) (w .1)
 
 pub flow-spec : {M : Type 1} → statement M
@@ -96,9 +84,7 @@ flow-spec =
     (λ c κs. search needs)
     returns
     sub-k
-    mul-write-flow
-    array-read-write-flow
-    write-flow-requires
+    write-records-requires
     (λ c κs. search needs)
     (λ c. search needs)
     returns-2)

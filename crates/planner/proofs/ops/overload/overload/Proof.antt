@@ -35,14 +35,14 @@ returns : tie.Need-returns
 unfolding overloadOut
 returns c = let t = c .before .before in refused (found t) (overCount (planIn (s t))) (overBytes (planIn (s t))) (out t) (c .before .if1 .taken) (c .output-of .ensures)
 
-lowest-overload-requires : tie.Need-lowest-overload-requires
-lowest-overload-requires c κs =
-    let t = c .before .before .before .before .before .before .before in
+lowest-of-requires : tie.Need-lowest-of-requires
+lowest-of-requires c κs =
+    let t = c .before .before .before in
     (opened-few (s t) (o t .open-plan .ensures), opened-kinds (s t) (o t .open-plan .ensures))
 
 put-overload-requires : tie.Need-put-overload-requires
 put-overload-requires c κs =
-    let h = c .before .before .before .before .before .before .before .before in
+    let h = c .before .before .before .before in
     let t = h .before in
     (overload-fine (s t) (length (out t)) (goes-on (found t) (h .if1 .left)) .1, opened-kinds (s t) (o t .open-plan .ensures))
 
@@ -51,13 +51,13 @@ unfolding overloadOut
 returns-2 c =
     let p = c .before .before .before in
     let v = p .before .before in
-    let h = v .before .before .before .before .before .before .before in
+    let h = v .before .before .before in
     let t = h .before in
     let held = o t .open-plan .ensures in
     let e = goes-on (found t) (h .if1 .left) in
     done (found t) (overCount (planIn (s t))) (overBytes (planIn (s t))) (out t) (h .if1 .left) (c .output-of2 .ensures)
-    (counted (s t) (out t) held (bytes t) e (v .lowest-overload .ensures) (p .put-overload .ensures .0))
-    (written (s t) (out t) held (bytes t) e (v .lowest-overload .ensures) (p .put-overload .ensures .1))
+    (counted (s t) (out t) held (bytes t) e (v .lowest-of .ensures) (p .put-overload .ensures .0))
+    (written (s t) (out t) held (bytes t) e (v .lowest-of .ensures) (p .put-overload .ensures .1))
 
 pub overload-spec : {M : Type 1} → statement M
 overload-spec =
@@ -68,7 +68,7 @@ overload-spec =
     (λ c κs. search needs)
     (λ c κs. search needs)
     returns
-    lowest-overload-requires
+    lowest-of-requires
     put-overload-requires
     (λ c κs. search needs)
     (λ c. search needs)
