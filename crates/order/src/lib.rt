@@ -4,7 +4,9 @@ ghost use lib.Dec.{eqb};
 ghost use Prim.Native.Nat.{_%_, _^_, _<_};
 ghost use Rattle.order.specs.Stored.{elements, bound, row, putRow, setOf, numberOf};
 ghost use Rattle.order.specs.Sets.{member, emptySet, withElement, withoutElement, unionOf, meetOf, minusOf, sizeOf, lowestOf, withoutLowest};
-ghost use Rattle.order.specs.Rows.{grow, growFrom};
+ghost use Rattle.order.specs.Rows.{grow};
+ghost use Rattle.order.specs.model.Growing.{growFrom};
+ghost use Rattle.order.specs.model.Warshall.{passed};
 ghost use Rattle.order.specs.Orders.{emptyOrder, extended, extendedBy, isBefore, afterOf, afterRows, circleOf, orderIn, joinedRows};
 use transitive::ends_of;
 use transitive::gain_all;
@@ -102,6 +104,18 @@ impl Set {
     {
         Set {
             word: words::without(self.word, other.word),
+        }
+    }
+
+    // The set, with all of `gain` where it has the member k. (In place of a jump, a word of equal digits picks what is gained: this is what the
+    // loops over rows do at each row.)
+    fn with_pass(self, k: usize, gain: Set) -> Set
+        requires { ⌜ k < elements ⌝ }
+        ensures { λ r. ⌜ numberOf r ≡ passed k (numberOf gain) (numberOf self) ⌝ }
+    {
+        let all = std::num::wrapping_sub_u64(0, (self.word >> k) % 2);
+        Set {
+            word: self.word | (gain.word & all),
         }
     }
 

@@ -7,7 +7,7 @@ use Rattle.words.specs.Bits.{minus}
 use Rattle.words.specs.model.Loops.{each}
 use Rattle.order.specs.Stored.{elements, numberOf, setOf, row}
 use Rattle.order.specs.Sets.{minusOf}
-use Rattle.order.specs.Rows.{grown}
+use Rattle.order.specs.model.Growing.{grown}
 use Rattle.order.specs.declared.Set.{Set}
 use Rattle.order.proofs.Stored.{number-of, in-bound}
 use Rattle.order.proofs.Listing.{listed-below, some-left, listing-end}
