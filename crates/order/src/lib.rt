@@ -1,17 +1,20 @@
 // Which element comes before which, and sets of elements.
 ghost use mathlib.Core.Path.{_≡_};
 ghost use lib.Dec.{eqb};
-ghost use Prim.Native.Nat.{_%_, _^_, _<_};
+ghost use Prim.Native.Nat.{_%_, _^_, _≤_, _<_};
 ghost use Rattle.order.specs.Stored.{elements, bound, row, putRow, setOf, numberOf};
 ghost use Rattle.order.specs.Sets.{member, emptySet, withElement, withoutElement, unionOf, meetOf, minusOf, sizeOf, lowestOf, withoutLowest};
 ghost use Rattle.order.specs.Rows.{grow};
 ghost use Rattle.order.specs.model.Growing.{growFrom};
 ghost use Rattle.order.specs.model.Warshall.{passed};
+ghost use Rattle.order.specs.model.Places.{positive};
 ghost use Rattle.order.specs.Orders.{emptyOrder, extended, extendedBy, isBefore, afterOf, afterRows, circleOf, orderIn, joinedRows};
+use halves::places_word;
 use transitive::ends_of;
 use transitive::gain_all;
 use transitive::pass_over;
 
+mod halves;
 mod transitive;
 
 // How many elements there are.
@@ -151,6 +154,16 @@ impl Set {
         Set {
             word: words::without_lowest(word),
         }
+    }
+}
+
+// Those of the m first places of a list at which it is not 0.
+pub fn places(a: &[u32; ELEMENTS], m: usize) -> Set
+    requires { ⌜ m ≤ elements ⌝ }
+    ensures { λ r. ⌜ numberOf r ≡ positive m (now (a .entry)) ⌝ }
+{
+    Set {
+        word: places_word(a, m),
     }
 }
 
