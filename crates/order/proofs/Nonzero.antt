@@ -3,16 +3,16 @@ use mathlib.Core.Path.{_≡_, refl, sym, ap, _∙_}
 use mathlib.Core.Bool.{Bool, true, false, cond}
 use mathlib.Core.List.{List}
 use Prim.Native.Nat.{ℕ, zero, suc, _+_, _-_, _*_, _%_, _^_, _≤_, _<_}
-use native.Mathlib.Nat.{mul-comm, add-suc, add-zero, zero-mul, zero-add, mod-eq-of-lt}
+use native.Mathlib.Nat.{mul-comm, add-suc, add-zero, zero-mul, zero-add}
 use native.Mathlib.Omega.{arith}
-use lib.Bits.{bitOr, or-zero-r, or-block, or-shifted}
+use lib.Bits.{bitOr, or-zero-r, or-block}
 use lib.Dec.{eqb}
 use lib.ListN.{drop, getD}
 use lib.Pow.{low, pow-add, pow-pos}
 use lib.Seq.{getD-drop}
 use Rattle.words.proofs.Bits.{with-lt}
 use Rattle.words.proofs.Tests.{cond-has}
-use Rattle.order.specs.model.Places.{noted, positive}
+use Rattle.order.specs.model.Places.{noted, nonzero, positive}
 
 -- ---- one place
 
@@ -24,11 +24,11 @@ next : (i : ℕ) → suc i ≡ i + 1
 next i = omega arith
 
 pub positive-none : (a : List ℕ) → 0 ≡ positive 0 a
-unfolding positive
+unfolding nonzero
 positive-none a = refl
 
 pub positive-more : (a : List ℕ) (i w d x : ℕ) → w ≡ positive i a → d ≡ cond (eqb x 0) 0 (2 ^ i) → x ≡ getD a i 0 → bitOr w d ≡ positive (i + 1) a
-unfolding positive
+unfolding nonzero
 positive-more a i w d x e q p =
     ap (bitOr w) q ∙ picked (eqb x 0) w (2 ^ i) ∙ ap (λ (y : ℕ). noted w i y) p ∙ ap (λ (y : ℕ). noted y i (getD a i 0)) e
     ∙ ap (λ (n : ℕ). positive n a) (next i)
@@ -36,14 +36,14 @@ positive-more a i w d x e q p =
 -- ---- halves
 
 pub positive-fits : (n : ℕ) (a : List ℕ) → positive n a < 2 ^ n
-unfolding positive
+unfolding nonzero
 positive-fits zero a = pow-pos 0
 positive-fits (suc n) a =
     let l : positive n a < 2 ^ suc n = omega (arith, positive-fits n a) in
     cond-has (λ w. w < 2 ^ suc n) (eqb (getD a n 0) 0) (positive n a) (bitOr (positive n a) (2 ^ n)) (λ _. l) (λ _. with-lt (positive n a) n (suc n) (omega arith) l)
 
 pub positive-cat : (n k : ℕ) (a : List ℕ) → positive (n + k) a ≡ positive k (drop n a) * 2 ^ n + positive n a
-unfolding positive
+unfolding nonzero
 positive-cat n zero a = ap (λ (x : ℕ). positive x a) (add-zero n) ∙ sym (ap (λ (x : ℕ). x + positive n a) (zero-mul (2 ^ n)) ∙ zero-add (positive n a))
 positive-cat n (suc k) a =
     ap (λ (x : ℕ). positive x a) (add-suc n k)

@@ -1,4 +1,4 @@
--- The word of a list has the members at which the list is not 0, and no others; that of a table has those at which its set is not empty. Assumes nothing.
+-- The word of a function has the members at which it is not 0, and no others: of a list those at which it is not 0, of a table those at which its set is not empty. Assumes nothing.
 use mathlib.Core.Path.{_≡_, sym, ap, _∙_}
 use mathlib.Core.List.{List}
 use mathlib.Core.Logic.{⊎-elim, by-cases}
@@ -12,7 +12,8 @@ use Rattle.words.proofs.Bits.{digit-none, with-lt, with-there, with-other}
 use Rattle.words.proofs.Tests.{cond-false, cond-true, same-or-not}
 use Rattle.order.proofs.Stored.{in-bound, to-bound, bound-pos}
 use Rattle.order.specs.Stored.{bound, elements, row as setAt}
-use Rattle.solver.specs.model.Network.{leaders, noted, positive}
+use Rattle.order.specs.model.Places.{noted, nonzero, positive}
+use Rattle.solver.specs.model.Network.{leaders}
 
 module _ (w i n : ℕ) where
   pub noted-none : n ≡ 0 → noted w i n ≡ w
@@ -34,46 +35,53 @@ module _ (w i n : ℕ) where
       (λ z. ap (λ (y : ℕ). digit y x) (noted-some z) ∙ with-other w i x d)
       (same-or-not n 0)
 
-pub positive-lt : (k : ℕ) → k ≤ elements → (a : List ℕ) → positive k a < bound
-unfolding positive
-positive-lt zero h a = bound-pos
-positive-lt (suc k) h a = noted-lt (positive k a) k (getD a k 0) (omega arith) (positive-lt k (omega arith) a)
+-- the places at which a function is not 0
+module _ (f : ℕ → ℕ) where
+  nonzero-lt : (k : ℕ) → k ≤ elements → nonzero k f < bound
+  unfolding nonzero
+  nonzero-lt zero h = bound-pos
+  nonzero-lt (suc k) h = noted-lt (nonzero k f) k (f k) (omega arith) (nonzero-lt k (omega arith))
 
-pub positive-bit : (k : ℕ) (a : List ℕ) (i : ℕ) → i < k → 0 < getD a i 0 → digit (positive k a) i ≡ 1
-unfolding positive
-positive-bit zero a i l p = absurd (omega arith)
-positive-bit (suc k) a i l p =
-    ⊎-elim
-    (λ e. rw e (noted-there (positive k a) k (getD a k 0) (λ z. omega (arith, ap (λ (x : ℕ). getD a x 0) e))))
-    (λ n. noted-other (positive k a) k (getD a k 0) i n ∙ positive-bit k a i (omega arith) p)
-    (same-or-not i k)
+  pub nonzero-bit : (k i : ℕ) → i < k → (f i ≡ 0 → ⊥) → digit (nonzero k f) i ≡ 1
+  unfolding nonzero
+  nonzero-bit zero i l p = absurd (omega arith)
+  nonzero-bit (suc k) i l p =
+      ⊎-elim
+      (λ e. rw e (noted-there (nonzero k f) k (f k) (λ z. p (ap f e ∙ z))))
+      (λ n. noted-other (nonzero k f) k (f k) i n ∙ nonzero-bit k i (omega arith) p)
+      (same-or-not i k)
 
--- no member from k on
-positive-past : (k : ℕ) (a : List ℕ) (i : ℕ) → k ≤ i → digit (positive k a) i ≡ 0
-unfolding positive
-positive-past zero a i l = digit-none i
-positive-past (suc k) a i l = noted-other (positive k a) k (getD a k 0) i (λ e. omega arith) ∙ positive-past k a i (omega arith)
+  -- no member from k on
+  nonzero-past : (k i : ℕ) → k ≤ i → digit (nonzero k f) i ≡ 0
+  unfolding nonzero
+  nonzero-past zero i l = digit-none i
+  nonzero-past (suc k) i l = noted-other (nonzero k f) k (f k) i (λ e. omega arith) ∙ nonzero-past k i (omega arith)
 
-pub positive-none : (k : ℕ) (a : List ℕ) (i : ℕ) → getD a i 0 ≡ 0 → digit (positive k a) i ≡ 0
-unfolding positive
-positive-none zero a i z = digit-none i
-positive-none (suc k) a i z =
-    ⊎-elim
-    (λ e. rw e (ap (λ (x : ℕ). digit x k) (noted-none (positive k a) k (getD a k 0) (sym (ap (λ (x : ℕ). getD a x 0) e) ∙ z)) ∙ positive-past k a k (omega arith)))
-    (λ n. noted-other (positive k a) k (getD a k 0) i n ∙ positive-none k a i z)
-    (same-or-not i k)
+  nonzero-none : (k i : ℕ) → f i ≡ 0 → digit (nonzero k f) i ≡ 0
+  unfolding nonzero
+  nonzero-none zero i z = digit-none i
+  nonzero-none (suc k) i z =
+      ⊎-elim
+      (λ e. rw e (ap (λ (x : ℕ). digit x k) (noted-none (nonzero k f) k (f k) (sym (ap f e) ∙ z)) ∙ nonzero-past k k (omega arith)))
+      (λ n. noted-other (nonzero k f) k (f k) i n ∙ nonzero-none k i z)
+      (same-or-not i k)
 
-pub positive-is : (k : ℕ) (a : List ℕ) (i : ℕ) → digit (positive k a) i ≡ 1 → 0 < getD a i 0
-positive-is k a i e = ⊎-elim (λ z. absurd (omega (arith, positive-none k a i z))) (λ n. omega arith) (same-or-not (getD a i 0) 0)
+-- those of a list
+module _ (k : ℕ) (a : List ℕ) where
+  abbrev at : ℕ → ℕ
+  at i = getD a i 0
 
-pub leaders-bit : (k : ℕ) (rows : List ℕ) (i : ℕ) → i < k → (setAt rows i ≡ 0 → ⊥) → digit (leaders k rows) i ≡ 1
-unfolding leaders
-leaders-bit zero rows i l p = absurd (omega arith)
-leaders-bit (suc k) rows i l p =
-    ⊎-elim
-    (λ e. rw e (noted-there (leaders k rows) k (setAt rows k) (λ z. p (ap (setAt rows) e ∙ z))))
-    (λ n. noted-other (leaders k rows) k (setAt rows k) i n ∙ leaders-bit k rows i (omega arith) p)
-    (same-or-not i k)
+  pub positive-lt : k ≤ elements → positive k a < bound
+  positive-lt h = nonzero-lt at k h
+
+  pub positive-bit : (i : ℕ) → i < k → 0 < getD a i 0 → digit (positive k a) i ≡ 1
+  positive-bit i l p = nonzero-bit at k i l (λ z. omega arith)
+
+  pub positive-none : (i : ℕ) → getD a i 0 ≡ 0 → digit (positive k a) i ≡ 0
+  positive-none i z = nonzero-none at k i z
+
+  pub positive-is : (i : ℕ) → digit (positive k a) i ≡ 1 → 0 < getD a i 0
+  positive-is i e = ⊎-elim (λ z. absurd (omega (arith, positive-none i z))) (λ n. omega arith) (same-or-not (getD a i 0) 0)
 
 -- an element with units left leads on, or has none after it
 pub leads : (k : ℕ) (rows a : List ℕ) (i : ℕ) → digit (positive k a) i ≡ 1 → digit (leaders k rows) i ≡ 0 → setAt rows i ≡ 0
@@ -82,6 +90,6 @@ leads k rows a i e z =
     (λ n. n)
     (λ n.
     by-cases (decLt i k)
-    (λ l. absurd (omega (arith, leaders-bit k rows i l n)))
-    (λ g. absurd (omega (arith, positive-past k a i (omega arith)))))
+    (λ l. absurd (omega (arith, nonzero-bit (λ j. setAt rows j) k i l n)))
+    (λ g. absurd (omega (arith, nonzero-past (λ j. getD a j 0) k i (omega arith)))))
     (same-or-not (setAt rows i) 0)

@@ -1,4 +1,4 @@
--- The places of a list at which it is not 0, as a number. Assumes nothing.
+-- The places at which a list is not 0, as a number. Assumes nothing.
 use mathlib.Core.Bool.{cond}
 use mathlib.Core.List.{List}
 use Prim.Native.Nat.{ℕ, zero, suc}
@@ -10,7 +10,11 @@ use Rattle.words.specs.Bits.{withBit}
 abbrev pub noted : ℕ → ℕ → ℕ → ℕ
 noted w i n = cond (eqb n 0) w (withBit w i)
 
--- the places below k at which the list is not 0
-unfoldable pub positive : ℕ → List ℕ → ℕ
-positive zero a = 0
-positive (suc k) a = noted (positive k a) k (getD a k 0)
+-- the places below k at which a function is not 0
+unfoldable pub nonzero : ℕ → (ℕ → ℕ) → ℕ
+nonzero zero f = 0
+nonzero (suc k) f = noted (nonzero k f) k (f k)
+
+-- those of a list
+abbrev pub positive : ℕ → List ℕ → ℕ
+positive k a = nonzero k (λ i. getD a i 0)

@@ -22,7 +22,7 @@ abbrev μ-loop : tie.MeasureT-loop
 μ-loop a m low₀ high₀ i₀ low high i = 32 - i
 
 loop-holds : tie.Need-loop-holds Inv-loop μ-loop
-loop-holds c = (positive-none _, positive-none _, omega arith)
+loop-holds c = let a = c .args .a .now in (positive-none a, positive-none (drop 32 a), omega arith)
 
 loop-again : tie.Need-loop-again Inv-loop μ-loop
 loop-again c =
