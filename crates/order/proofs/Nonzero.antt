@@ -1,37 +1,93 @@
--- The places of a list that are not 0: those of its two halves together. Assumes nothing.
+-- The places at which a function is not 0, and those of a list: those of its two halves together. Assumes nothing.
 use mathlib.Core.Path.{_≡_, refl, sym, ap, _∙_}
 use mathlib.Core.Bool.{Bool, true, false, cond}
 use mathlib.Core.List.{List}
+use mathlib.Core.Logic.{⊎-elim}
 use Prim.Native.Nat.{ℕ, zero, suc, _+_, _-_, _*_, _%_, _^_, _≤_, _<_}
 use native.Mathlib.Nat.{mul-comm, add-suc, add-zero, zero-mul, zero-add}
+use native.Mathlib.Numerals.{add-one}
 use native.Mathlib.Omega.{arith}
 use lib.Bits.{bitOr, or-zero-r, or-block}
 use lib.Dec.{eqb}
 use lib.ListN.{drop, getD}
 use lib.Pow.{low, pow-add, pow-pos}
 use lib.Seq.{getD-drop}
-use Rattle.words.proofs.Bits.{with-lt}
-use Rattle.words.proofs.Tests.{cond-has}
+use borrow.Author.Tests.{eq-eqb, ne-eqb}
+use Rattle.words.specs.Bits.{digit, withBit}
+use Rattle.words.proofs.Bits.{digit-none, with-lt, with-there, with-other}
+use Rattle.words.proofs.Tests.{cond-true, cond-false, cond-has, same-or-not}
+use Rattle.order.specs.Stored.{bound, elements}
+use Rattle.order.proofs.Stored.{in-bound, to-bound, bound-pos}
 use Rattle.order.specs.model.Places.{noted, nonzero, positive}
 
 -- ---- one place
 
+module _ (w i n : ℕ) where
+  pub noted-none : n ≡ 0 → noted w i n ≡ w
+  noted-none z = cond-true w (withBit w i) (eq-eqb n 0 z)
+
+  pub noted-some : (n ≡ 0 → ⊥) → noted w i n ≡ withBit w i
+  noted-some z = cond-false w (withBit w i) (ne-eqb n 0 z)
+
+  noted-lt : i < elements → w < bound → noted w i n < bound
+  noted-lt h l = ⊎-elim (λ z. omega (arith, noted-none z)) (λ z. omega (arith, noted-some z, to-bound (with-lt w i elements h (in-bound l)))) (same-or-not n 0)
+
+  noted-there : (n ≡ 0 → ⊥) → digit (noted w i n) i ≡ 1
+  noted-there z = ap (λ (x : ℕ). digit x i) (noted-some z) ∙ with-there w i
+
+  noted-other : (x : ℕ) → (x ≡ i → ⊥) → digit (noted w i n) x ≡ digit w x
+  noted-other x d =
+      ⊎-elim
+      (λ z. ap (λ (y : ℕ). digit y x) (noted-none z))
+      (λ z. ap (λ (y : ℕ). digit y x) (noted-some z) ∙ with-other w i x d)
+      (same-or-not n 0)
+
+-- the places at which a function is not 0
+module _ (f : ℕ → ℕ) where
+  pub nonzero-start : 0 ≡ nonzero 0 f
+  unfolding nonzero
+  nonzero-start = refl
+
+  pub nonzero-more : (i w v : ℕ) → w ≡ nonzero i f → v ≡ noted w i (f i) → v ≡ nonzero (i + 1) f
+  unfolding nonzero
+  nonzero-more i w v e q = q ∙ ap (λ (x : ℕ). noted x i (f i)) e ∙ ap (λ (x : ℕ). nonzero x f) (sym (add-one i))
+
+  pub nonzero-lt : (k : ℕ) → k ≤ elements → nonzero k f < bound
+  unfolding nonzero
+  nonzero-lt zero h = bound-pos
+  nonzero-lt (suc k) h = noted-lt (nonzero k f) k (f k) (omega arith) (nonzero-lt k (omega arith))
+
+  pub nonzero-bit : (k i : ℕ) → i < k → (f i ≡ 0 → ⊥) → digit (nonzero k f) i ≡ 1
+  unfolding nonzero
+  nonzero-bit zero i l p = absurd (omega arith)
+  nonzero-bit (suc k) i l p =
+      ⊎-elim
+      (λ e. rw e (noted-there (nonzero k f) k (f k) (λ z. p (ap f e ∙ z))))
+      (λ n. noted-other (nonzero k f) k (f k) i n ∙ nonzero-bit k i (omega arith) p)
+      (same-or-not i k)
+
+  -- no member from k on
+  pub nonzero-past : (k i : ℕ) → k ≤ i → digit (nonzero k f) i ≡ 0
+  unfolding nonzero
+  nonzero-past zero i l = digit-none i
+  nonzero-past (suc k) i l = noted-other (nonzero k f) k (f k) i (λ e. omega arith) ∙ nonzero-past k i (omega arith)
+
+  pub nonzero-none : (k i : ℕ) → f i ≡ 0 → digit (nonzero k f) i ≡ 0
+  unfolding nonzero
+  nonzero-none zero i z = digit-none i
+  nonzero-none (suc k) i z =
+      ⊎-elim
+      (λ e. rw e (ap (λ (x : ℕ). digit x k) (noted-none (nonzero k f) k (f k) (sym (ap f e) ∙ z)) ∙ nonzero-past k k (omega arith)))
+      (λ n. noted-other (nonzero k f) k (f k) i n ∙ nonzero-none k i z)
+      (same-or-not i k)
+
+-- the same by a bit that is 0 where the entry is
 picked : (t : Bool) (w v : ℕ) → bitOr w (cond t 0 v) ≡ cond t w (bitOr w v)
 picked true w v = or-zero-r w
 picked false w v = refl
 
-next : (i : ℕ) → suc i ≡ i + 1
-next i = omega arith
-
-pub positive-none : (a : List ℕ) → 0 ≡ positive 0 a
-unfolding nonzero
-positive-none a = refl
-
 pub positive-more : (a : List ℕ) (i w d x : ℕ) → w ≡ positive i a → d ≡ cond (eqb x 0) 0 (2 ^ i) → x ≡ getD a i 0 → bitOr w d ≡ positive (i + 1) a
-unfolding nonzero
-positive-more a i w d x e q p =
-    ap (bitOr w) q ∙ picked (eqb x 0) w (2 ^ i) ∙ ap (λ (y : ℕ). noted w i y) p ∙ ap (λ (y : ℕ). noted y i (getD a i 0)) e
-    ∙ ap (λ (n : ℕ). positive n a) (next i)
+positive-more a i w d x e q p = nonzero-more (λ j. getD a j 0) i w (bitOr w d) e (ap (bitOr w) q ∙ picked (eqb x 0) w (2 ^ i) ∙ ap (λ (y : ℕ). noted w i y) p)
 
 -- ---- halves
 

@@ -16,7 +16,7 @@ use Rattle.solver.specs.model.Search.{Look}
 use Rattle.solver.specs.declared.Quoted.{Quoted}
 use Rattle.solver.specs.declared.Leads.{Leads}
 use Rattle.solver.specs.model.Search.{low, marks, Seen, seen, visit, reached, fresh, found, onward, advance, begun, reach}
-use Rattle.order.specs.model.Places.{noted, nonzero, positive}
+use Rattle.order.specs.model.Places.{positive}
 use Rattle.solver.specs.model.Network.{Network, network, wrap, cell, giver, leaders, joined, shifted, walk, handing, augmented}
 use Rattle.solver.specs.model.Solve.{blanks, blankRows, Round, round, solved, rankOf, rankedAt, ranked, leadsOf, handRank, started, sought, rounded, next, settle}
 use Rattle.solver.specs.model.Quote.{unused, copied, outcome, amount, told, quoted, quoteIn, flowIn}
@@ -145,18 +145,6 @@ module _ (i : ℕ) (s : Network) where
 
   pub hands-spent : getD (s .left) i 0 ≡ 0 → (j : ℕ) → handing i s j ≡ s
   hands-spent z j = sym (hands-none j refl (omega arith))
-
--- ---- the elements that have some after them
-
-pub leaders-none : (rows : List ℕ) → 0 ≡ leaders 0 rows
-unfolding nonzero
-leaders-none rows = refl
-
-pub leaders-more : (rows : List ℕ) (i w v : ℕ) → w ≡ leaders i rows → v ≡ noted w i (setAt rows i) → v ≡ leaders (i + 1) rows
-unfolding nonzero
-leaders-more rows i w v e q = q ∙ ap (λ (x : ℕ). noted x i (setAt rows i)) e ∙ ap (λ (x : ℕ). leaders x rows) (sym (add-one i))
-
--- ---- the start
 
 pub rank-none : (row i : ℕ) (b : List ℕ) → row ≡ 0 → b ≡ rankedAt row i b
 rank-none row i b z = sym (cond-true _ _ (eq-eqb row 0 z))

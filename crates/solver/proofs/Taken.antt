@@ -24,7 +24,7 @@ use Rattle.solver.proofs.StartState.{untouched-linked, unused-long}
 use Rattle.solver.proofs.Cleared.{set-zero}
 use Rattle.solver.proofs.Kept.{solved-keeps}
 use Rattle.solver.proofs.Linked.{Linked, joined-linked, shifted-linked}
-use Rattle.solver.proofs.Positive.{nonzero-bit}
+use Rattle.order.proofs.Nonzero.{nonzero-bit}
 
 -- ---- a loop over members that makes something so, and keeps it so
 

@@ -6,12 +6,12 @@ use Prim.Native.Nat.{ℕ, _+_, _*_, _%_, _^_, _≤_, _-_}
 use native.Mathlib.Nat.{mod-eq-of-lt}
 use native.Mathlib.Omega.{arith}
 use lib.Bits.{bitOr, or-shifted}
-use lib.ListN.{drop}
+use lib.ListN.{drop, getD}
 use lib.Seq.{getD-drop}
 use borrow.Author.Needs.{needs}
 use Rattle.order.specs.Stored.{elements}
 use Rattle.order.specs.model.Places.{positive}
-use Rattle.order.proofs.Nonzero.{positive-none, positive-more, positive-fits, positive-cat, positive-first}
+use Rattle.order.proofs.Nonzero.{nonzero-start, positive-more, positive-fits, positive-cat, positive-first}
 use Rattle.order.proofs.halves.places_word.Statement.{statement}
 use Rattle.order.proofs.halves.places_word.Tie as tie
 
@@ -22,7 +22,7 @@ abbrev μ-loop : tie.MeasureT-loop
 μ-loop a m low₀ high₀ i₀ low high i = 32 - i
 
 loop-holds : tie.Need-loop-holds Inv-loop μ-loop
-loop-holds c = let a = c .args .a .now in (positive-none a, positive-none (drop 32 a), omega arith)
+loop-holds c = let a = c .args .a .now in (nonzero-start (λ i. getD a i 0), nonzero-start (λ i. getD (drop 32 a) i 0), omega arith)
 
 loop-again : tie.Need-loop-again Inv-loop μ-loop
 loop-again c =
