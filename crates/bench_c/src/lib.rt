@@ -61,7 +61,8 @@ pub extern "C" fn yaffledesk_bench_weigh(
     requires { ⌜ (m ≤ elements) × (now ranks ≡ ranked m (now rows)) × (now flow ≡ unused) ⌝ }
     ensures { λ r. ⌜ (r ≡ quoteIn m (now (rows .entry)) (now (demand .entry)) .need) × (now (set .exit) ≡ setNumber (quoteIn m (now (rows .entry)) (now (demand .entry)) .set) % 2 ^ 64) × (now (flow .exit) ≡ unused) ⌝ }
 {
-    let w = solver::weigh_ranked(rows, ranks, m, demand, flow);
+    let leads = solver::leads_of(rows, ranks, m);
+    let w = solver::weigh_ranked(rows, ranks, leads, m, demand, flow);
     let heaviest = w.set;
     let bits = heaviest.first_word();
     *set = bits;

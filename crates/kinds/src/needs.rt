@@ -29,10 +29,11 @@ pub fn put_needs(out: &mut [u32], order: Order, m: usize, demand: &[u32; 8 * ELE
 {
     let rows = order.after_rows();
     let ranks = solver::ranks(&rows, m);
+    let leads = solver::leads_of(&rows, &ranks, m);
     let mut flow: [u32; ELEMENTS * ELEMENTS] = [0; ELEMENTS * ELEMENTS];
     for k in 0..n {
         let own = demands_for(demand, k);
-        let quoted = solver::weigh_ranked(&rows, &ranks, m, &own, &mut flow);
+        let quoted = solver::weigh_ranked(&rows, &ranks, leads, m, &own, &mut flow);
         out[k] = quoted.need;
     }
 }
@@ -50,10 +51,11 @@ pub fn lowest_overload(
 {
     let rows = order.after_rows();
     let ranks = solver::ranks(&rows, m);
+    let leads = solver::leads_of(&rows, &ranks, m);
     let mut flow: [u32; ELEMENTS * ELEMENTS] = [0; ELEMENTS * ELEMENTS];
     for k in 0..n {
         let own = demands_for(demand, k);
-        let quoted = solver::weigh_ranked(&rows, &ranks, m, &own, &mut flow);
+        let quoted = solver::weigh_ranked(&rows, &ranks, leads, m, &own, &mut flow);
         let set = quoted.set;
         let need = quoted.need;
         let limit = available[k];

@@ -18,7 +18,8 @@ use Rattle.words.proofs.Bits.{bit-above, bit-or, bit-zero}
 use Rattle.order.specs.Before.{Before, last}
 use Rattle.order.specs.Arcs.{Drawn}
 use Rattle.order.specs.Stored.{cells, row, rowTable, RowsFit}
-use Rattle.order.specs.Rows.{after, Represents, passed, passing, endsIn, passingOver}
+use Rattle.order.specs.Rows.{after, Represents}
+use Rattle.order.specs.model.Warshall.{passed, passing, endsIn, passingOver}
 use Rattle.order.proofs.Before.{before-trans, before-least}
 use Rattle.order.proofs.Represents.{after-past, bit-cond}
 use Rattle.order.proofs.Stored.{row-table, length-rows, rows-updated, row-fit, fit-table}

@@ -1,28 +1,71 @@
 -- Rows that are extended by further arcs, each that they do not hold yet: they represent the order of all the arcs together. For any n.
 -- Assumes nothing.
 use mathlib.Core.Path.{_≡_, refl, sym, ap, _∙_, subst}
-use mathlib.Core.Bool.{Bool, true, false, not, _&&_, and-true, cond}
+use mathlib.Core.Bool.{Bool, true, false, not, _&&_, _||_, and-true, cond}
 use mathlib.Core.List.{List}
-use mathlib.Core.Logic.{_⊎_, inl, inr, ⊎-elim, _↔_, Iff·symm}
+use mathlib.Core.Logic.{_⊎_, inl, inr, ⊎-elim, _↔_, _≢_, Iff·symm}
 use Prim.Native.Nat.{ℕ, zero, suc, _-_, _^_, _≤_, _<_}
 use native.Mathlib.Nat.{eq-or-lt-of-le, le-of-suc-le-suc}
 use native.Mathlib.Omega.{arith}
-use lib.Bits.{bitAnd}
+use lib.Bits.{bitAnd, bitOr}
 use lib.Dec.{eqb}
+use lib.ListN.{length}
 use Rattle.words.specs.Bits.{bit, minus, rest}
 use Rattle.words.specs.Members.{first}
 use Rattle.words.specs.model.Loops.{each, upto}
-use Rattle.words.proofs.Tests.{clash, fails, by-test, and-both, and-right, or-left, or-right, false-of-not, eqb-says, cond-true, cond-false, cond-has}
-use Rattle.words.proofs.Bits.{bit-zero, bit-and, bit-minus}
+use Rattle.words.proofs.Tests.{clash, fails, by-test, and-both, and-right, or-left, or-right, false-of-not, eqb-says, cond-true, cond-false, cond-has, at-or-other}
+use Rattle.words.proofs.Bits.{bit-zero, bit-or, bit-and, bit-minus, bit-same}
 use Rattle.words.proofs.Members.{low-member, bit-rest}
 use Rattle.words.proofs.Loops.{each-more, each-upto}
 use Rattle.words.proofs.Kept.{upto-keeps}
 use Rattle.order.specs.Before.{Before, Joined}
 use Rattle.order.specs.Arcs.{With, Drawn}
-use Rattle.order.specs.Stored.{row}
-use Rattle.order.specs.Rows.{after, Represents, grow, grown, growFrom, growBy}
+use Rattle.order.specs.Stored.{cells, row, putRow}
+use Rattle.order.specs.Rows.{after, Represents, gain, gained, grow}
+use Rattle.order.specs.model.Growing.{grown, growFrom, growBy}
+use Rattle.order.specs.model.Warshall.{passed, gaining}
+use Rattle.order.proofs.Stored.{length-put, row-put-same, row-put-other, rows-updated, row-tables}
 use Rattle.order.proofs.Before.{before-same, before-implied}
 use Rattle.order.proofs.Represents.{represents-same, after-grow, grow-represents}
+
+-- ---- how code adds an arc: x gains, and then what is before x
+
+twice : (a b : Bool) → (a || b) || b ≡ a || b
+twice true b = refl
+twice false true = refl
+twice false false = refl
+
+module _ (n : ℕ) (rows : List ℕ) (long : length rows ≡ cells n) (x y : ℕ) (h : x < n) where
+  pub gaining-grow : gaining n x (gain rows y) rows ≡ grow n rows x y
+  unfolding grow
+  gaining-grow = rows-updated (λ i w. passed x g w) n put (length-put rows x (bitOr (row rows x) g) ∙ long) ∙ row-tables n (λ i. passed x g (row put i)) (λ i. gained x g i (row rows i)) same
+    where
+      g : ℕ
+      g = gain rows y
+
+      put : List ℕ
+      put = putRow rows x (bitOr (row rows x) g)
+
+      again : (w : ℕ) → bitOr (bitOr w g) g ≡ bitOr w g
+      again w =
+          bit-same (bitOr (bitOr w g) g) (bitOr w g)
+          (λ j. bit-or (bitOr w g) g j ∙ ap (λ (b : Bool). b || bit g j) (bit-or w g j) ∙ twice (bit w j) (bit g j) ∙ sym (bit-or w g j))
+
+      same : (i : ℕ) → i < n → passed x g (row put i) ≡ gained x g i (row rows i)
+      same i l = at-or-other (λ k. passed x g (row put k) ≡ gained x g k (row rows k)) x i here there
+        where
+          here : passed x g (row put x) ≡ gained x g x (row rows x)
+          here =
+              ap (passed x g) (row-put-same n rows x (bitOr (row rows x) g) long h)
+              ∙ cond-has (λ v. v ≡ bitOr (row rows x) g) (bit (bitOr (row rows x) g) x) (bitOr (bitOr (row rows x) g) g) (bitOr (row rows x) g) (λ _. again (row rows x)) (λ _. refl)
+              ∙ sym (cond-true (bitOr (row rows x) g) (row rows x) (or-left (eqb x x) (bit (row rows x) x) (eqb-says x x .1 refl)))
+
+          there : i ≢ x → passed x g (row put i) ≡ gained x g i (row rows i)
+          there d =
+              ap (passed x g) (row-put-other rows x i (bitOr (row rows x) g) d)
+              ∙ sym (ap (λ (t : Bool). cond (t || bit (row rows i) x) (bitOr (row rows i) g) (row rows i)) (fails (eqb i x) (λ e. d (eqb-says i x .0 e))))
+
+-- ---- the arcs that the rows do not hold yet
 
 -- no member of w is held from x yet
 abbrev pub Fresh : ℕ → List ℕ → ℕ → Type 0

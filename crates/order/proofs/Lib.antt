@@ -9,3 +9,4 @@ pub mod Closure
 pub mod Arcs
 pub mod Growing
 pub mod Orders
+pub mod Nonzero

@@ -13,7 +13,8 @@ use Rattle.words.proofs.Tests.{clash, or-says}
 use Rattle.order.specs.Before.{Before, Joined, Acyclic}
 use Rattle.order.specs.Arcs.{With, NoArc, StrictOrder, Within, Drawn, Arc, arc, _∈_, In}
 use Rattle.order.specs.Stored.{elements, bound, numberOf, cells, row, RowsFit}
-use Rattle.order.specs.Rows.{after, Represents, grow, rowsOf, arcsIn, endsIn, passingOver}
+use Rattle.order.specs.Rows.{after, Represents, grow, rowsOf, arcsIn}
+use Rattle.order.specs.model.Warshall.{endsIn, passingOver}
 use Rattle.order.specs.Sets.{member}
 use Rattle.order.specs.Orders.{OrderOf, isBefore, afterOf, afterRows, emptyOrder, extended, circleOf, orderOf, Direct, orderIn, extendedBy, joinedRows}
 use Rattle.order.specs.declared.Order.{Order}

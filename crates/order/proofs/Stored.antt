@@ -11,9 +11,9 @@ use lib.Seq.{ext-getD, getD-set-same, getD-set-other}
 use Rattle.words.specs.Bits.{wordBits, bit, digit}
 use Rattle.words.proofs.Bits.{bit-one, digit-not, digit-none}
 use Rattle.words.specs.model.Loops.{upto}
-use Rattle.words.proofs.Tables.{updated, length-table, getD-table, getD-zeros}
+use Rattle.words.proofs.Tables.{updated, length-table, getD-table, table-same, getD-zeros}
 use Rattle.order.specs.Stored.{elements, bound, everyone, allSet, noSet, numberOf, setOf, cells, row, putRow, rowTable, RowsFit}
-use Rattle.order.specs.Rows.{updateRow}
+use Rattle.order.specs.model.Warshall.{updateRow}
 use Rattle.order.specs.declared.Set.{Set}
 
 -- ---- the bound of the numbers of sets, for laws that speak of the number of digits
@@ -61,6 +61,11 @@ everyone-bit i h = all-ones elements i h
 pub number-of : (s : Set) {w : ℕ} → s ≡ setOf w → numberOf s ≡ w
 number-of s {w} e = ap numberOf e ∙ number-set w
 
+-- and a set is known by its number
+pub set-of : (s : Set) {w : ℕ} → numberOf s ≡ w → s ≡ setOf w
+unfolding numberOf setOf
+set-of s e = ap setOf e
+
 -- ---- a table of sets
 
 -- there is nothing past the last row
@@ -90,6 +95,10 @@ module _ (n : ℕ) (f : ℕ → ℕ) where
   pub row-table : (i : ℕ) → i < n → row (rowTable n f) i ≡ f i
   unfolding rowTable row
   row-table i h = getD-table n f i 0 h
+
+pub row-tables : (n : ℕ) (f g : ℕ → ℕ) → ((i : ℕ) → i < n → f i ≡ g i) → rowTable n f ≡ rowTable n g
+unfolding rowTable
+row-tables n f g same = table-same n f g same
 
 -- a loop that makes each row anew
 pub rows-updated : (f : ℕ → ℕ → ℕ) (n : ℕ) (old : List ℕ) → length old ≡ cells n → upto (updateRow f) n old ≡ rowTable n (λ i. f i (row old i))

@@ -6,7 +6,8 @@ use lib.Bits.{bitOr}
 use lib.ListN.{replicate}
 use Rattle.order.specs.Arcs.{Arc, Drawn}
 use Rattle.order.specs.Stored.{elements, cells, row, rowTable, setOf}
-use Rattle.order.specs.Rows.{after, Represents, grow, growBy, arcsIn, circleIn}
+use Rattle.order.specs.Rows.{after, Represents, grow, arcsIn, circleIn}
+use Rattle.order.specs.model.Growing.{growBy}
 use Rattle.order.specs.declared.Set.{Set}
 use Rattle.order.specs.declared.Order.{Order}
 

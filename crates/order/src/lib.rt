@@ -1,15 +1,19 @@
 // Which element comes before which, and sets of elements.
 ghost use mathlib.Core.Path.{_≡_};
 ghost use lib.Dec.{eqb};
-ghost use Prim.Native.Nat.{_%_, _^_, _<_};
+ghost use Prim.Native.Nat.{_%_, _^_, _≤_, _<_};
 ghost use Rattle.order.specs.Stored.{elements, bound, row, putRow, setOf, numberOf};
 ghost use Rattle.order.specs.Sets.{member, emptySet, withElement, withoutElement, unionOf, meetOf, minusOf, sizeOf, lowestOf, withoutLowest};
-ghost use Rattle.order.specs.Rows.{grow, growFrom};
+ghost use Rattle.order.specs.model.Warshall.{passed};
+ghost use Rattle.order.specs.model.Places.{positive};
 ghost use Rattle.order.specs.Orders.{emptyOrder, extended, extendedBy, isBefore, afterOf, afterRows, circleOf, orderIn, joinedRows};
+use halves::places_word;
+use transitive::add_row;
 use transitive::ends_of;
 use transitive::gain_all;
 use transitive::pass_over;
 
+mod halves;
 mod transitive;
 
 // How many elements there are.
@@ -105,6 +109,18 @@ impl Set {
         }
     }
 
+    // The set, with all of `gain` where it has the member k. (In place of a jump, a word of equal digits picks what is gained: this is what the
+    // loops over rows do at each row.)
+    fn with_pass(self, k: usize, gain: Set) -> Set
+        requires { ⌜ k < elements ⌝ }
+        ensures { λ r. ⌜ numberOf r ≡ passed k (numberOf gain) (numberOf self) ⌝ }
+    {
+        let all = std::num::wrapping_sub_u64(0, (self.word >> k) % 2);
+        Set {
+            word: self.word | (gain.word & all),
+        }
+    }
+
     // The elements 0 to 63, as a word: bit i stands for the element i.
     pub fn first_word(self) -> u64
         ensures { λ r. ⌜ r ≡ numberOf self % 2 ^ 64 ⌝ }
@@ -137,6 +153,16 @@ impl Set {
         Set {
             word: words::without_lowest(word),
         }
+    }
+}
+
+// Those of the m first places of a list at which it is not 0.
+pub fn places(a: &[u32; ELEMENTS], m: usize) -> Set
+    requires { ⌜ m ≤ elements ⌝ }
+    ensures { λ r. ⌜ numberOf r ≡ positive m (now (a .entry)) ⌝ }
+{
+    Set {
+        word: places_word(a, m),
     }
 }
 
@@ -240,31 +266,6 @@ impl Order {
             pass_over(&mut rows, ends, k);
         }
         Order { rows }
-    }
-}
-
-// The rows of an order become those of the order with one arc more.
-fn add_arc(rows: &mut Rows, from: usize, to: usize)
-    requires { ⌜ (from < elements) × (to < elements) ⌝ }
-    ensures { λ _. ⌜ now (rows .exit) ≡ grow elements (now (rows .entry)) from to ⌝ }
-{
-    let o = Order { rows: *rows };
-    let whole = o.with_arc(from, to);
-    let new = whole.rows;
-    *rows = new;
-}
-
-// The same, with the arcs from i to each member of `to` that it does not hold yet. (What an arc leads to is held when it is added: that is
-// passed over as a set. An order is copied for each arc that is new, and not for each that is held.)
-fn add_row(rows: &mut Rows, i: usize, to: Set)
-    requires { ⌜ i < elements ⌝ }
-    ensures { λ _. ⌜ now (rows .exit) ≡ growFrom elements (now (rows .entry)) i (numberOf to) ⌝ }
-{
-    let mut w = to.minus(row(rows, i));
-    while !w.is_empty() {
-        let j = w.lowest();
-        add_arc(rows, i, j);
-        w = w.minus(row(rows, i));
     }
 }
 

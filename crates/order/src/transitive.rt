@@ -1,44 +1,36 @@
-// Rows that stay transitive while they gain: what an arc adds to them, and what a way through an element does.
+// Rows that stay transitive while they gain: what an arc adds to them, and what a way through an element does; and an order's rows, with further arcs.
 ghost use mathlib.Core.Path.{_≡_};
 ghost use Prim.Native.Nat.{_<_};
-ghost use Rattle.words.specs.model.Loops.{upto};
 ghost use Rattle.order.specs.Stored.{elements, numberOf};
-ghost use Rattle.order.specs.Rows.{gained, updateRow, passed, passing, endsIn, passingOver};
+ghost use Rattle.order.specs.Rows.{grow};
+ghost use Rattle.order.specs.model.Growing.{growFrom};
+ghost use Rattle.order.specs.model.Warshall.{passingBy, gaining, passing, endsIn, passingOver};
 use crate::ELEMENTS;
+use crate::Order;
 use crate::Rows;
 use crate::Set;
 use crate::put_row;
 use crate::row;
 
-// A row, where what is before k becomes before all of `gain`.
-fn with_pass(row: Set, k: usize, gain: Set) -> Set
+// What is before k becomes before all of `gain`.
+fn pass_by(rows: &mut Rows, k: usize, gain: Set)
     requires { ⌜ k < elements ⌝ }
-    ensures { λ r. ⌜ numberOf r ≡ passed k (numberOf gain) (numberOf row) ⌝ }
+    ensures { λ _. ⌜ now (rows .exit) ≡ passingBy elements k (numberOf gain) (now (rows .entry)) ⌝ }
 {
-    if row.has(k) { row.union(gain) } else { row }
-}
-
-// The row of the element i, where x and what is before x become before all of `gain`.
-fn with_gain(row: Set, i: usize, x: usize, gain: Set) -> Set
-    requires { ⌜ x < elements ⌝ }
-    ensures { λ r. ⌜ numberOf r ≡ gained x (numberOf gain) i (numberOf row) ⌝ }
-{
-    if i == x {
-        row.union(gain)
-    } else {
-        with_pass(row, x, gain)
+    for i in 0..ELEMENTS {
+        let r = row(rows, i).with_pass(k, gain);
+        put_row(rows, i, r);
     }
 }
 
 // x and what is before x become before all of `gain`.
 pub fn gain_all(rows: &mut Rows, x: usize, gain: Set)
     requires { ⌜ x < elements ⌝ }
-    ensures { λ _. ⌜ now (rows .exit) ≡ upto (updateRow (gained x (numberOf gain))) elements (now (rows .entry)) ⌝ }
+    ensures { λ _. ⌜ now (rows .exit) ≡ gaining elements x (numberOf gain) (now (rows .entry)) ⌝ }
 {
-    for i in 0..ELEMENTS {
-        let r = with_gain(row(rows, i), i, x, gain);
-        put_row(rows, i, r);
-    }
+    let r = row(rows, x).union(gain);
+    put_row(rows, x, r);
+    pass_by(rows, x, gain);
 }
 
 // Whatever is before k becomes before all that k is before.
@@ -47,10 +39,7 @@ fn pass(rows: &mut Rows, k: usize)
     ensures { λ _. ⌜ now (rows .exit) ≡ passing elements k (now (rows .entry)) ⌝ }
 {
     let gain = row(rows, k);
-    for i in 0..ELEMENTS {
-        let r = with_pass(row(rows, i), k, gain);
-        put_row(rows, i, r);
-    }
+    pass_by(rows, k, gain);
 }
 
 // The elements at which an arc ends.
@@ -74,5 +63,30 @@ pub fn pass_over(rows: &mut Rows, ends: Set, k: usize)
     }
     if ends.has(k) {
         pass(rows, k);
+    }
+}
+
+// The rows of an order become those of the order with one arc more.
+fn add_arc(rows: &mut Rows, from: usize, to: usize)
+    requires { ⌜ (from < elements) × (to < elements) ⌝ }
+    ensures { λ _. ⌜ now (rows .exit) ≡ grow elements (now (rows .entry)) from to ⌝ }
+{
+    let o = Order { rows: *rows };
+    let whole = o.with_arc(from, to);
+    let new = whole.rows;
+    *rows = new;
+}
+
+// The same, with the arcs from i to each member of `to` that it does not hold yet. (What an arc leads to is held when it is added: that is
+// passed over as a set. An order is copied for each arc that is new, and not for each that is held.)
+pub fn add_row(rows: &mut Rows, i: usize, to: Set)
+    requires { ⌜ i < elements ⌝ }
+    ensures { λ _. ⌜ now (rows .exit) ≡ growFrom elements (now (rows .entry)) i (numberOf to) ⌝ }
+{
+    let mut w = to.minus(row(rows, i));
+    while !w.is_empty() {
+        let j = w.lowest();
+        add_arc(rows, i, j);
+        w = w.minus(row(rows, i));
     }
 }

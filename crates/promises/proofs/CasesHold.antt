@@ -22,7 +22,8 @@ use Rattle.schedule.specs.model.Arrays.{startsOf}
 use Rattle.flow_math.specs.Heaviest.{heaviest, needOf}
 use Rattle.flow_math.specs.Crew.{occupied}
 use Rattle.solver.specs.model.Search.{advance}
-use Rattle.solver.specs.model.Network.{giver, positive, leaders, joined, shifted, handing}
+use Rattle.order.specs.model.Places.{nonzero}
+use Rattle.solver.specs.model.Network.{giver, joined, shifted, handing}
 use Rattle.solver.specs.model.Solve.{blanks, blankRows, ranked, started, rounded, solved}
 use Rattle.solver.specs.model.Quote.{unused, copied, outcome, amount, quoteIn}
 use Rattle.kinds.specs.Needs.{demandsFor}
@@ -38,7 +39,7 @@ use Rattle.promises.specs.Ours.{ours}
 use Rattle.promises.specs.Cases.{Cases}
 
 pub cases : Cases ours
-unfolding row putRow rowTable cells numberOf setOf digit bit each run upto first members count sum maximum table grow arcsFrom arcsIn circleIn extended circleOf orderOf orderIn joinedRows afterRows field zeros bytes overloadRecord leading activityFields crewFields arcFields fileDuration fileDemand fileKinds fileAvailable durationsOf demandsOf demandTable availableOf withArc arcsAfter arcsUpTo planOf rule activityCause crewCause arcCause causeAt firstRefusal recordsCause isLength answerOf readOf asked rounds earliestOf endOf brokenTo brokenFrom occupied lowestKind lastFinish quiet firstPeriod checkOf startsOf heaviest needOf advance giver positive leaders joined shifted handing blanks blankRows ranked started rounded solved unused copied outcome amount quoteIn demandsFor readFault faultOf lentAfter needFor overKind isOverloaded overCause verdictFault needsFault needNumbers needsOut startsFault startsOut startNumbers withEnd overloadFault overCount overBytes overloadOut someZero badLists crewCheckFault crewFound
+unfolding row putRow rowTable cells numberOf setOf digit bit each run upto first members count sum maximum table grow arcsFrom arcsIn circleIn extended circleOf orderOf orderIn joinedRows afterRows field zeros bytes overloadRecord leading activityFields crewFields arcFields fileDuration fileDemand fileKinds fileAvailable durationsOf demandsOf demandTable availableOf withArc arcsAfter arcsUpTo planOf rule activityCause crewCause arcCause causeAt firstRefusal recordsCause isLength answerOf readOf asked rounds earliestOf endOf brokenTo brokenFrom occupied lowestKind lastFinish quiet firstPeriod checkOf startsOf heaviest needOf advance giver nonzero joined shifted handing blanks blankRows ranked started rounded solved unused copied outcome amount quoteIn demandsFor readFault faultOf lentAfter needFor overKind isOverloaded overCause verdictFault needsFault needNumbers needsOut startsFault startsOut startNumbers withEnd overloadFault overCount overBytes overloadOut someZero badLists crewCheckFault crewFound
 cases =
     record {
       a-accepted = refl;

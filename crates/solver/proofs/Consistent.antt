@@ -30,10 +30,10 @@ module _ (m : ℕ) (hm : m ≤ elements) (d : ℕ → ℕ) (small : (p : ℕ) �
         ordered = rounded-ordered rows m hm s (f .linked .fit) (f .ordered);
       }
 
-  pub start-consistent : (b : List ℕ) (s : Network) → Consistent d rows s → Consistent d rows (started m rows b s)
+  pub start-consistent : (b : List ℕ) (s : Network) → Consistent d rows s → Consistent d rows (started rows b s)
   start-consistent b s f =
       record {
-        balanced = started-keeps (Balanced d) joins shifts m rows b s (f .balanced);
-        linked = started-keeps Linked joined-linked shifted-linked m rows b s (f .linked);
-        ordered = started-ordered rows m b s (f .ordered);
+        balanced = started-keeps (Balanced d) joins shifts rows b s (f .balanced);
+        linked = started-keeps Linked joined-linked shifted-linked rows b s (f .linked);
+        ordered = started-ordered rows b s (f .ordered);
       }

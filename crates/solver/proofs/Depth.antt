@@ -18,7 +18,8 @@ use Rattle.words.proofs.Tests.{cond-false, cond-true}
 use Rattle.order.proofs.Stored.{in-bound}
 use Rattle.order.specs.Stored.{bound, elements, row as setAt}
 use Rattle.solver.specs.model.Search.{Reached, Seen, advance, begun, ended, found, fresh, low, marks, onward, reach, reached, seen, visit}
-use Rattle.solver.specs.model.Network.{Network, leaders, positive}
+use Rattle.order.specs.model.Places.{positive}
+use Rattle.solver.specs.model.Network.{Network, leaders}
 use Rattle.solver.specs.model.Solve.{blanks, sought}
 use Rattle.solver.proofs.Positive.{leads, positive-lt}
 use Rattle.solver.proofs.Digits.{low-digit, or-sub}
@@ -290,5 +291,5 @@ module _ (rows givers : List ℕ) (roots slack : ℕ) (fit : Fit givers) (few : 
 pub sought-depth : (m : ℕ) → m ≤ elements → (rows : List ℕ) (s : Network) → Fit (s .givers)
     → Tree rows (s .givers) (sought m rows s) × Depth (positive m (s .left)) (positive m (s .right)) (sought m rows s)
 sought-depth m hm rows s fit =
-    reach-depth rows (s .givers) (positive m (s .left)) (positive m (s .right)) fit (positive-lt m hm (s .right)) (leaders m rows) (λ i h. leads m rows (s .left) i) elements
-    (positive-lt m hm (s .left))
+    reach-depth rows (s .givers) (positive m (s .left)) (positive m (s .right)) fit (positive-lt m (s .right) hm) (leaders m rows) (λ i h. leads m rows (s .left) i) elements
+    (positive-lt m (s .left) hm)

@@ -13,7 +13,8 @@ use Rattle.words.proofs.Tests.{same-or-not}
 use Rattle.order.specs.Stored.{elements, row as setAt}
 use Rattle.order.specs.Rows.{after}
 use Rattle.flow_math.specs.Handover.{Closed, Handover}
-use Rattle.solver.specs.model.Network.{Network, handed, leaders, positive}
+use Rattle.order.specs.model.Places.{positive}
+use Rattle.solver.specs.model.Network.{Network, handed, leaders}
 use Rattle.solver.specs.model.Solve.{Round, blanks, next, round, rounded, settled, solved, sought, started}
 use Rattle.solver.proofs.Positive.{leads, positive-bit, positive-lt}
 use Rattle.solver.proofs.Certificate.{Fit, Shut, certificate}
@@ -64,8 +65,8 @@ pub record Last (m : ℕ) (d : ℕ → ℕ) (rows : List ℕ) (x : Round) : Type
 
 sought-shut : (m : ℕ) → m ≤ elements → (rows : List ℕ) (s : Network) → Fit (s .givers) → elements ≤ sought m rows s .search .at → ShutRound m rows (round s (sought m rows s .search))
 sought-shut m hm rows s fit h =
-    certificate rows (s .givers) (leaders m rows) (positive m (s .left)) (positive m (s .right)) (λ i h. leads m rows (s .left) i) fit (positive-lt m hm (s .right)) (blanks elements) (blanks 0)
-    (sought m rows s) refl (positive-lt m hm (s .left)) h
+    certificate rows (s .givers) (leaders m rows) (positive m (s .left)) (positive m (s .right)) (λ i h. leads m rows (s .left) i) fit (positive-lt m (s .right) hm) (blanks elements) (blanks 0)
+    (sought m rows s) refl (positive-lt m (s .left) hm) h
 
 rounded-shut : (m : ℕ) → m ≤ elements → (rows : List ℕ) (s : Network) → Fit (s .givers) → elements ≤ rounded m rows s .search .at → ShutRound m rows (rounded m rows s)
 rounded-shut m hm rows s fit h =
@@ -81,4 +82,4 @@ module _ (m : ℕ) (hm : m ≤ elements) (d : ℕ → ℕ) (small : (p : ℕ) �
   solved-last n b s f =
       run-keeps (Last m d rows) (Last m d rows) settled (λ y. y) (λ y. y) (next m rows)
       (λ x e p. round-last (x .now) (p .consistent)) (λ x e p. p) (λ x p. p)
-      n (rounded m rows (started m rows b s)) (round-last (started m rows b s) (start-consistent m hm d small rows b s f))
+      n (rounded m rows (started rows b s)) (round-last (started rows b s) (start-consistent m hm d small rows b s f))

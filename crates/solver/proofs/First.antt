@@ -23,7 +23,8 @@ use Rattle.flow_math.specs.Handover.{total, Handover}
 use Rattle.flow_math.proofs.First.{handover-first, total-first}
 use Rattle.flow_math.proofs.Flow as Flows
 use Rattle.flow_math.proofs.Need.{needOf-extend, weight-extend}
-use Rattle.solver.specs.model.Network.{handed, positive}
+use Rattle.order.specs.model.Places.{positive}
+use Rattle.solver.specs.model.Network.{handed}
 use Rattle.solver.specs.model.Quote.{chosen, flowOf, outcome, quoteIn, quoteOf}
 use Rattle.solver.specs.Sound.{Plan, Sound, asked}
 use Rattle.solver.proofs.QuoteSound.{sound}
@@ -58,7 +59,7 @@ pub set-small : (m : ℕ) → m ≤ elements → (o : Order) (demand : List ℕ)
 unfolding quoteIn
 set-small m hm o demand =
     let q = outcome m (afterRows o) demand .search in
-    rw (number-set (chosen m q demand)) (lt-of-le-of-lt (and-le-r (minus (q .left) (q .right)) (positive m demand)) (positive-lt m hm demand))
+    rw (number-set (chosen m q demand)) (lt-of-le-of-lt (and-le-r (minus (q .left) (q .right)) (positive m demand)) (positive-lt m demand hm))
 
 pub set-within : (m : ℕ) (o : Order) (demand : List ℕ) → Plan m o demand → (i : ℕ) → member (quoteOf m o demand .set) i ≡ true → (i < m) × (0 < asked demand i)
 set-within m o demand P i h =

@@ -4,11 +4,11 @@ use Prim.Native.Nat.{ℕ, _<_, min}
 use lib.Dec.{eqb, ltb}
 use lib.ListN.{getD}
 use borrow.Author.Tests.{leb-false, ltb-true}
-use Rattle.words.proofs.Kept.{each-keeps, run-keeps, upto-keeps}
+use Rattle.words.proofs.Kept.{each-keeps, run-keeps}
 use Rattle.words.proofs.Tests.{cond-has}
 use Rattle.order.specs.Stored.{elements, row as setAt}
 use Rattle.solver.proofs.Digits.{masked}
-use Rattle.solver.specs.model.Network.{Network, Walk, atRoot, augmented, back, handing, joined, parent, rooted, shifted, source, walk}
+use Rattle.solver.specs.model.Network.{Network, Walk, atRoot, augmented, back, handing, joined, leaders, parent, rooted, shifted, source, walk}
 use Rattle.solver.specs.model.Solve.{handOver, handRank, next, rounded, settled, solved, sought, started}
 
 module _ (P : Network → Type 0) (joins : (s : Network) (i j : ℕ) → i < elements → j < elements → P s → P (joined s i j))
@@ -33,11 +33,11 @@ module _ (P : Network → Type 0) (joins : (s : Network) (i j : ℕ) → i < ele
   hand-keeps : (rows : List ℕ) (s : Network) (i : ℕ) → i < elements → P s → P (handOver rows s i)
   hand-keeps rows s i h b = each-keeps P elements (handing i) (setAt rows i) (λ t j l e p. pass-keeps t i j h l p) s b
 
-  pub started-keeps : (m : ℕ) (rows b : List ℕ) (s : Network) → P s → P (started m rows b s)
+  pub started-keeps : (rows b : List ℕ) (s : Network) → P s → P (started rows b s)
   unfolding started
-  started-keeps m rows b s h =
-      upto-keeps P (handRank rows b) m
-      (λ c t l p. each-keeps P elements (handOver rows) (setAt b c) (λ u i x e q. hand-keeps rows u i x q) t p)
+  started-keeps rows b s h =
+      each-keeps P elements (handRank rows b) (leaders elements b)
+      (λ t c l d p. each-keeps P elements (handOver rows) (setAt b c) (λ u i x e q. hand-keeps rows u i x q) t p)
       s h
 
   pub rounded-keeps : (m : ℕ) (rows : List ℕ) (s : Network) → P s → P (rounded m rows s .now)
@@ -51,4 +51,4 @@ module _ (P : Network → Type 0) (joins : (s : Network) (i j : ℕ) → i < ele
   unfolding solved
   solved-keeps m n rows b s p =
       run-keeps (λ x. P (x .now)) (λ x. P (x .now)) settled (λ y. y) (λ y. y) (next m rows) (λ x e h. rounded-keeps m rows (x .now) h) (λ x e h. h) (λ x h. h)
-      n (rounded m rows (started m rows b s)) (rounded-keeps m rows (started m rows b s) (started-keeps m rows b s p))
+      n (rounded m rows (started rows b s)) (rounded-keeps m rows (started rows b s) (started-keeps rows b s p))

@@ -9,11 +9,11 @@ use lib.ListN.{getD, length, length-set, set}
 use lib.Seq.{getD-set-other, getD-set-same}
 use borrow.Author.Tests.{leb-false, ltb-true}
 use Rattle.words.specs.Bits.{digit}
-use Rattle.words.proofs.Kept.{each-keeps, run-keeps, upto-keeps}
+use Rattle.words.proofs.Kept.{each-keeps, run-keeps}
 use Rattle.words.proofs.Tests.{cond-has, same-or-not}
 use Rattle.order.specs.Stored.{elements, row as setAt}
 use Rattle.solver.specs.model.Search.{Reached}
-use Rattle.solver.specs.model.Network.{Network, Walk, atRoot, augmented, back, cell, handing, joined, move, parent, rooted, shifted, source, walk, wrap}
+use Rattle.solver.specs.model.Network.{atRoot, augmented, back, cell, handing, joined, leaders, move, Network, parent, rooted, shifted, source, Walk, walk, wrap}
 use Rattle.solver.specs.model.Solve.{handOver, handRank, rounded, sought, started}
 use Rattle.solver.proofs.Certificate.{Fit}
 use Rattle.solver.proofs.Tree.{Tree}
@@ -66,11 +66,11 @@ module _ (rows : List ℕ) where
   hand-ordered : (s : Network) (i : ℕ) → i < elements → Ordered s → Ordered (handOver rows s i)
   hand-ordered s i h o = each-keeps Ordered elements (handing i) (setAt rows i) (λ t j l b p. pass-ordered t i j h l b p) s o
 
-  pub started-ordered : (m : ℕ) (b : List ℕ) (s : Network) → Ordered s → Ordered (started m rows b s)
+  pub started-ordered : (b : List ℕ) (s : Network) → Ordered s → Ordered (started rows b s)
   unfolding started
-  started-ordered m b s o =
-      upto-keeps Ordered (handRank rows b) m
-      (λ c t l p. each-keeps Ordered elements (handOver rows) (setAt b c) (λ u i x e q. hand-ordered u i x q) t p)
+  started-ordered b s o =
+      each-keeps Ordered elements (handRank rows b) (leaders elements b)
+      (λ t c l d p. each-keeps Ordered elements (handOver rows) (setAt b c) (λ u i x e q. hand-ordered u i x q) t p)
       s o
 
   module _ (givers : List ℕ) (q : Reached) (t : Tree rows givers q) where

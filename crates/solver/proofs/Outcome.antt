@@ -26,7 +26,8 @@ use Rattle.flow_math.proofs.Need.{weight-cong}
 use Rattle.flow_math.proofs.Strong.{cut-antichain, strong}
 use Rattle.flow_math.proofs.Theorems.{closed-flow, closed-need}
 use Rattle.solver.specs.model.Search.{Look}
-use Rattle.solver.specs.model.Network.{Network, handed, positive, wrap}
+use Rattle.order.specs.model.Places.{positive}
+use Rattle.solver.specs.model.Network.{Network, handed, wrap}
 use Rattle.solver.specs.model.Solve.{Round, ranked}
 use Rattle.solver.specs.model.Quote.{amount, chosen, outcome, quoted, untouched}
 use Rattle.solver.specs.Sound.{Sound, asked}

@@ -16,7 +16,8 @@ use Rattle.words.proofs.Sums.{sum-bound}
 use Rattle.words.proofs.Tests.{by-test, cond-false, cond-has, cond-true}
 use Rattle.order.specs.Stored.{elements}
 use Rattle.solver.specs.model.Search.{Reached}
-use Rattle.solver.specs.model.Network.{Network, Walk, atRoot, augmented, back, cell, joined, parent, positive, rooted, shifted, source, walk, wrap}
+use Rattle.order.specs.model.Places.{positive}
+use Rattle.solver.specs.model.Network.{Network, Walk, atRoot, augmented, back, cell, joined, parent, rooted, shifted, source, walk, wrap}
 use Rattle.solver.specs.model.Solve.{Round, next, round, rounded, settle, settled, solved, sought, started}
 use Rattle.solver.proofs.Stores.{sum-in}
 use Rattle.solver.proofs.Balance.{Balanced, moving, shifted-balanced, slack-plain, spent, spent-wide}
@@ -200,6 +201,6 @@ module _ (m : ℕ) (hm : m ≤ elements) (d : ℕ → ℕ) (small : (p : ℕ) �
   unfolding solved
   solved-ends n b s f h =
       let g = start-consistent m hm d small rows b s f in
-      leb-true elements (settle m n rows (rounded m rows (started m rows b s)) .search .at)
-      (settle-ends n (rounded m rows (started m rows b s)) (round-consistent m hm d small rows (started m rows b s) g)
-      (omega (arith, round-less (started m rows b s) g, left-le (started m rows b s) g)))
+      leb-true elements (settle m n rows (rounded m rows (started rows b s)) .search .at)
+      (settle-ends n (rounded m rows (started rows b s)) (round-consistent m hm d small rows (started rows b s) g)
+      (omega (arith, round-less (started rows b s) g, left-le (started rows b s) g)))

@@ -8,14 +8,17 @@ use lib.ListN.{getD, set}
 use lib.Bits.{bitAnd, bitOr}
 use borrow.Author.Tests.{eq-eqb, ne-eqb, lt-ltb, le-ltb}
 use Rattle.words.specs.Bits.{minus, withBit, rest}
-use Rattle.words.specs.model.Loops.{each, upto}
+use Rattle.words.specs.model.Loops.{each}
 use Rattle.words.proofs.Tests.{cond-true, cond-false}
-use Rattle.order.specs.Stored.{elements, row as setAt, putRow, setOf}
+use Rattle.order.specs.Stored.{elements, numberOf, row as setAt, putRow, setOf}
+use Rattle.order.proofs.Stored.{number-of}
 use Rattle.solver.specs.model.Search.{Look}
 use Rattle.solver.specs.declared.Quoted.{Quoted}
+use Rattle.solver.specs.declared.Leads.{Leads}
 use Rattle.solver.specs.model.Search.{low, marks, Seen, seen, visit, reached, fresh, found, onward, advance, begun, reach}
-use Rattle.solver.specs.model.Network.{Network, network, wrap, cell, giver, noted, positive, leaders, joined, shifted, walk, handing, augmented}
-use Rattle.solver.specs.model.Solve.{blanks, blankRows, Round, round, solved, rankOf, rankedAt, ranked, handRank, started, sought, rounded, next, settle}
+use Rattle.order.specs.model.Places.{positive}
+use Rattle.solver.specs.model.Network.{Network, network, wrap, cell, giver, leaders, joined, shifted, walk, handing, augmented}
+use Rattle.solver.specs.model.Solve.{blanks, blankRows, Round, round, solved, rankOf, rankedAt, ranked, leadsOf, handRank, started, sought, rounded, next, settle}
 use Rattle.solver.specs.model.Quote.{unused, copied, outcome, amount, told, quoted, quoteIn, flowIn}
 
 -- ---- a search
@@ -109,14 +112,6 @@ pub given-some : {v : ℕ} (w i n : ℕ) → v ≡ withBit w i → (n ≡ 0 → 
 unfolding giver
 given-some w i n e z = e ∙ sym (cond-false (minus w (2 ^ i)) (withBit w i) (ne-eqb n 0 z))
 
-pub positive-none : (a : List ℕ) → 0 ≡ positive 0 a
-unfolding positive
-positive-none a = refl
-
-pub positive-more : (a : List ℕ) (i w v : ℕ) → w ≡ positive i a → v ≡ noted w i (getD a i 0) → v ≡ positive (i + 1) a
-unfolding positive
-positive-more a i w v e q = q ∙ ap (λ (x : ℕ). noted x i (getD a i 0)) e ∙ ap (λ (x : ℕ). positive x a) (sym (add-one i))
-
 pub joins : (f g l r : List ℕ) (i j d n : ℕ) (f′ g′ : List ℕ)
     → d ≡ min (getD l i 0) (getD r j 0)
     → n ≡ wrap (getD f (cell i j) 0 + d)
@@ -151,27 +146,11 @@ module _ (i : ℕ) (s : Network) where
   pub hands-spent : getD (s .left) i 0 ≡ 0 → (j : ℕ) → handing i s j ≡ s
   hands-spent z j = sym (hands-none j refl (omega arith))
 
--- ---- the elements that have some after them
-
-pub leaders-none : (rows : List ℕ) → 0 ≡ leaders 0 rows
-unfolding leaders
-leaders-none rows = refl
-
-pub leaders-more : (rows : List ℕ) (i w v : ℕ) → w ≡ leaders i rows → v ≡ noted w i (setAt rows i) → v ≡ leaders (i + 1) rows
-unfolding leaders
-leaders-more rows i w v e q = q ∙ ap (λ (x : ℕ). noted x i (setAt rows i)) e ∙ ap (λ (x : ℕ). leaders x rows) (sym (add-one i))
-
--- ---- the start
-
 pub rank-none : (row i : ℕ) (b : List ℕ) → row ≡ 0 → b ≡ rankedAt row i b
 rank-none row i b z = sym (cond-true _ _ (eq-eqb row 0 z))
 
 pub rank-some : (row i : ℕ) (b : List ℕ) (c w : ℕ) → (row ≡ 0 → ⊥) → c ≡ rankOf row → w ≡ withBit (setAt b c) i → putRow b c w ≡ rankedAt row i b
 rank-some row i b c w z e q = cc (e, q) ∙ sym (cond-false _ _ (ne-eqb row 0 z))
-
-pub starts : {t : Network} (m : ℕ) (rows b : List ℕ) (s : Network) → t ≡ upto (handRank rows b) m s → t ≡ started m rows b s
-unfolding started
-starts m rows b s e = e
 
 -- ---- rounds
 
@@ -189,10 +168,20 @@ module _ (m : ℕ) (rows : List ℕ) (s : Network) (able roots slack : ℕ) (lef
   unfolding rounded
   round-none h = rw (← seen-as) (ap (λ (x : Network). round x q) (sym (cond-false _ _ (le-ltb _ _ h))))
 
-pub solves : {t : Network} {x : Round} (m n : ℕ) (rows b : List ℕ) (s : Network)
-    → t ≡ started m rows b s → x ≡ rounded m rows t → settle m n rows x ≡ solved m n rows b s
-unfolding solved
-solves m n rows b s e q = ap (settle m n rows) (q ∙ ap (rounded m rows) e)
+-- what the rounds ask, as numbers
+module _ (m : ℕ) (rows b : List ℕ) {l : Leads} (e : l ≡ leadsOf m rows b) where
+  pub able-is : numberOf (l .able) ≡ leaders m rows
+  unfolding leadsOf
+  able-is = number-of _ (ap (λ (x : Leads). x .able) e)
+
+  pub numbers-is : numberOf (l .numbers) ≡ leaders elements b
+  unfolding leadsOf
+  numbers-is = number-of _ (ap (λ (x : Leads). x .numbers) e)
+
+pub solves : {t : Network} {x : Round} (m n : ℕ) (rows b : List ℕ) (s : Network) {w : ℕ}
+    → t ≡ each elements (handRank rows b) s w → w ≡ leaders elements b → x ≡ rounded m rows t → settle m n rows x ≡ solved m n rows b s
+unfolding solved started
+solves m n rows b s e l q = ap (settle m n rows) (q ∙ ap (rounded m rows) (e ∙ ap (each elements (handRank rows b) s) l))
 
 -- ---- the quote
 

@@ -1,31 +1,30 @@
--- The words of givers say where there is flow, and only takers with a demand have any: so taking that back leaves nothing handed over. Assumes nothing.
+-- The words of givers say where there is flow: so taking that back leaves nothing handed over. Assumes nothing.
 use mathlib.Core.Path.{_≡_, refl, sym, ap, _∙_}
 use mathlib.Core.List.{List, [], _∷_}
 use mathlib.Core.Logic.{⊎-elim, by-cases}
-use Prim.Native.Nat.{ℕ, _*_, _+_, _-_, _/_, _%_, _≤_, _<_, min}
+use Prim.Native.Nat.{ℕ, _*_, _-_, _/_, _%_, _<_}
 use native.Mathlib.Decide.{decLt}
 use native.Mathlib.Omega.{arith}
 use lib.ListN.{getD, length, length-set, replicate, set, List·getD-eq-default}
 use lib.Seq.{ext-getD, getD-set-other, getD-set-same}
-use borrow.Author.Tests.{lt-ltb}
 use Rattle.words.specs.Bits.{digit}
 use Rattle.words.specs.model.Loops.{each, fold}
 use Rattle.words.specs.Members.{members}
-use Rattle.words.proofs.Bits.{zero-or-one}
+use Rattle.words.proofs.Bits.{digit-none}
 use Rattle.words.proofs.Kept.{each-keeps}
 use Rattle.words.proofs.Members.{Has, member-has}
 use Rattle.words.proofs.Tables.{getD-zeros}
-use Rattle.words.proofs.Tests.{cond-true, same-or-not}
+use Rattle.words.proofs.Tests.{same-or-not}
 use Rattle.order.specs.Stored.{elements, row as setAt}
-use Rattle.solver.specs.model.Network.{Network, cell, dropping, handed, joined, network, positive, shifted, takenBack, takenFrom, wrap}
+use Rattle.solver.specs.model.Network.{Network, cell, dropping, handed, leaders, network, takenBack, takenFrom}
 use Rattle.solver.specs.model.Search.{Look}
 use Rattle.solver.specs.model.Solve.{Round, ranked, round}
-use Rattle.solver.specs.model.Quote.{copied, outcome, untouched, unused}
-use Rattle.solver.proofs.StartState.{copied-is, copied-long, copied-past, untouched-linked, unused-at, unused-long}
-use Rattle.solver.proofs.Cleared.{set-zero, wrap-zero}
+use Rattle.solver.specs.model.Quote.{outcome, untouched, unused}
+use Rattle.solver.proofs.StartState.{untouched-linked, unused-long}
+use Rattle.solver.proofs.Cleared.{set-zero}
 use Rattle.solver.proofs.Kept.{solved-keeps}
 use Rattle.solver.proofs.Linked.{Linked, joined-linked, shifted-linked}
-use Rattle.solver.proofs.Positive.{positive-bit}
+use Rattle.order.proofs.Nonzero.{nonzero-bit}
 
 -- ---- a loop over members that makes something so, and keeps it so
 
@@ -98,70 +97,9 @@ module _ (givers : List ℕ) where
         let e : c ≡ cell i j = omega arith in
         ap (λ (x : ℕ). getD (takenBack givers f w) x 0) e ∙ back-zero i j (omega (arith, back-wide)) (omega arith) ∙ sym (getD-zeros (elements * elements) c))
 
--- ---- a taker without a demand is handed over nothing
-
-module _ (t : ℕ → ℕ) where
-  record Quiet (s : Network) : Type 0 where
-    wide : length (s .flow) ≡ elements * elements
-    long : length (s .right) ≡ elements
-    right : (j : ℕ) → j < elements → t j ≡ 0 → getD (s .right) j 0 ≡ 0
-    flow : (i j : ℕ) → i < elements → j < elements → t j ≡ 0 → handed (s .flow) i j ≡ 0
-
-  joined-quiet : (s : Network) (i j : ℕ) → i < elements → j < elements → Quiet s → Quiet (joined s i j)
-  unfolding joined
-  joined-quiet s i j hi hj b =
-      let d = min (getD (s .left) i 0) (getD (s .right) j 0) in
-      let v = wrap (getD (s .flow) (cell i j) 0 + d) in
-      record {
-        wide = length-set (s .flow) (cell i j) v ∙ b .wide;
-        long = length-set (s .right) j (getD (s .right) j 0 - d) ∙ b .long;
-        right = λ q h z.
-            set-zero (s .right) j (getD (s .right) j 0 - d) q (omega (arith, b .long)) (b .right q h z)
-            (λ e. omega (arith, b .right q h z, ap (λ (x : ℕ). getD (s .right) x 0) e));
-        flow = λ p q hp hq z.
-            set-zero (s .flow) (cell i j) v (cell p q) (omega (arith, b .wide)) (b .flow p q hp hq z)
-            (λ e.
-            let o : q ≡ j = omega arith in
-            wrap-zero (getD (s .flow) (cell i j) 0 + d)
-            (omega (arith, b .flow p q hp hq z, ap (λ (x : ℕ). getD (s .flow) x 0) e, b .right q hq z, ap (λ (x : ℕ). getD (s .right) x 0) o)));
-      }
-
-  shifted-quiet : (s : Network) (i k j : ℕ) → i < elements → k < elements → j < elements → Quiet s → Quiet (shifted s i k j)
-  unfolding shifted
-  shifted-quiet s i k j hi hk hj b =
-      let d = min (getD (s .right) j 0) (getD (s .flow) (cell i k) 0) in
-      let v = getD (s .flow) (cell i k) 0 - d in
-      let f = set (s .flow) (cell i k) v in
-      let u = wrap (getD f (cell i j) 0 + d) in
-      let r = set (s .right) j (getD (s .right) j 0 - d) in
-      let x = wrap (getD r k 0 + d) in
-      let f-wide : length f ≡ elements * elements = length-set (s .flow) (cell i k) v ∙ b .wide in
-      let r-long : length r ≡ elements = length-set (s .right) j (getD (s .right) j 0 - d) ∙ b .long in
-      let r-zero : (q : ℕ) → q < elements → t q ≡ 0 → getD r q 0 ≡ 0 = λ q h z.
-      set-zero (s .right) j (getD (s .right) j 0 - d) q (omega (arith, b .long)) (b .right q h z)
-      (λ e. omega (arith, b .right q h z, ap (λ (y : ℕ). getD (s .right) y 0) e)) in
-      let f-zero : (p q : ℕ) → p < elements → q < elements → t q ≡ 0 → handed f p q ≡ 0 = λ p q hp hq z.
-      set-zero (s .flow) (cell i k) v (cell p q) (omega (arith, b .wide)) (b .flow p q hp hq z)
-      (λ e. omega (arith, b .flow p q hp hq z, ap (λ (y : ℕ). getD (s .flow) y 0) e)) in
-      record {
-        wide = length-set f (cell i j) u ∙ f-wide;
-        long = length-set r k x ∙ r-long;
-        right = λ q h z.
-            set-zero r k x q (omega (arith, r-long)) (r-zero q h z)
-            (λ e.
-            wrap-zero (getD r k 0 + d)
-            (omega (arith, r-zero q h z, ap (λ (y : ℕ). getD r y 0) e, b .flow i q hi h z, ap (λ (y : ℕ). getD (s .flow) (cell i y) 0) e)));
-        flow = λ p q hp hq z.
-            set-zero f (cell i j) u (cell p q) (omega (arith, f-wide)) (f-zero p q hp hq z)
-            (λ e.
-            let o : q ≡ j = omega arith in
-            wrap-zero (getD f (cell i j) 0 + d)
-            (omega (arith, f-zero p q hp hq z, ap (λ (y : ℕ). getD f y 0) e, b .right q hq z, ap (λ (y : ℕ). getD (s .right) y 0) o)));
-      }
-
 -- ---- what a quote has handed over is taken back
 
-module _ (m : ℕ) (hm : m ≤ elements) (rows demand : List ℕ) where
+module _ (m : ℕ) (rows demand : List ℕ) where
   abbrev s : Network
   s = outcome m rows demand .now
 
@@ -169,38 +107,14 @@ module _ (m : ℕ) (hm : m ≤ elements) (rows demand : List ℕ) where
   unfolding outcome
   linked = solved-keeps Linked joined-linked shifted-linked m (elements * 65535) rows (ranked m rows) (untouched m demand) (untouched-linked m demand)
 
-  abbrev start : ℕ → ℕ
-  start j = getD (copied m demand) j 0
-
-  quiet : Quiet start s
-  unfolding outcome
-  quiet =
-      solved-keeps (Quiet start) (joined-quiet start) (shifted-quiet start) m (elements * 65535) rows (ranked m rows) (untouched m demand)
-      (record {
-        wide = unused-long;
-        long = copied-long m hm demand;
-        right = λ j h z. z;
-        flow = λ i j hi hj z. unused-at i j hi hj;
-      })
-
-  no-start : (q : ℕ) → q < elements → digit (positive m demand) q ≡ 0 → start q ≡ 0
-  no-start q h e =
-      by-cases (decLt q m)
-      (λ l.
-      ⊎-elim
-      (λ z. copied-is m hm demand q h ∙ cond-true (getD demand q 0) 0 (lt-ltb q m l) ∙ z)
-      (λ n. absurd (omega (arith, positive-bit m demand q l (omega arith))))
-      (same-or-not (getD demand q 0) 0))
-      (λ g. copied-past m hm demand q (omega arith) h)
-
-  pub taken-all : takenBack (s .givers) (s .flow) (positive m demand) ≡ unused
+  -- who is given something has a giver
+  pub taken-all : takenBack (s .givers) (s .flow) (leaders elements (s .givers)) ≡ unused
   taken-all =
-      taken-back (s .givers) (s .flow) (positive m demand) (linked .wide)
-      (λ p q hp hq x. (
-        ⊎-elim (λ z. absurd (omega (arith, quiet .flow p q hp hq (no-start q hq z)))) (λ o. o) (zero-or-one (positive m demand) q),
-        linked .says p q hp hq .1 x,
-      ))
+      taken-back (s .givers) (s .flow) (leaders elements (s .givers)) (linked .wide)
+      (λ p q hp hq x.
+      let e = linked .says p q hp hq .1 x in
+      (nonzero-bit (λ i. setAt (s .givers) i) elements q hq (λ z. omega (arith, e, ap (λ (y : ℕ). digit y p) z, digit-none p)), e))
 
-  pub takes : {f g l r f′ : List ℕ} {q : Look} {w : ℕ} → round (network f g l r) q ≡ outcome m rows demand → w ≡ positive m demand → f′ ≡ takenBack g f w → f′ ≡ unused
-  takes {w = w} e a b =
-      b ∙ ap (λ (x : Round). takenBack (x .now .givers) (x .now .flow) w) e ∙ ap (takenBack (s .givers) (s .flow)) a ∙ taken-all
+  pub takes : {f g l r f′ : List ℕ} {q : Look} {w : ℕ} → round (network f g l r) q ≡ outcome m rows demand → w ≡ leaders elements g → f′ ≡ takenBack g f w → f′ ≡ unused
+  takes {g = g} {f′ = f′} e a b =
+      b ∙ ap (takenBack g _) a ∙ ap (λ (x : Round). takenBack (x .now .givers) (x .now .flow) (leaders elements (x .now .givers))) e ∙ taken-all

@@ -4,7 +4,7 @@ ghost use mathlib.Core.Path.{_≡_};
 ghost use Prim.Native.Nat.{_≤_};
 ghost use Rattle.order.specs.Stored.{elements, numberOf};
 ghost use Rattle.solver.specs.model.Search.{looked};
-ghost use Rattle.solver.specs.model.Solve.{ranked};
+ghost use Rattle.solver.specs.model.Solve.{ranked, leadsOf};
 ghost use Rattle.solver.specs.model.Quote.{unused, copied, amount, told, Clean, quoteIn, flowIn, quoteOf, flowOf};
 use order::ELEMENTS;
 use order::Order;
@@ -23,6 +23,13 @@ struct Search {
     left: Set,
     right: Set,
     at: usize,
+}
+
+// What the rounds ask of an order and its ranking, for all kinds of a plan the same: the numbers for which the ranking has elements, and the elements that
+// have some after them.
+pub struct Leads {
+    numbers: Set,
+    able: Set,
 }
 
 // The need, and a set of pairwise unrelated elements that has it.
@@ -90,43 +97,73 @@ pub fn ranks(rows: &Rows, m: usize) -> Rows
     rounds::ranks(rows, m)
 }
 
+// What else they ask, by an order and its ranking.
+pub fn leads_of(rows: &Rows, ranks: &Rows, m: usize) -> Leads
+    requires { ⌜ m ≤ elements ⌝ }
+    ensures { λ r. ⌜ r ≡ leadsOf m (now (rows .entry)) (now (ranks .entry)) ⌝ }
+{
+    let numbers = rounds::leading_of(ranks, ELEMENTS);
+    let able = rounds::leading_of(rows, m);
+    Leads { numbers, able }
+}
+
 // The need of an order, given by its rows and its ranking, with a demand for each of its m first elements (the others are passed over), and, in `flow`
 // at i * ELEMENTS + j, what i hands over to j. `flow` comes in at 0.
 fn quote_ranked(
     rows: &Rows,
     ranks: &Rows,
+    leads: Leads,
     m: usize,
     demand: &[u32; ELEMENTS],
     flow: &mut [u32; ELEMENTS * ELEMENTS],
 ) -> Quoted
-    requires { ⌜ (m ≤ elements) × (now ranks ≡ ranked m (now rows)) × (now flow ≡ unused) ⌝ }
+    requires { ⌜ (m ≤ elements) × (now ranks ≡ ranked m (now rows)) × (leads ≡ leadsOf m (now rows) (now ranks)) × (now flow ≡ unused) ⌝ }
     ensures { λ r. ⌜ (r ≡ quoteIn m (now (rows .entry)) (now (demand .entry))) × (now (flow .exit) ≡ flowIn m (now (rows .entry)) (now (demand .entry))) ⌝ }
 {
     let mut givers = rounds::blank_rows();
     let mut left = copy(demand, m);
     let mut right = left;
-    let s = rounds::solve(rows, ranks, m, flow, &mut givers, &mut left, &mut right);
-    told(s, &left, moves::members_of(demand, m), m)
+    let s = rounds::solve(
+        rows,
+        ranks,
+        leads,
+        m,
+        flow,
+        &mut givers,
+        &mut left,
+        &mut right,
+    );
+    told(s, &left, order::places(demand, m), m)
 }
 
 // The same, where the handover is not asked for: `flow` goes out at 0, as it came in.
 pub fn weigh_ranked(
     rows: &Rows,
     ranks: &Rows,
+    leads: Leads,
     m: usize,
     demand: &[u32; ELEMENTS],
     flow: &mut [u32; ELEMENTS * ELEMENTS],
 ) -> Quoted
-    requires { ⌜ (m ≤ elements) × (now ranks ≡ ranked m (now rows)) × (now flow ≡ unused) ⌝ }
+    requires { ⌜ (m ≤ elements) × (now ranks ≡ ranked m (now rows)) × (leads ≡ leadsOf m (now rows) (now ranks)) × (now flow ≡ unused) ⌝ }
     ensures { λ r. ⌜ (r ≡ quoteIn m (now (rows .entry)) (now (demand .entry))) × (now (flow .exit) ≡ unused) ⌝ }
 {
     let mut givers = rounds::blank_rows();
     let mut left = copy(demand, m);
     let mut right = left;
-    let s = rounds::solve(rows, ranks, m, flow, &mut givers, &mut left, &mut right);
-    let wanted = moves::members_of(demand, m);
-    moves::take_back(flow, &givers, wanted);
-    told(s, &left, wanted, m)
+    let s = rounds::solve(
+        rows,
+        ranks,
+        leads,
+        m,
+        flow,
+        &mut givers,
+        &mut left,
+        &mut right,
+    );
+    let takers = rounds::leading_of(&givers, ELEMENTS);
+    moves::take_back(flow, &givers, takers);
+    told(s, &left, order::places(demand, m), m)
 }
 
 // The same of an order.
@@ -141,5 +178,6 @@ pub fn quote(
 {
     let rows = order.after_rows();
     let b = rounds::ranks(&rows, m);
-    quote_ranked(&rows, &b, m, demand, flow)
+    let l = leads_of(&rows, &b, m);
+    quote_ranked(&rows, &b, l, m, demand, flow)
 }

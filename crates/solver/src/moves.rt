@@ -1,11 +1,11 @@
 // The moves of a handover: units at i * ELEMENTS + j, for each taker the set of those that give to it, and what givers and takers have left.
 ghost use mathlib.Core.Path.{_≡_};
 ghost use mathlib.Core.List.{List};
-ghost use Prim.Native.Nat.{ℕ, _≤_, _<_};
+ghost use Prim.Native.Nat.{ℕ, _<_};
 ghost use lib.ListN.{set};
 ghost use Rattle.words.specs.model.Loops.{each};
 ghost use Rattle.order.specs.Stored.{elements, numberOf, row, putRow};
-ghost use Rattle.solver.specs.model.Network.{giver, noted, positive, cell, network, joined, shifted, walk, augmented, handing, dropping, takenBack};
+ghost use Rattle.solver.specs.model.Network.{giver, cell, network, joined, shifted, walk, augmented, handing, dropping, takenBack};
 use order::ELEMENTS;
 use order::Rows;
 use order::Set;
@@ -16,28 +16,6 @@ fn given(set: Set, i: usize, n: u32) -> Set
     ensures { λ r. ⌜ numberOf r ≡ giver (numberOf set) i n ⌝ }
 {
     if n == 0 { set.without(i) } else { set.with(i) }
-}
-
-// The set with the member i, or as it is where n is 0.
-fn note(set: Set, i: usize, n: u32) -> Set
-    requires { ⌜ i < elements ⌝ }
-    ensures { λ r. ⌜ numberOf r ≡ noted (numberOf set) i n ⌝ }
-{
-    if n == 0 { set } else { set.with(i) }
-}
-
-// Those of the m first elements whose entry is not 0.
-pub fn members_of(a: &[u32; ELEMENTS], m: usize) -> Set
-    requires { ⌜ m ≤ elements ⌝ }
-    ensures { λ r. ⌜ numberOf r ≡ positive m (now (a .entry)) ⌝ }
-{
-    let mut set = Set::EMPTY;
-    let mut i: usize = 0;
-    while i < m {
-        set = note(set, i, a[i]);
-        i += 1;
-    }
-    set
 }
 
 // flow(i, j) becomes n.

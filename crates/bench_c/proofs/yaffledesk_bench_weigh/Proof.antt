@@ -16,4 +16,4 @@ returns c =
     )
 
 pub yaffledesk-bench-weigh-spec : {M : Type 1} → statement M
-yaffledesk-bench-weigh-spec = tie.close (tie.spec (λ c κs. search needs) (λ c κs. search needs) returns)
+yaffledesk-bench-weigh-spec = tie.close (tie.spec (λ c κs. search needs) (λ c κs. search needs) (λ c κs. search needs) returns)

@@ -8,7 +8,7 @@ use Rattle.words.specs.model.Loops.{upto}
 use Rattle.words.proofs.Loops.{up-none, up-again, up-end}
 use lib.Bits.{bitOr}
 use Rattle.order.specs.Stored.{elements, numberOf, row, cells}
-use Rattle.order.specs.Rows.{updateRow}
+use Rattle.order.specs.model.Warshall.{updateRow}
 use Rattle.order.specs.Orders.{joinedRows}
 use Rattle.order.proofs.Stored.{number-of, put-turn, rows-updated}
 use Rattle.order.proofs.joined.Statement.{statement}

@@ -10,13 +10,14 @@ use Rattle.solver.proofs.quote.Tie as tie
 
 quote-ranked-requires : tie.Need-quote-ranked-requires
 quote-ranked-requires c κs =
-    let r = c .before .before .before in
+    let l = c .before .before .before in
+    let r = l .before .before .before in
     let pre = r .before .before .before .pre in
-    (pre .0, r .ranks .ensures, pre .1)
+    (pre .0, r .ranks .ensures, l .leads-of .ensures, pre .1)
 
 returns : tie.Need-returns
 returns c =
-    let rows = c .before .before .before .before .before .before in
+    let rows = c .before .before .before .before .before .before .before .before .before in
     let a = rows .before .args in
     let e = c .quote-ranked .ensures in (
       e .0 ∙ ap (λ (x : List ℕ). quoteIn (a .m) x (now (a .demand))) (rows .after-rows .ensures),
@@ -24,4 +25,4 @@ returns c =
     )
 
 pub quote-spec : {M : Type 1} → statement M
-quote-spec = tie.close (tie.spec (λ c κs. search needs) (λ c κs. search needs) quote-ranked-requires returns)
+quote-spec = tie.close (tie.spec (λ c κs. search needs) (λ c κs. search needs) (λ c κs. search needs) quote-ranked-requires returns)

@@ -11,7 +11,7 @@ returns c =
     let left = end .before .before .before .before .before in
     let givers = left .before in
     let pre = givers .before .pre in
-    quotes _ _ _ (pre .1) (pre .2) (givers .blank-rows .ensures) (left .copy .ensures) (end .solve .ensures) (c .told .ensures) (wanted .members-of .ensures)
+    quotes _ _ _ (pre .1) (pre .3) (givers .blank-rows .ensures) (left .copy .ensures) (end .solve .ensures) (c .told .ensures) (wanted .places .ensures)
 
 pub quote-ranked-spec : {M : Type 1} → statement M
 quote-ranked-spec = tie.close (tie.spec (λ c κs. search needs) (λ c κs. search needs) (λ c κs. search needs) (λ c κs. search needs) (λ c κs. search needs) returns)

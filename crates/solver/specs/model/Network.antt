@@ -8,6 +8,7 @@ use lib.ListN.{getD, set}
 use Rattle.words.specs.Bits.{withBit, minus}
 use Rattle.words.specs.model.Loops.{each, run}
 use Rattle.order.specs.Stored.{elements, row as setAt, putRow}
+use Rattle.order.specs.model.Places.{nonzero}
 
 pub record Network : Type 0 where
   pub flow : List ℕ
@@ -33,19 +34,9 @@ handed f i j = getD f (cell i j) 0
 unfoldable pub giver : ℕ → ℕ → ℕ → ℕ
 giver w i n = cond (eqb n 0) (minus w (2 ^ i)) (withBit w i)
 
--- the word with the member i, or as it is where n is 0
-abbrev pub noted : ℕ → ℕ → ℕ → ℕ
-noted w i n = cond (eqb n 0) w (withBit w i)
-
--- the word of the places below k at which the list is not 0
-unfoldable pub positive : ℕ → List ℕ → ℕ
-positive zero a = 0
-positive (suc k) a = noted (positive k a) k (getD a k 0)
-
 -- the word of the places below k at which the table's set is not empty
-unfoldable pub leaders : ℕ → List ℕ → ℕ
-leaders zero rows = 0
-leaders (suc k) rows = noted (leaders k rows) k (setAt rows k)
+abbrev pub leaders : ℕ → List ℕ → ℕ
+leaders k rows = nonzero k (λ i. setAt rows i)
 
 -- what i hands over to j becomes n
 abbrev pub move : Network → ℕ → ℕ → ℕ → Network

@@ -10,9 +10,10 @@ use Rattle.words.specs.model.Loops.{upto}
 use Rattle.order.specs.Orders.{afterRows}
 use Rattle.order.specs.declared.Order.{Order}
 use Rattle.order.specs.Stored.{elements, setOf}
+use Rattle.order.specs.model.Places.{positive}
 use Rattle.solver.specs.model.Search.{Look}
 use Rattle.solver.specs.declared.Quoted.{Quoted}
-use Rattle.solver.specs.model.Network.{Network, network, wrap, positive}
+use Rattle.solver.specs.model.Network.{Network, network, wrap}
 use Rattle.solver.specs.model.Solve.{blanks, blankRows, ranked, Round, solved}
 
 -- nothing is handed over

@@ -8,9 +8,11 @@ use lib.ListN.{replicate}
 use Rattle.words.specs.Bits.{bit, withBit}
 use Rattle.words.specs.Members.{count}
 use Rattle.words.specs.model.Loops.{each, upto, run}
-use Rattle.order.specs.Stored.{elements, cells, row as setAt, putRow}
+use Rattle.order.specs.Stored.{elements, cells, row as setAt, putRow, setOf}
+use Rattle.order.specs.model.Places.{positive}
+use Rattle.solver.specs.declared.Leads.{Leads}
 use Rattle.solver.specs.model.Search.{Look, Reached, reached, begun, reach}
-use Rattle.solver.specs.model.Network.{Network, positive, leaders, walk, augmented, handing}
+use Rattle.solver.specs.model.Network.{Network, leaders, walk, augmented, handing}
 
 unfoldable pub blanks : ℕ → List ℕ
 blanks v = replicate elements v
@@ -34,15 +36,19 @@ ranking rows i b = rankedAt (setAt rows i) i b
 unfoldable pub ranked : ℕ → List ℕ → List ℕ
 ranked m rows = upto (ranking rows) m blankRows
 
--- an element hands over to all that it is before; then each word of the ranking, lowest number first
+-- an element hands over to all that it is before; then each word of the ranking that has elements, lowest number first
 abbrev pub handOver : List ℕ → Network → ℕ → Network
 handOver rows s i = each elements (handing i) s (setAt rows i)
 
-abbrev pub handRank : List ℕ → List ℕ → ℕ → Network → Network
-handRank rows b c s = each elements (handOver rows) s (setAt b c)
+abbrev pub handRank : List ℕ → List ℕ → Network → ℕ → Network
+handRank rows b s c = each elements (handOver rows) s (setAt b c)
 
-unfoldable pub started : ℕ → List ℕ → List ℕ → Network → Network
-started m rows b s = upto (handRank rows b) m s
+unfoldable pub started : List ℕ → List ℕ → Network → Network
+started rows b s = each elements (handRank rows b) s (leaders elements b)
+
+-- what the rounds ask of an order and its ranking
+unfoldable pub leadsOf : ℕ → List ℕ → List ℕ → Leads
+leadsOf m rows b = record { numbers = setOf (leaders elements b); able = setOf (leaders m rows) }
 
 -- ---- rounds
 
@@ -75,4 +81,4 @@ settle m n rows x = run settled (λ y. y) (λ y. y) (next m rows) n x
 
 -- by a ranking b
 unfoldable pub solved : ℕ → ℕ → List ℕ → List ℕ → Network → Round
-solved m n rows b s = settle m n rows (rounded m rows (started m rows b s))
+solved m n rows b s = settle m n rows (rounded m rows (started rows b s))

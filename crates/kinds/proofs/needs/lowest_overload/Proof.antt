@@ -13,11 +13,11 @@ use Rattle.kinds.proofs.needs.lowest_overload.Statement.{statement}
 use Rattle.kinds.proofs.needs.lowest_overload.Tie as tie
 
 abbrev Inv-loop : tie.InvT-loop
-Inv-loop m demand available n rows ranks flow₀ k₀ flow k =
+Inv-loop m demand available n rows ranks leads flow₀ k₀ flow k =
     (k ≤ n) × ((o : Order) → rows ≡ afterRows o → NoneBelow m o demand available n k) × (flow ≡ unused)
 
 abbrev μ-loop : tie.MeasureT-loop
-μ-loop m demand available n rows ranks flow₀ k₀ flow k = n - k
+μ-loop m demand available n rows ranks leads flow₀ k₀ flow k = n - k
 
 loop-holds : tie.Need-loop-holds Inv-loop μ-loop
 unfolding unused
@@ -26,15 +26,16 @@ loop-holds c = (omega arith, λ o e. below-none _, refl)
 weigh-ranked-requires : tie.Need-weigh-ranked-requires Inv-loop μ-loop
 weigh-ranked-requires c κs =
     let at = c .before .before .before .before .before .before in
-    let r = at .before in
-    (r .before .before .before .pre .0, r .ranks .ensures, at .loop .inv .2)
+    let l = at .before in
+    let r = l .before .before .before in
+    (r .before .before .before .pre .0, r .ranks .ensures, l .leads-of .ensures, at .loop .inv .2)
 
 returns : tie.Need-returns Inv-loop μ-loop
 returns c =
     let q = c .before .before .before in
     let own = q .before .before .before .before .before in
     let at = own .before .before in
-    let rows = at .before .before .before in
+    let rows = at .before .before .before .before .before .before in
     let a = rows .before .args in
     lowest-found (a .m) (a .order) (a .demand .now) (a .available .now) (a .n) (at .loop .k) (q .weigh-ranked .result)
     (at .loop .inv .1 (a .order) (rows .after-rows .ensures)) (omega arith)
@@ -46,7 +47,7 @@ loop-again c =
     let q = c .before .before .before in
     let own = q .before .before .before .before .before in
     let at = own .before .before in
-    let a = at .before .before .before .before .args in (
+    let a = at .before .before .before .before .before .before .before .args in (
       omega arith,
       λ o e. lowest-next (a .m) o (a .demand .now) (a .available .now) (a .n) (at .loop .k) (q .weigh-ranked .result) (at .loop .inv .1 o e)
           (quoted-for (a .m) o (a .demand .now) (at .loop .k) e (own .demands-for .ensures) (q .weigh-ranked .ensures .0)) (omega arith),
@@ -56,7 +57,7 @@ loop-again c =
 returns-2 : tie.Need-returns-2 Inv-loop μ-loop
 returns-2 c =
     let at = c .before in
-    let rows = at .before .before .before in
+    let rows = at .before .before .before .before .before .before in
     let a = rows .before .args in
     lowest-none (a .m) (a .order) (a .demand .now) (a .available .now) (a .n) (at .loop .k) (at .loop .inv .1 (a .order) (rows .after-rows .ensures))
     (omega arith)
@@ -67,6 +68,7 @@ lowest-overload-spec =
     (tie.spec
     Inv-loop
     μ-loop
+    (λ c κs. search needs)
     (λ c κs. search needs)
     (λ c κs. search needs)
     loop-holds

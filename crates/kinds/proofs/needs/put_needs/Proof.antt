@@ -15,11 +15,11 @@ use Rattle.kinds.proofs.needs.put_needs.Statement.{statement}
 use Rattle.kinds.proofs.needs.put_needs.Tie as tie
 
 abbrev Inv-loop : tie.InvT-loop
-Inv-loop out₀ m demand n rows ranks flow₀ k₀ out flow k =
+Inv-loop out₀ m demand n rows ranks leads flow₀ k₀ out flow k =
     (k ≤ n) × (length out ≡ length out₀) × ((o : Order) → rows ≡ afterRows o → out ≡ over k (needsFor m o demand n) out₀) × (flow ≡ unused)
 
 abbrev μ-loop : tie.MeasureT-loop
-μ-loop out₀ m demand n rows ranks flow₀ k₀ out flow k = n - k
+μ-loop out₀ m demand n rows ranks leads flow₀ k₀ out flow k = n - k
 
 loop-holds : tie.Need-loop-holds Inv-loop μ-loop
 unfolding unused
@@ -28,14 +28,15 @@ loop-holds c = (omega arith, refl, λ o e. refl, refl)
 weigh-ranked-requires : tie.Need-weigh-ranked-requires Inv-loop μ-loop
 weigh-ranked-requires c κs =
     let at = c .before .before .before .before .before .before in
-    let r = at .before in
-    (r .before .before .before .before .pre .0, r .ranks .ensures, at .loop .inv .3)
+    let l = at .before in
+    let r = l .before .before .before in
+    (r .before .before .before .before .pre .0, r .ranks .ensures, l .leads-of .ensures, at .loop .inv .3)
 
 loop-again : tie.Need-loop-again Inv-loop μ-loop
 loop-again c =
     let own = c .before .before .before .before .before in
     let at = own .before .before in
-    let s = at .before .before .before .before .before in
+    let s = at .before .before .before .before .before .before .before .before in
     let a = s .args in (
       omega arith,
       length-set (at .loop .out) (at .loop .k) _ ∙ at .loop .inv .1,
@@ -47,7 +48,7 @@ loop-again c =
 returns : tie.Need-returns Inv-loop μ-loop
 returns c =
     let at = c .before in
-    let rows = at .before .before .before in
+    let rows = at .before .before .before .before .before .before in
     let a = rows .before .before .args in
     let e : at .loop .k ≡ a .n = omega arith in
     at .loop .inv .2 (a .order) (rows .after-rows .ensures)
@@ -59,6 +60,7 @@ put-needs-spec =
     (tie.spec
     Inv-loop
     μ-loop
+    (λ c κs. search needs)
     (λ c κs. search needs)
     (λ c κs. search needs)
     loop-holds

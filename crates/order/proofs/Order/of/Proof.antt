@@ -10,7 +10,7 @@ use Rattle.words.proofs.Loops.{up-none, up-again, up-end}
 use mir.Syntax.{w64}
 use mir.Val.{Fits}
 use Rattle.order.specs.Stored.{elements, numberOf, cells}
-use Rattle.order.specs.Rows.{passingOver}
+use Rattle.order.specs.model.Warshall.{passingOver}
 use Rattle.order.specs.declared.Order.{Order}
 use Rattle.order.proofs.Orders.{direct-closed}
 use Rattle.order.proofs.Stored.{words-fit}

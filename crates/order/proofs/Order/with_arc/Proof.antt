@@ -5,11 +5,12 @@ use Prim.Native.Nat.{ℕ}
 use lib.ListN.{length}
 use borrow.Author.Needs.{needs}
 use Rattle.words.specs.Bits.{withBit}
-use Rattle.order.specs.Stored.{elements, numberOf, row, rowTable, cells}
-use Rattle.order.specs.Rows.{gained, grow}
+use Rattle.order.specs.Stored.{elements, cells}
+use Rattle.order.specs.model.Warshall.{gaining}
 use Rattle.order.specs.Orders.{extended}
 use Rattle.order.specs.declared.Order.{Order}
-use Rattle.order.proofs.Stored.{number-of, rows-updated}
+use Rattle.order.proofs.Stored.{number-of}
+use Rattle.order.proofs.Growing.{gaining-grow}
 use Rattle.order.proofs.Order.with_arc.Statement.{statement}
 use Rattle.order.proofs.Order.with_arc.Tie as tie
 
@@ -17,15 +18,17 @@ abbrev ofRows : List ℕ → Order
 ofRows rs = record { rows = rs }
 
 returns : tie.Need-returns
-unfolding extended grow cells
-returns c = let g = c .before .before in
-    let e = g .before .before .before .before .args in
+unfolding extended cells
+returns c =
+    let g = c .before .before in
+    let start = g .before .before .before .before in
+    let e = start .args in
     let long : length (e .self .rows) ≡ cells elements = search needs in
     ap ofRows
     (c .gain-all .ensures
-    ∙ rows-updated (gained (e .from) (numberOf (g .with .result))) elements (e .self .rows) long
-    ∙ ap (λ (x : ℕ). rowTable elements (λ i. gained (e .from) x i (row (e .self .rows) i)))
-    (number-of _ (g .with .ensures) ∙ ap (λ (w : ℕ). withBit w (e .to)) (number-of _ (g .before .row .ensures))))
+    ∙ ap (λ (x : ℕ). gaining elements (e .from) x (e .self .rows))
+    (number-of _ (g .with .ensures) ∙ ap (λ (w : ℕ). withBit w (e .to)) (number-of _ (g .before .row .ensures)))
+    ∙ gaining-grow elements (e .self .rows) long (e .from) (e .to) (start .pre .0))
 
 pub with-arc-spec : {M : Type 1} → statement M
 with-arc-spec = tie.close (tie.spec (λ c κs. search needs) (λ c κs. search needs) (λ c κs. search needs) returns)

@@ -5,7 +5,7 @@ use Prim.Native.Nat.{ℕ, _≤_}
 use native.Mathlib.Omega.{arith}
 use borrow.Author.Needs.{needs}
 use Rattle.order.specs.Stored.{elements}
-use Rattle.order.specs.Rows.{growFrom, growBy}
+use Rattle.order.specs.model.Growing.{growFrom, growBy}
 use Rattle.order.specs.Orders.{extendedBy}
 use Rattle.order.specs.declared.Order.{Order}
 use Rattle.order.proofs.Stored.{number-of}

@@ -6,7 +6,7 @@ use native.Mathlib.Omega.{arith}
 use lib.Bits.{bitOr}
 use borrow.Author.Needs.{needs}
 use Rattle.order.specs.Stored.{elements, numberOf, setOf}
-use Rattle.order.specs.Rows.{endsIn}
+use Rattle.order.specs.model.Warshall.{endsIn}
 use Rattle.order.proofs.Stored.{number-of, number-set}
 use Rattle.order.proofs.transitive.ends_of.Statement.{statement}
 use Rattle.order.proofs.transitive.ends_of.Tie as tie

@@ -1,4 +1,4 @@
--- `order::add_row` meets its contract. The invariant: the run over what is left, from the rows so far, is the run from the start, and none of what
+-- `transitive::add_row` meets its contract. The invariant: the run over what is left, from the rows so far, is the run from the start, and none of what
 -- is left is held. Assumes nothing.
 use mathlib.Core.Path.{_≡_, refl, ap, _∙_}
 use Prim.Native.Nat.{ℕ}
@@ -7,13 +7,13 @@ use Rattle.words.specs.Bits.{minus}
 use Rattle.words.specs.model.Loops.{each}
 use Rattle.order.specs.Stored.{elements, numberOf, setOf, row}
 use Rattle.order.specs.Sets.{minusOf}
-use Rattle.order.specs.Rows.{grown}
+use Rattle.order.specs.model.Growing.{grown}
 use Rattle.order.specs.declared.Set.{Set}
 use Rattle.order.proofs.Stored.{number-of, in-bound}
 use Rattle.order.proofs.Listing.{listed-below, some-left, listing-end}
 use Rattle.order.proofs.Growing.{Fresh, fresh-start, fresh-again, fresh-less}
-use Rattle.order.proofs.add_row.Statement.{statement}
-use Rattle.order.proofs.add_row.Tie as tie
+use Rattle.order.proofs.transitive.add_row.Statement.{statement}
+use Rattle.order.proofs.transitive.add_row.Tie as tie
 
 abbrev Inv-loop : tie.InvT-loop
 Inv-loop rows₀ i w₀ rows w = (each elements (grown elements i) rows (numberOf w) ≡ each elements (grown elements i) rows₀ (numberOf w₀)) × Fresh i rows (numberOf w)

@@ -1,10 +1,10 @@
--- `order::add_arc` meets its contract, by that of `with_arc`. Assumes nothing.
+-- `transitive::add_arc` meets its contract, by that of `with_arc`. Assumes nothing.
 use mathlib.Core.Path.{ap}
 use borrow.Author.Needs.{needs}
 use Rattle.order.specs.Orders.{extended}
 use Rattle.order.specs.declared.Order.{Order}
-use Rattle.order.proofs.add_arc.Statement.{statement}
-use Rattle.order.proofs.add_arc.Tie as tie
+use Rattle.order.proofs.transitive.add_arc.Statement.{statement}
+use Rattle.order.proofs.transitive.add_arc.Tie as tie
 
 returns : tie.Need-returns
 unfolding extended
