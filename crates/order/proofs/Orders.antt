@@ -1,7 +1,7 @@
 -- Laws of orders of all elements: each says what arcs an order is the order of. Whoever builds on an order cites these. Assumes nothing.
 use mathlib.Core.Path.{_≡_, refl, sym, ap, _∙_}
 use mathlib.Core.Bool.{Bool, true, false, _||_}
-use mathlib.Core.List.{List, [], _∷_, _++_, List·Memᴰ·head, List·Memᴰ·tail, List·Memᴰ·cases-cons, List·Memᴰ·append-cases, List·Memᴰ·eq-of-singleton, Memᴰ·append-left, Memᴰ·append-right}
+use mathlib.Core.List.{List, [], _∷_}
 use mathlib.Core.Logic.{_⊎_, inl, inr, ⊎-elim, _↔_, Iff·symm}
 use Prim.Native.Nat.{ℕ, _≤_, _<_}
 use lib.Bits.{bitOr}
@@ -11,7 +11,7 @@ use Rattle.words.specs.model.Loops.{upto}
 use Rattle.words.proofs.Bits.{bit-or}
 use Rattle.words.proofs.Tests.{clash, or-says}
 use Rattle.order.specs.Before.{Before, Joined, Acyclic}
-use Rattle.order.specs.Arcs.{With, NoArc, StrictOrder, Within, Drawn, Arc, arc, _∈_, In}
+use Rattle.order.specs.Arcs.{With, NoArc, StrictOrder, Within, Drawn, Arc, In}
 use Rattle.order.specs.Stored.{elements, bound, numberOf, cells, row, RowsFit}
 use Rattle.order.specs.Rows.{after, Represents, grow, rowsOf, arcsIn}
 use Rattle.order.specs.model.Warshall.{endsIn, passingOver}
@@ -107,22 +107,6 @@ order-rows (a ∷ arcs) = ap (λ (o : Order). ofRows (grow elements (o .rows) (a
 pub list-order : (arcs : List Arc) → Within elements (In arcs) → OrderOf (orderOf arcs) (In arcs)
 list-order arcs w = rw (order-rows arcs) (rows-represent elements arcs w)
 
--- the same arcs, in any order and any number of times, give the same order
-pub list-same : (xs ys : List Arc) → Within elements (In xs) → ((a : Arc) → (a ∈ xs) ↔ (a ∈ ys)) → orderOf xs ≡ orderOf ys
-list-same xs ys w same =
-    order-same (list-order xs w) (list-order ys (λ i j m. w i j (same (arc i j) .1 m))) (before-same (λ i j. same (arc i j)))
-
--- so an arc may as well be added last
-pub list-snoc : (arcs : List Arc) (a : Arc) → Within elements (In (a ∷ arcs)) → orderOf (arcs ++ a ∷ []) ≡ extended (orderOf arcs) (a .from) (a .to)
-unfolding orderOf
-list-snoc arcs a w = sym (list-same (a ∷ arcs) (arcs ++ a ∷ []) w (λ b. (there b, back b)))
-  where
-    there : (b : Arc) → b ∈ (a ∷ arcs) → b ∈ (arcs ++ a ∷ [])
-    there b m = ⊎-elim (λ e. Memᴰ·append-right arcs (List·Memᴰ·head e)) (λ k. Memᴰ·append-left (a ∷ []) k) (List·Memᴰ·cases-cons m)
-
-    back : (b : Arc) → b ∈ (arcs ++ a ∷ []) → b ∈ (a ∷ arcs)
-    back b m = ⊎-elim (λ k. List·Memᴰ·tail k) (λ k. List·Memᴰ·head (List·Memᴰ·eq-of-singleton k)) (List·Memᴰ·append-cases arcs m)
-
 -- ---- the order of arcs that are given as rows
 
 pub direct-order : (rows : List ℕ) → OrderOf (orderIn rows) (Direct rows)
@@ -131,10 +115,6 @@ direct-order rows =
     Represents.represents-same
     (list-order (arcsIn elements rows elements) (λ i j m. drawn-within elements (after rows) i j (arcs-drawn elements rows i j .0 m)))
     (before-same (arcs-drawn elements rows))
-
--- the same arcs, the same order
-pub direct-same : (xs ys : List ℕ) → ((i j : ℕ) → Direct xs i j ↔ Direct ys i j) → orderIn xs ≡ orderIn ys
-direct-same xs ys same = order-same (direct-order xs) (direct-order ys) (before-same same)
 
 -- Warshall's closure finds it
 pub direct-closed : (rows : List ℕ) → length rows ≡ cells elements → RowsFit elements rows → record { rows = upto (passingOver elements (endsIn elements rows)) elements rows } ≡ orderIn rows

@@ -1,25 +1,19 @@
 -- Laws of sets. Assumes nothing.
-use mathlib.Core.Path.{_≡_, sym, ap, _∙_}
+use mathlib.Core.Path.{_≡_, ap, _∙_}
 use mathlib.Core.Bool.{Bool, true, false, not, _&&_, _||_}
 use mathlib.Core.Logic.{_↔_}
-use Prim.Native.Nat.{ℕ, suc, _^_, _≤_, _<_}
-use native.Mathlib.Nat.{lt-of-lt-of-le}
+use Prim.Native.Nat.{ℕ, _^_, _≤_, _<_}
 use lib.Dec.{eqb}
 use lib.Bits.{bitAnd, bitOr}
 use Rattle.words.specs.Bits.{bit, withBit, minus, rest}
-use Rattle.words.proofs.Bits.{bit-zero, bit-or, bit-and, bit-minus, bit-single, bit-same}
-use Rattle.words.proofs.Counts.{count-le, count-cong, count-none, count-mono}
+use Rattle.words.proofs.Bits.{bit-zero, bit-or, bit-and, bit-minus, bit-single}
+use Rattle.words.proofs.Counts.{count-le}
 use Rattle.words.proofs.Firsts.{first-le, first-none, at-first, before-first}
 use Rattle.words.proofs.Members.{bit-rest}
-use Rattle.words.proofs.Sizes.{count-rest}
 use Rattle.order.specs.Stored.{elements, bound, numberOf, setOf}
 use Rattle.order.specs.Sets.{member, emptySet, withElement, unionOf, meetOf, minusOf, sizeOf, lowestOf, withoutLowest}
 use Rattle.order.specs.declared.Set.{Set}
 use Rattle.order.proofs.Stored.{number-set, in-bound}
-
--- two sets with the same members mean the same number
-pub number-same : (s t : Set) → ((i : ℕ) → member s i ≡ member t i) → numberOf s ≡ numberOf t
-number-same s t same = bit-same (numberOf s) (numberOf t) same
 
 -- the members of a set that is given by its number
 pub member-set : (w i : ℕ) → member (setOf w) i ≡ bit w i
@@ -61,21 +55,7 @@ lowest-none s = first-none elements (member s)
 pub size-le : (s : Set) → sizeOf s ≤ elements
 size-le s = count-le elements (member s)
 
--- a set with no lowest member has none
-pub size-none : (s : Set) → elements ≤ lowestOf s → sizeOf s ≡ 0
-size-none s h = count-none elements (member s) (λ i l. below-lowest s i (lt-of-lt-of-le l h))
-
--- a subset is no larger
-pub size-mono : (s t : Set) → ((i : ℕ) → i < elements → member s i ≡ true → member t i ≡ true) → sizeOf s ≤ sizeOf t
-size-mono s t h = count-mono elements (member s) (member t) h
-
 -- ---- without its lowest member. The number of a set has a digit for each element: `is_empty` says so.
 
 pub member-without-lowest : (s : Set) → numberOf s < bound → (i : ℕ) → member (withoutLowest s) i ≡ member s i && not (eqb i (lowestOf s))
 member-without-lowest s fit i = member-set (rest (numberOf s)) i ∙ bit-rest elements (numberOf s) i (in-bound fit)
-
--- a set is one smaller: the measure of a loop that lists the members
-pub size-without-lowest : (s : Set) → numberOf s < bound → lowestOf s < elements → sizeOf s ≡ suc (sizeOf (withoutLowest s))
-size-without-lowest s fit h =
-    count-rest elements (numberOf s) (in-bound fit) h
-    ∙ ap suc (count-cong elements (bit (rest (numberOf s))) (member (withoutLowest s)) (λ i l. sym (member-set (rest (numberOf s)) i)))

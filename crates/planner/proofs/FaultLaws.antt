@@ -44,15 +44,6 @@ cause-from Fine true c d e = inr (refl, refl, cc)
 cause-from Fine false c d e = inl e
 cause-from (Refused x) b c d e = inl e
 
--- equal faults, tests and causes; the causes only matter where the test holds
-pub cause-same : {f g : Fault} {a b : Bool} {c d : Cause} → f ≡ g → a ≡ b → (a ≡ true → c ≡ d) → orCause f a c ≡ orCause g b d
-cause-same {f} {g} {a} {b} {c} {d} p q r = go f a r ∙ ap (λ (x : Fault). orCause x a d) p ∙ ap (λ (x : Bool). orCause g x d) q
-  where
-    go : (x : Fault) (t : Bool) → (t ≡ true → c ≡ d) → orCause x t c ≡ orCause x t d
-    go Fine true h = ap Refused (h refl)
-    go Fine false h = refl
-    go (Refused e) t h = refl
-
 -- ---- 9 in its turn
 
 module _ (f : Fault) (lent needed : ℕ) where

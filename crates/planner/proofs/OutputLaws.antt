@@ -64,15 +64,6 @@ pub lent-front : (f : Fault) (written out : List ℕ) → f ≡ Fine → (i : �
 lent-front f written out e i h =
     ap (λ (xs : List ℕ). getD xs i 0) (lent-fine f written out e) ∙ List·getD-append written (drop (length written) out) 0 i h
 
--- equal faults, and where there is none equal lists: equal lists after
-pub lent-same : {f g : Fault} {x y : List ℕ} (out : List ℕ) → f ≡ g → (isFine f ≡ true → x ≡ y) → lentAfter f x out ≡ lentAfter g y out
-unfolding lentAfter
-lent-same {f} {g} {x} {y} out p h = go f h ∙ ap (λ (e : Fault). lentAfter e y out) p
-  where
-    go : (e : Fault) → (isFine e ≡ true → x ≡ y) → lentAfter e x out ≡ lentAfter e y out
-    go Fine h = ap (λ (l : List ℕ). l ++ drop (length l) out) (h refl)
-    go (Refused c) h = refl
-
 -- ---- HOW AN OPERATION ENDS, once for all of them: F is its fault by the definitions, f the one that the code has, and b what the code's test said of it
 
 pub record Ends (F f : Fault) (b : Bool) : Type 0 where

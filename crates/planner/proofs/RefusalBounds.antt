@@ -2,22 +2,16 @@
 -- activities alone. Assumes nothing.
 --
 --   open-refuses, verdict-refuses, needs-refuses, starts-refuses, overload-refuses, flow-refuses, crew-refuses    what every operation does first, and the six
-use mathlib.Core.Path.{_≡_, refl, subst}
-use mathlib.Core.Bool.{Bool, true, false, not, cond}
+use mathlib.Core.Path.{_≡_}
+use mathlib.Core.Bool.{Bool, true, not}
 use mathlib.Core.List.{List}
-use Prim.Native.Nat.{ℕ, _+_, _^_, _<_}
+use Prim.Native.Nat.{ℕ, _^_, _<_}
 use native.Mathlib.Omega.{arith}
 use lib.Dec.{ltb}
-use borrow.Author.Tests.{ltb-true}
-use Rattle.words.proofs.Tests.{cond-has}
 use Rattle.records.specs.Bytes.{AreBytes}
-use Rattle.order.specs.Stored.{elements, numberOf}
-use Rattle.order.specs.Orders.{circleOf}
-use Rattle.order.specs.declared.Order.{Order}
+use Rattle.order.specs.Stored.{numberOf}
 use Rattle.order.proofs.Stored.{number-none}
-use Rattle.plan.specs.Causes.{answerOf}
 use Rattle.plan.specs.Records.{activities}
-use Rattle.plan.specs.declared.Answer.{Answer}
 use Rattle.plan.specs.declared.Answer.the-variants as answer
 use Rattle.plan.proofs.CausePlaces.{told-small}
 use Rattle.solver.proofs.QuoteSound.{need-small}
@@ -34,9 +28,8 @@ use Rattle.planner.specs.Flow.{isKind, flowFault}
 use Rattle.planner.specs.Overload.{overloadFault}
 use Rattle.planner.specs.CrewCheck.{badLists, crewCheckFault}
 use Rattle.planner.specs.declared.Cause.{Cause}
-use Rattle.planner.specs.declared.Cause.the-variants.{Unreadable, JobCircle, PlanCircle, NoKind, Short, Lists}
+use Rattle.planner.specs.declared.Cause.the-variants.{NoKind, Short, Lists}
 use Rattle.planner.specs.declared.Fault.{Fault}
-use Rattle.planner.specs.declared.Fault.the-variants.{Fine, Refused}
 use Rattle.planner.specs.declared.Refusal.{Refusal}
 use Rattle.planner.proofs.FaultLaws.{cause-fine, Every, every-turn}
 use Rattle.planner.proofs.OpenLaws.{count-few, count-within, every-open}

@@ -1,5 +1,5 @@
 -- What is read of the bytes of a number, and that they are bytes. Assumes nothing.
-use mathlib.Core.Path.{_≡_, refl, sym, ap, ap₂, _∙_}
+use mathlib.Core.Path.{_≡_, refl, ap, ap₂, _∙_}
 use mathlib.Core.List.{List, [], _∷_, _++_}
 use Prim.Native.Nat.{ℕ, zero, suc, _+_, _*_, _/_, _%_, _^_, _≤_, _<_}
 use native.Mathlib.Omega.{arith}
@@ -66,13 +66,6 @@ field-take m l i (suc n) h =
     let b : byte (take m l) i ≡ byte l i = getD-take m l i 0 (omega arith) in
     let f : field (take m l) (i + 1) n ≡ field l (i + 1) n = field-take m l (i + 1) n (omega arith) in
     rw (b, f)
-
--- lists that begin with the same m bytes have the same fields there
-pub field-same : (m : ℕ) (l r : List ℕ) → take m l ≡ take m r → (i n : ℕ) → i + n ≤ m → field l i n ≡ field r i n
-field-same m l r e i n h = sym (field-take m l i n h) ∙ ap (λ (x : List ℕ). field x i n) e ∙ field-take m r i n h
-
-pub byte-same : (m : ℕ) (l r : List ℕ) → take m l ≡ take m r → (i : ℕ) → i < m → byte l i ≡ byte r i
-byte-same m l r e i h = sym (getD-take m l i 0 h) ∙ ap (λ (x : List ℕ). byte x i) e ∙ getD-take m r i 0 h
 
 -- the field that the bytes of a number are is the number
 pub field-bytes : (n x : ℕ) (l : List ℕ) → x < 256 ^ n → field (bytes n x ++ l) 0 n ≡ x

@@ -1,29 +1,19 @@
 -- Records written one after another, each to the start of what is left of the lent bytes. Assumes nothing.
 use mathlib.Core.Path.{_≡_, refl, sym, ap, _∙_}
 use mathlib.Core.List.{List, [], _++_, append-assoc, append-nil}
-use Prim.Native.Nat.{ℕ, zero, suc, _+_, _*_, _≤_, _<_}
+use Prim.Native.Nat.{ℕ, zero, suc, _+_, _*_, _<_}
 use native.Mathlib.Omega.{arith}
 use native.Mathlib.Numerals.{add-one}
-use lib.ListN.{length, take, drop, length-append, length-drop, take-append-drop}
-use lib.Seq.{take-at, drop-at, drop-drop, length-take-le}
+use lib.ListN.{length, take, drop, length-append}
+use lib.Seq.{take-at, drop-at}
 use Rattle.words.specs.Sums.{sum}
 use Rattle.words.proofs.Sums.{sum-zero, sum-ones, sum-last}
 use Rattle.words.proofs.Tests.{below-suc}
-use Rattle.records.specs.Records.{flowRecord, startingWith, writtenAt, joined, Written}
+use Rattle.records.specs.Records.{startingWith, joined}
 use Rattle.records.specs.Bytes.{AreBytes}
 use Rattle.records.proofs.Fields.{bytes-append}
-use Rattle.records.proofs.Records.{flow-length}
 
 -- ---- one writing
-
--- what stands before it and what stands after it is as it was
-pub before-writing : (at : ℕ) (r out : List ℕ) → at ≤ length out → take at (writtenAt at r out) ≡ take at out
-before-writing at r out h = rw append-assoc (take-at (take at out) (r ++ drop (at + length r) out) at (length-take-le at out h))
-
-pub after-writing : (at : ℕ) (r out : List ℕ) → at ≤ length out → drop (at + length r) (writtenAt at r out) ≡ drop (at + length r) out
-after-writing at r out h =
-    drop-at (take at out ++ r) (drop (at + length r) out) (at + length r)
-    (length-append (take at out) r ∙ ap (λ k. k + length r) (length-take-le at out h))
 
 pub start-written : (r out : List ℕ) → take (length r) (startingWith r out) ≡ r
 start-written r out = take-at r (drop (length r) out) (length r) refl
@@ -84,39 +74,3 @@ module _ (f : ℕ → List ℕ) (each : (k : ℕ) → length (f k) ≡ 24) where
       rw append-assoc
       (below-suc (λ k. take 24 (drop (24 * k) (joined f n ++ (f n ++ l))) ≡ f k) n (λ k less. joined-at n (f n ++ l) k less)
       (ap (λ t. take 24 t) (drop-at (joined f n) (f n ++ l) (24 * n) (length-joined n)) ∙ take-at (f n) l 24 (each n)) i h)
-
--- ---- a run under way
-
-pub written-none : (f : ℕ → List ℕ) (old : List ℕ) → Written f 0 old old
-unfolding joined
-written-none f old = record { records = refl; rest = refl; long = refl }
-
-module _ {f : ℕ → List ℕ} {n : ℕ} {old out : List ℕ} (w : Written f n old out) where
-  pub written-all : out ≡ joined f n ++ drop (24 * n) old
-  written-all = sym (take-append-drop (24 * n) out) ∙ rw (w .records, w .rest)
-
-  -- the records before record n stay: record i is what it was
-  pub written-at : ((k : ℕ) → length (f k) ≡ 24) → (i : ℕ) → i < n → take 24 (drop (24 * i) out) ≡ f i
-  written-at each i h = rw written-all (joined-at f each n (drop (24 * n) old) i h)
-
-  -- record n is written behind them
-  pub written-next : (next : List ℕ) → length (f n) ≡ 24 → 24 * n + 24 ≤ length old
-      → next ≡ take (24 * n) out ++ f n ++ drop (24 * n + 24) out → Written f (n + 1) old next
-  unfolding joined
-  written-next next l h e =
-      let more : 24 * (n + 1) ≡ 24 * n + 24 = omega arith in
-      let fits : 24 * n ≤ length out = omega (arith, w .long) in
-      let front : length (take (24 * n) out ++ f n) ≡ 24 * n + 24 =
-      length-append (take (24 * n) out) (f n) ∙ rw (length-take-le (24 * n) out fits, l) in
-      let behind : drop (24 * n + 24) out ≡ drop (24 * n + 24) old = sym (drop-drop 24 (24 * n) out) ∙ rw (w .rest) (drop-drop 24 (24 * n) old) in
-      record {
-        records = rw (more, e, add-one, take-at (take (24 * n) out ++ f n) (drop (24 * n + 24) out) (24 * n + 24) front, w .records);
-        rest = rw (more, e, drop-at (take (24 * n) out ++ f n) (drop (24 * n + 24) out) (24 * n + 24) front, behind);
-        long = ap length e ∙ length-append (take (24 * n) out ++ f n) (drop (24 * n + 24) out) ∙ omega (arith, front, length-drop (24 * n + 24) out, w .long);
-      }
-
-  -- as `append_flow` writes it
-  pub written-flow : (next : List ℕ) (kind from to units mark : ℕ) → f n ≡ flowRecord kind from to units mark → 24 * n + 24 ≤ length old
-      → next ≡ take (24 * n) out ++ flowRecord kind from to units mark ++ drop (24 * n + 24) out → Written f (n + 1) old next
-  written-flow next kind from to units mark r h e =
-      written-next next (ap length r ∙ flow-length kind from to units mark) h (e ∙ rw r)

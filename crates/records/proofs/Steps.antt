@@ -14,9 +14,6 @@ use Rattle.records.specs.Records.{flowRecord, overloadRecord, begun, sta
 pub length-writtenAt : (at : ℕ) (r out : List ℕ) → at + length r ≤ length out → length (writtenAt at r out) ≡ length out
 length-writtenAt at r out h = rw (length-append, length-append, length-take-le at out (omega arith), length-drop) (omega arith)
 
-pub length-startingWith : (r out : List ℕ) → length r ≤ length out → length (startingWith r out) ≡ length out
-length-startingWith r out h = rw (length-append, length-drop) (omega arith)
-
 pub begin-steps : (b0 b1 b2 b3 : ℕ) (out o : List ℕ) → o ≡ writtenAt 0 (bytes 24 0) out
     → set (set (set (set o 0 b0) 1 b1) 2 b2) 3 b3 ≡ startingWith (begun b0 b1 b2 b3) out
 unfolding bytes begun

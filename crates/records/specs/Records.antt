@@ -1,6 +1,5 @@
 -- The records that are written (document 01, "Flow" and "Need and overload"), as their 24 bytes, and where they are written. Assumes nothing.
-use Prim.Native.Nat.{ℕ, zero, suc, _+_, _*_}
-use mathlib.Core.Path.{_≡_}
+use Prim.Native.Nat.{ℕ, zero, suc, _+_}
 use mathlib.Core.List.{List, [], _∷_, _++_}
 use lib.ListN.{length, take, drop, replicate}
 use Rattle.records.specs.Bytes.{bytes}
@@ -29,9 +28,3 @@ writtenAt at r out = take at out ++ r ++ drop (at + length r) out
 unfoldable pub joined : (ℕ → List ℕ) → ℕ → List ℕ
 joined f zero = []
 joined f (suc n) = joined f n ++ f n
-
--- the first n records of a run are written to the start of the lent bytes, which were `old`, and the other bytes are as they were
-pub record Written (f : ℕ → List ℕ) (n : ℕ) (old out : List ℕ) : Type 0 where
-  pub records : take (24 * n) out ≡ joined f n
-  pub rest : drop (24 * n) out ≡ drop (24 * n) old
-  pub long : length out ≡ length old

@@ -11,7 +11,6 @@ use mathlib.Core.List.{List}
 use Prim.Native.Nat.{ℕ, suc, _*_, _+_, _≤_, _<_}
 use native.Mathlib.Omega.{arith}
 use Rattle.words.specs.Bits.{bit}
-use Rattle.words.proofs.Sums.{sum-term}
 use Rattle.order.specs.Stored.{elements}
 use Rattle.order.proofs.Stored.{number-set}
 use Rattle.order.specs.Arcs.{StrictOrder}
@@ -20,7 +19,6 @@ use Rattle.order.specs.Rows.{after}
 use Rattle.order.specs.declared.Order.{Order}
 use Rattle.order.proofs.Orders.{after-member, after-row}
 use Rattle.flow_math.specs.Flow.{ResourceFlow}
-use Rattle.flow_math.specs.Handover.{row}
 use Rattle.flow_math.proofs.Theorems
 use Rattle.solver.specs.model.Network.{handed}
 use Rattle.solver.specs.model.Quote.{chosen, flowIn, flowOf, outcome, quoteIn, quoteOf}
@@ -49,11 +47,6 @@ ends m o demand P = outcome-ends m (P .within) (afterRows o) demand (P .idle) (P
 pub need-small : (m : ℕ) (o : Order) (demand : List ℕ) → Plan m o demand → quoteOf m o demand .need ≤ (elements * 65535)
 unfolding quoteIn
 need-small m o demand P = amount-small m (P .within) (afterRows o) demand (P .idle) (P .small)
-
-pub handed-small : (m : ℕ) (o : Order) (demand : List ℕ) → Plan m o demand → (i j : ℕ) → i < elements → j < elements → handed (flowOf m o demand) i j ≤ asked demand i
-unfolding row
-handed-small m o demand P i j hi hj =
-    omega (arith, sound m o demand P .handover .rows i hi, sum-term elements (λ k. handed (flowOf m o demand) i k) j hj)
 
 pub no-flow-frees-more : (m : ℕ) (o : Order) (demand : List ℕ) → Plan m o demand → (a : ℕ) (g : ℕ → ℕ → ℕ) → ResourceFlow elements (isBefore o) (asked demand) a g
     → g 0 (suc elements) + quoteOf m o demand .need ≤ a

@@ -133,10 +133,6 @@ pub sum-cond-not : (n : ℕ) (t : Bool) (g : ℕ → ℕ) → sum n (λ i. cond 
 sum-cond-not n true g = sum-zero n (λ i. 0) (λ i l. refl)
 sum-cond-not n false g = refl
 
-pub cond-split : (t : Bool) (a : ℕ) → cond t a 0 + cond t 0 a ≡ a
-cond-split true a = omega arith
-cond-split false a = omega arith
-
 -- terms of at most c
 pub sum-bound : (n c : ℕ) (g : ℕ → ℕ) → ((i : ℕ) → i < n → g i ≤ c) → sum n g ≤ n * c
 unfolding sum
