@@ -1,3 +1,3 @@
--- Laws of the answers as numbers: Small (each has 64 bits, and so has the set shown), Numbers (the low 8 bits are document 01's number).
-pub mod Small
+-- Laws of the answers as numbers: CodeBounds (each has 64 bits, and so has the set shown), Numbers (the low 8 bits are document 01's number).
+pub mod CodeBounds
 pub mod Numbers

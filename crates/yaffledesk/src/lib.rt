@@ -9,7 +9,7 @@ ghost use Rattle.planner.specs.Flow.{flowAnswer, flowOut};
 ghost use Rattle.planner.specs.Overload.{overloadAnswer, overloadOut};
 ghost use Rattle.planner.specs.CrewCheck.{crewCheckAnswer};
 ghost use Rattle.yaffledesk.specs.Codes.{verdictCode, outputCode, crewCheckCode, shownWord};
-use codes::crew_code;
+use codes::crew_check_code;
 use codes::output_code;
 use codes::shown_word;
 use codes::verdict_code;
@@ -73,5 +73,5 @@ pub extern "C" fn yaffledesk_overload(plan: &[u8], out: &mut [u8]) -> u64
 pub extern "C" fn yaffledesk_crew_check(plan: &[u8], starts: &[u32], durations: &[u32]) -> u64
     ensures { λ r. ⌜ r ≡ crewCheckCode (crewCheckAnswer (now (plan .entry)) (now (starts .entry)) (now (durations .entry))) ⌝ }
 {
-    crew_code(planner::crew_check(plan, starts, durations))
+    crew_check_code(planner::crew_check(plan, starts, durations))
 }

@@ -4,7 +4,7 @@ use native.Mathlib.Omega.{arith}
 use lib.ListN.{length}
 use Rattle.planner.specs.Flow.{flowAnswer}
 use Rattle.yaffledesk.specs.Codes.{outputCode}
-use Rattle.yaffledesk.proofs.Small.{flow-small, same-small}
+use Rattle.yaffledesk.proofs.CodeBounds.{flow-small, same-small}
 use borrow.Author.Needs.{needs}
 use Rattle.yaffledesk.proofs.yaffledesk_flow.Statement.{statement}
 use Rattle.yaffledesk.proofs.yaffledesk_flow.Tie as tie

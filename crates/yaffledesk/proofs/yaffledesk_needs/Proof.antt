@@ -3,7 +3,7 @@ use mathlib.Core.Path.{ap, _∙_}
 use lib.ListN.{length}
 use Rattle.planner.specs.Needs.{needsAnswer}
 use Rattle.yaffledesk.specs.Codes.{outputCode}
-use Rattle.yaffledesk.proofs.Small.{needs-small, same-small}
+use Rattle.yaffledesk.proofs.CodeBounds.{needs-small, same-small}
 use borrow.Author.Needs.{needs}
 use Rattle.yaffledesk.proofs.yaffledesk_needs.Statement.{statement}
 use Rattle.yaffledesk.proofs.yaffledesk_needs.Tie as tie

@@ -3,7 +3,7 @@ use mathlib.Core.Path.{ap, _∙_}
 use lib.ListN.{length}
 use Rattle.planner.specs.Overload.{overloadAnswer}
 use Rattle.yaffledesk.specs.Codes.{outputCode}
-use Rattle.yaffledesk.proofs.Small.{overload-small, same-small}
+use Rattle.yaffledesk.proofs.CodeBounds.{overload-small, same-small}
 use borrow.Author.Needs.{needs}
 use Rattle.yaffledesk.proofs.yaffledesk_overload.Statement.{statement}
 use Rattle.yaffledesk.proofs.yaffledesk_overload.Tie as tie

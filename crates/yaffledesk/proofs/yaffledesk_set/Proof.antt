@@ -5,7 +5,7 @@ use native.Mathlib.Nat.{mod-eq-of-lt}
 use native.Mathlib.Omega.{arith}
 use Rattle.planner.specs.declared.Decision.{Decision}
 use Rattle.yaffledesk.specs.Codes.{shownWord}
-use Rattle.yaffledesk.proofs.Small.{verdict-small}
+use Rattle.yaffledesk.proofs.CodeBounds.{verdict-small}
 use borrow.Author.Needs.{needs}
 use Rattle.yaffledesk.proofs.yaffledesk_set.Statement.{statement}
 use Rattle.yaffledesk.proofs.yaffledesk_set.Tie as tie

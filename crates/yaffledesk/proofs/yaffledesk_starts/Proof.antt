@@ -3,7 +3,7 @@ use mathlib.Core.Path.{ap, _∙_}
 use lib.ListN.{length}
 use Rattle.planner.specs.Starts.{startsAnswer}
 use Rattle.yaffledesk.specs.Codes.{outputCode}
-use Rattle.yaffledesk.proofs.Small.{starts-small, same-small}
+use Rattle.yaffledesk.proofs.CodeBounds.{starts-small, same-small}
 use borrow.Author.Needs.{needs}
 use Rattle.yaffledesk.proofs.yaffledesk_starts.Statement.{statement}
 use Rattle.yaffledesk.proofs.yaffledesk_starts.Tie as tie

@@ -4,7 +4,7 @@ use Prim.Native.Nat.{_<_, _^_}
 use native.Mathlib.Omega.{arith}
 use Rattle.planner.specs.declared.Decision.{Decision}
 use Rattle.yaffledesk.specs.Codes.{verdictCode}
-use Rattle.yaffledesk.proofs.Small.{verdict-small}
+use Rattle.yaffledesk.proofs.CodeBounds.{verdict-small}
 use borrow.Author.Needs.{needs}
 use Rattle.yaffledesk.proofs.yaffledesk_verdict.Statement.{statement}
 use Rattle.yaffledesk.proofs.yaffledesk_verdict.Tie as tie
