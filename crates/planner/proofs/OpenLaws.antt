@@ -24,12 +24,14 @@ use Rattle.plan.specs.Meaning.{Readable}
 use Rattle.plan.specs.model.Said.{Said}
 use Rattle.plan.proofs.Said.{said, durations-small}
 use Rattle.plan.specs.declared.Cause.{Cause as Unread}
+use Rattle.plan.specs.declared.Cause.the-variants.{Length, RecordType, Field, Spare}
 use Rattle.plan.specs.declared.Answer.{Answer}
 use Rattle.plan.specs.declared.Answer.the-variants as answer
 use Rattle.plan.specs.declared.Plan.{Plan}
 use Rattle.plan.specs.declared.Reading.{Reading}
 use Rattle.schedule.specs.model.Arrays.{AllAtMost}
 use Rattle.planner.specs.Faults.{isFine, orCause}
+use Rattle.planner.specs.Numbers.{causeNumber}
 use Rattle.planner.specs.Open.{planIn, rowsOf, jobOrder, planOrder, unreadFault, readFault, orCircle, orCircles, faultOf, Opens}
 use Rattle.planner.specs.model.Opening.{readPlan, orderedOf, openedOf}
 use Rattle.planner.specs.declared.Cause.{Cause}
@@ -126,6 +128,13 @@ every-open P s unread job whole =
 
     round : (f : Fault) (o : Order) (cause : ℕ → Cause) → Every P f → ((i : ℕ) → i < elements → P (cause (i + 1))) → Every P (orCircle f o cause)
     round f o cause h each = every-turn P f (ltb (circleOf o) elements) (cause (circleOf o + 1)) h (λ _ e. each (circleOf o) (ltb-true (circleOf o) elements e))
+
+-- what holds of the numbers 1 to 4 holds of the number of whatever the reader found
+pub unread-number : (P : ℕ → Type 0) → P 1 → P 2 → P 3 → P 4 → (u : Unread) → P (causeNumber (Unreadable u))
+unread-number P one two three four Length = one
+unread-number P one two three four (RecordType p) = two
+unread-number P one two three four (Field p) = three
+unread-number P one two three four (Spare p) = four
 
 -- ---- what the code holds after each step
 
