@@ -46,7 +46,7 @@ use Rattle.promises.specs.Ours.{ours}
 use Rattle.promises.specs.PriceList.{quotedNeed, PriceList, PriceListSentence}
 use Rattle.promises.specs.Cases.{planA, planC}
 use Rattle.promises.specs.Hollow.{refusesAll, acceptsAll, emptyFlow, availableAsNeed, unordered, sevenUnweighed, oneDemand}
-use Rattle.promises.specs.Hollow.{Refuses, AcceptsAll, EmptyFlows, NeedIsAvailable, Unweighed, HollowFail, HollowPlannersFail}
+use Rattle.promises.specs.Hollow.{Refuses, RefusesAll, AcceptsAll, EmptyFlows, NeedIsAvailable, Unweighed, HollowFail, HollowPlannersFail}
 use Rattle.promises.proofs.CircleFaults.{opens-when}
 use Rattle.promises.proofs.PriceListHolds.{price-list}
 use Rattle.promises.proofs.DemandsHold.{same-need}
@@ -215,9 +215,11 @@ unweighed test seven s t rs fs rt ft e w =
 pub hollow-planners-fail : HollowPlannersFail
 hollow-planners-fail =
     record {
-      refuses-all = λ seven. hollow-fail .refuses-all (refusesAll seven) (λ s. by-true (faultOf s) (seven s) (planIn s .count) (planIn s .kinds));
+      refuses-all = λ seven.
+          let all : RefusesAll (refusesAll seven) = λ s. by-true (faultOf s) (seven s) (planIn s .count) (planIn s .kinds) in
+          hollow-fail .refuses-all (refusesAll seven) all;
       accepts-all = hollow-fail .accepts-all acceptsAll accepted;
-      empty-flow = hollow-fail .empty-flow emptyFlow (λ s kind n r e. no-records (flowFault s kind n) r e);
+      empty-flow = let empty : EmptyFlows emptyFlow = λ s kind n r e. no-records (flowFault s kind n) r e in hollow-fail .empty-flow emptyFlow empty;
       available-as-need = hollow-fail .available-as-need availableAsNeed available-written;
       seven-unweighed = λ test seven. hollow-fail .seven-unweighed (sevenUnweighed test seven) (unweighed test seven);
       seven-of-one-demand = λ seven. hollow-fail .seven-unweighed (sevenUnweighed oneDemand seven) (unweighed oneDemand seven);
