@@ -47,6 +47,10 @@ pub after-row : (o : Order) (i : ℕ) → row (afterRows o) i ≡ numberOf (afte
 unfolding afterRows
 after-row o i = sym (number-set (row (o .rows) i))
 
+pub circle-le : (o : Order) → circleOf o ≤ elements
+unfolding circleOf
+circle-le o = Represents.circle-le elements (o .rows)
+
 -- ---- what an order of arcs says
 
 module _ {o : Order} {A : ℕ → ℕ → Type 0} (r : OrderOf o A) where
@@ -70,10 +74,6 @@ module _ {o : Order} {A : ℕ → ℕ → Type 0} (r : OrderOf o A) where
   -- the set of all that i is before, by its members; it has a digit for each element
   pub after-fit : (i : ℕ) → numberOf (afterOf o i) < bound
   after-fit i = rw (number-set (row (o .rows) i)) (to-bound (row-fit elements (o .rows) (r .fit) i))
-
-  pub circle-le : circleOf o ≤ elements
-  unfolding circleOf
-  circle-le = Represents.circle-le r
 
   -- no circle is found exactly where there is none
   pub circle-none : (circleOf o ≡ elements) ↔ Acyclic A

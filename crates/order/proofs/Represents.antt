@@ -29,6 +29,11 @@ after-past n rows i j e h = ap (λ (w : ℕ). bit w j) (row-past n rows i e h) �
 
 -- ---- what rows that represent an order say
 
+-- the search for a circle ends at n
+pub circle-le : (n : ℕ) (rows : List ℕ) → circleIn n rows ≤ n
+unfolding circleIn
+circle-le n rows = first-le n (λ i. after rows i i)
+
 module _ {n : ℕ} {rows : List ℕ} {A : ℕ → ℕ → Type 0} (r : Represents n rows A) where
   -- the ends of a way are below n
   pub from-below : {i j : ℕ} → Before A i j → i < n
@@ -60,10 +65,6 @@ module _ {n : ℕ} {rows : List ℕ} {A : ℕ → ℕ → Type 0} (r : Represent
       (λ j l. test-same (after rows i j) (after others i j) (Iff·trans (r .means i j) (Iff·trans (same i j) (Iff·symm (s .means i j))))))
 
   -- ---- circles
-
-  pub circle-le : circleIn n rows ≤ n
-  unfolding circleIn
-  circle-le = first-le n (λ i. after rows i i)
 
   -- no circle is found exactly where there is none
   pub circle-none : (circleIn n rows ≡ n) ↔ Acyclic A

@@ -7,12 +7,10 @@ use native.Mathlib.Omega.{arith}
 use lib.Dec.{ltb}
 use lib.ListN.{getD}
 use borrow.Author.Tests.{lt-ltb, le-ltb, ltb-true, ltb-false}
-use Rattle.words.proofs.Firsts.{first-le}
 use Rattle.words.proofs.Tests.{by-test, cond-true, cond-false}
 use Rattle.records.specs.Bytes.{AreBytes}
 use Rattle.order.specs.Stored.{elements}
 use Rattle.order.specs.Before.{Acyclic}
-use Rattle.order.specs.Rows.{after, circleIn}
 use Rattle.order.specs.Orders.{Direct, OrderOf, orderIn, extendedBy, joinedRows, circleOf}
 use Rattle.order.specs.declared.Order.{Order}
 use Rattle.order.proofs.Orders.{direct-order, order-begun, circle-none, circle-le}
@@ -24,12 +22,14 @@ use Rattle.plan.specs.Meaning.{Readable}
 use Rattle.plan.specs.model.Said.{Said}
 use Rattle.plan.proofs.Said.{said, durations-small}
 use Rattle.plan.specs.declared.Cause.{Cause as Unread}
+use Rattle.plan.specs.declared.Cause.the-variants.{Length, RecordType, Field, Spare}
 use Rattle.plan.specs.declared.Answer.{Answer}
 use Rattle.plan.specs.declared.Answer.the-variants as answer
 use Rattle.plan.specs.declared.Plan.{Plan}
 use Rattle.plan.specs.declared.Reading.{Reading}
 use Rattle.schedule.specs.model.Arrays.{AllAtMost}
 use Rattle.planner.specs.Faults.{isFine, orCause}
+use Rattle.planner.specs.Numbers.{causeNumber}
 use Rattle.planner.specs.Open.{planIn, rowsOf, jobOrder, planOrder, unreadFault, readFault, orCircle, orCircles, faultOf, Opens}
 use Rattle.planner.specs.model.Opening.{readPlan, orderedOf, openedOf}
 use Rattle.planner.specs.declared.Cause.{Cause}
@@ -87,7 +87,7 @@ module _ (f : Fault) (o : Order) (cause : ℕ → Cause) where
   round-fine : {A : ℕ → ℕ → Type 0} → OrderOf o A → isFine (orCircle f o cause) ≡ true → (isFine f ≡ true) × Acyclic A
   round-fine r e =
       let w = cause-fine f (ltb (circleOf o) elements) (cause (circleOf o + 1)) e in
-      (w .0, circle-none r .0 (omega (arith, circle-le r, ltb-false (circleOf o) elements (w .1))))
+      (w .0, circle-none r .0 (omega (arith, circle-le o, ltb-false (circleOf o) elements (w .1))))
 
   -- element i is the lowest before itself
   pub round-found : (i : ℕ) → isFine f ≡ true → circleOf o ≡ i → i < elements → orCircle f o cause ≡ Refused (cause (i + 1))
@@ -127,6 +127,13 @@ every-open P s unread job whole =
     round : (f : Fault) (o : Order) (cause : ℕ → Cause) → Every P f → ((i : ℕ) → i < elements → P (cause (i + 1))) → Every P (orCircle f o cause)
     round f o cause h each = every-turn P f (ltb (circleOf o) elements) (cause (circleOf o + 1)) h (λ _ e. each (circleOf o) (ltb-true (circleOf o) elements e))
 
+-- what holds of the numbers 1 to 4 holds of the number of whatever the reader found
+pub unread-number : (P : ℕ → Type 0) → P 1 → P 2 → P 3 → P 4 → (u : Unread) → P (causeNumber (Unreadable u))
+unread-number P one two three four Length = one
+unread-number P one two three four (RecordType p) = two
+unread-number P one two three four (Field p) = three
+unread-number P one two three four (Spare p) = four
+
 -- ---- what the code holds after each step
 
 answered : (s : List ℕ) → readOf s .answer ≡ answerOf s
@@ -136,11 +143,6 @@ answered s = refl
 pub read-as : (s : List ℕ) {r : Reading} {f : Fault} → r ≡ readOf s → f ≡ unreadFault (r .answer) → record { plan = r .plan; fault = f } ≡ readPlan s
 unfolding readFault
 read-as s read e = rw (e, read, answered s)
-
--- the search for a circle ends
-pub circle-most : (o : Order) → circleOf o ≤ elements
-unfolding circleOf circleIn
-circle-most o = first-le elements (λ i. after (o .rows) i i)
 
 pub circles-as :
     (before : Fault) (job whole : Order) {five f : Fault} {i j : ℕ} → i ≡ circleOf job → five ≡ orCause before (ltb i elements) (JobCircle (i + 1))

@@ -8,7 +8,7 @@ use native.Mathlib.Omega.{arith}
 use lib.Dec.{ltb}
 use lib.ListN.{getD}
 use Rattle.plan.specs.Meaning.{Readable}
-use Rattle.plan.specs.declared.Cause.the-variants.{Length, RecordType, Field, Spare}
+use Rattle.plan.specs.declared.Cause.{Cause as Unread}
 use Rattle.schedule.specs.declared.Checked.{Checked}
 use Rattle.schedule.specs.declared.Checked.the-variants.{Fits, Broken, Overload}
 use Rattle.planner.specs.Faults.{orCause, orShort}
@@ -24,10 +24,11 @@ use Rattle.planner.specs.Flow.{isKind, flowFault, flowCount}
 use Rattle.planner.specs.File.{flowLength}
 use Rattle.planner.specs.CrewCheck.{badLists, crewCheckFault, crewFound, checkedOf}
 use Rattle.planner.specs.declared.Cause.{Cause}
-use Rattle.planner.specs.declared.Cause.the-variants.{Unreadable, JobCircle, PlanCircle, Overloaded, NoKind, Short, Lists}
+use Rattle.planner.specs.declared.Cause.the-variants.{Unreadable, JobCircle, PlanCircle, NoKind, Short, Lists}
 use Rattle.planner.specs.declared.Fault.{Fault}
 use Rattle.planner.specs.declared.Fault.the-variants.{Fine, Refused}
-use Rattle.planner.proofs.FaultLaws.{cause-before}
+use Rattle.planner.proofs.FaultLaws.{cause-before, Every}
+use Rattle.planner.proofs.OpenLaws.{every-open, unread-number}
 use Rattle.promises.specs.Ours.{ours}
 use Rattle.promises.specs.Paper.{EveryGives, SomeGives, Circles}
 use Rattle.promises.proofs.CircleFaults.{job-circle-means, plan-circle-means, means-job-circle, means-plan-circle}
@@ -114,29 +115,22 @@ module _ (n : ℕ) (ys : List ℕ) (some : 1 ≤ n) (low : n ≤ 6) where
 
 -- ---- the causes 5 and 6, by their numbers
 
-is-five : (c : Cause) (i : ℕ) → numbersOf c ≡ 5 ∷ i ∷ [] → c ≡ JobCircle i
-is-five (Unreadable Length) i e = absurd (omega (arith, heads e))
-is-five (Unreadable (RecordType p)) i e = absurd (omega (arith, heads e))
-is-five (Unreadable (Field p)) i e = absurd (omega (arith, heads e))
-is-five (Unreadable (Spare p)) i e = absurd (omega (arith, heads e))
-is-five (JobCircle j) i e = let z : j ≡ i = cc in ap JobCircle z
-is-five (PlanCircle j) i e = absurd (omega (arith, heads e))
-is-five (Overloaded k need set) i e = absurd (omega (arith, heads e))
-is-five (NoKind n) i e = absurd (omega (arith, heads e))
-is-five (Short n) i e = absurd (omega (arith, heads e))
-is-five (Lists m) i e = absurd (omega (arith, heads e))
+unread-low : (u : Unread) → causeNumber (Unreadable u) ≤ 4
+unread-low = unread-number (λ n. n ≤ 4) (omega arith) (omega arith) (omega arith) (omega arith)
 
-is-six : (c : Cause) (i : ℕ) → numbersOf c ≡ 6 ∷ i ∷ [] → c ≡ PlanCircle i
-is-six (Unreadable Length) i e = absurd (omega (arith, heads e))
-is-six (Unreadable (RecordType p)) i e = absurd (omega (arith, heads e))
-is-six (Unreadable (Field p)) i e = absurd (omega (arith, heads e))
-is-six (Unreadable (Spare p)) i e = absurd (omega (arith, heads e))
-is-six (JobCircle j) i e = absurd (omega (arith, heads e))
-is-six (PlanCircle j) i e = let z : j ≡ i = cc in ap PlanCircle z
-is-six (Overloaded k need set) i e = absurd (omega (arith, heads e))
-is-six (NoKind n) i e = absurd (omega (arith, heads e))
-is-six (Short n) i e = absurd (omega (arith, heads e))
-is-six (Lists m) i e = absurd (omega (arith, heads e))
+is-five : (s : List ℕ) (i : ℕ) → Every (λ (c : Cause). numbersOf c ≡ 5 ∷ i ∷ [] → c ≡ JobCircle i) (faultOf s)
+is-five s i =
+    every-open (λ (c : Cause). numbersOf c ≡ 5 ∷ i ∷ [] → c ≡ JobCircle i) s
+    (λ u _ e. absurd (omega (arith, unread-low u, heads e)))
+    (λ j _ e. let z : j + 1 ≡ i = cc in ap JobCircle z)
+    (λ j _ e. absurd (omega (arith, heads e)))
+
+is-six : (s : List ℕ) (i : ℕ) → Every (λ (c : Cause). numbersOf c ≡ 6 ∷ i ∷ [] → c ≡ PlanCircle i) (faultOf s)
+is-six s i =
+    every-open (λ (c : Cause). numbersOf c ≡ 6 ∷ i ∷ [] → c ≡ PlanCircle i) s
+    (λ u _ e. absurd (omega (arith, unread-low u, heads e)))
+    (λ j _ e. absurd (omega (arith, heads e)))
+    (λ j _ e. let z : j + 1 ≡ i = cc in ap PlanCircle z)
 
 pub circles : (s : List ℕ) → Readable s → Circles ours s
 circles s r =
@@ -144,10 +138,10 @@ circles s r =
       five = λ i L. every-gives s (JobCircle (i + 1)) (means-job-circle s i r L);
       five-means = λ i g.
           let w = fault-gives 5 ((i + 1) ∷ []) (omega arith) (omega arith) s g in
-          job-circle-means s i (w .1 ∙ ap Refused (is-five (w .0) (i + 1) (w .2))) .1;
+          job-circle-means s i (w .1 ∙ ap Refused (is-five s (i + 1) (w .0) (w .1) (w .2))) .1;
       six = λ i free L. every-gives s (PlanCircle (i + 1)) (means-plan-circle s i r free L);
       six-means = λ i g.
           let w = fault-gives 6 ((i + 1) ∷ []) (omega arith) (omega arith) s g in
-          let v = plan-circle-means s i (w .1 ∙ ap Refused (is-six (w .0) (i + 1) (w .2))) in
+          let v = plan-circle-means s i (w .1 ∙ ap Refused (is-six s (i + 1) (w .0) (w .1) (w .2))) in
           (v .1, v .2);
     }

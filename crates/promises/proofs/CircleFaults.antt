@@ -113,7 +113,7 @@ plan-circle-means s i e =
     (λ w.
     let q = w .3 in
     let z : i + 1 ≡ circleOf (planOrder s) + 1 = cc in
-    (w .0, circle-none (job-order s (w .0)) .0 (omega (arith, w .1, circle-le (job-order s (w .0)))), lowest-of (plan-order s (w .0)) i (omega arith) (w .2))))
+    (w .0, circle-none (job-order s (w .0)) .0 (omega (arith, w .1, circle-le (jobOrder s))), lowest-of (plan-order s (w .0)) i (omega arith) (w .2))))
     (fault-from s (PlanCircle (i + 1)) e)
 
 -- ---- and each meaning has its cause
@@ -125,7 +125,7 @@ is-lowest {o} {A} r i L = go (decLt (circleOf o) elements) (decLt (circleOf o) i
     go (yes l) (yes h) d = absurd (L .none (circleOf o) h (circle-lowest r l .0))
     go (yes l) (no h) (yes k) = absurd (circle-lowest r l .1 i k (L .round))
     go (yes l) (no h) (no k) = (omega arith, l)
-    go (no l) c d = absurd (circle-none r .0 (omega (arith, circle-le r)) i (L .round))
+    go (no l) c d = absurd (circle-none r .0 (omega (arith, circle-le o)) i (L .round))
 
 pub means-job-circle : (s : List ℕ) (i : ℕ) → Readable s → Lowest (JobArc s) i → faultOf s ≡ Refused (JobCircle (i + 1))
 unfolding faultOf

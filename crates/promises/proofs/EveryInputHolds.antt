@@ -7,7 +7,6 @@ use Prim.Native.Nat.{ℕ, _+_, _-_}
 use lib.Dec.{ltb}
 use lib.ListN.{length}
 use Rattle.plan.specs.declared.Cause.{Cause as Unread}
-use Rattle.plan.specs.declared.Cause.the-variants.{Length, RecordType, Field, Spare}
 use Rattle.plan.specs.declared.Answer.the-variants as answer
 use Rattle.schedule.specs.declared.Checked.{Checked}
 use Rattle.planner.specs.Faults.{orCause}
@@ -28,7 +27,7 @@ use Rattle.planner.specs.declared.Decision.the-variants as verdict
 use Rattle.planner.specs.declared.Output.the-variants as output
 use Rattle.planner.specs.declared.CrewChecked.the-variants as crew
 use Rattle.planner.proofs.FaultLaws.{Every, every-turn}
-use Rattle.planner.proofs.OpenLaws.{every-open}
+use Rattle.planner.proofs.OpenLaws.{every-open, unread-number}
 use Rattle.planner.proofs.OutputLaws.{output-is-refused, lent-refused}
 use Rattle.planner.specs.Numbers.{causeNumber}
 use Rattle.promises.specs.Ours.{ours}
@@ -59,10 +58,7 @@ only-more xs ys f h c e = one-more xs ys (causeNumber c) (h c e)
 -- ---- the causes 1 to 6
 
 unread-one : (u : Unread) → OneOf opening (causeNumber (Unreadable u))
-unread-one Length = inl refl
-unread-one (RecordType p) = inr (inl refl)
-unread-one (Field p) = inr (inr (inl refl))
-unread-one (Spare p) = inr (inr (inr (inl refl)))
+unread-one = unread-number (OneOf opening) (inl refl) (inr (inl refl)) (inr (inr (inl refl))) (inr (inr (inr (inl refl))))
 
 fault-only : (s : List ℕ) → Only opening (faultOf s)
 fault-only s =

@@ -5,36 +5,31 @@ use mathlib.Core.List.{List, [], _∷_}
 use Prim.Native.Nat.{ℕ, zero, suc, _+_, _≤_, _<_}
 use native.Mathlib.Omega.{arith}
 use lib.Dec.{ltb}
-use lib.ListN.{length, replicate, length-replicate}
+use lib.ListN.{length, getD, replicate, length-replicate}
 use borrow.Author.Tests.{ltb-true}
 use Rattle.words.specs.Bits.{digit, bit}
-use Rattle.words.specs.model.Loops.{each, run, upto}
-use Rattle.words.specs.Members.{first, members, count}
-use Rattle.words.specs.Sums.{sum, maximum}
+use Rattle.words.specs.Members.{count}
+use Rattle.words.specs.Sums.{sum}
 use Rattle.words.specs.Tables.{table}
 use Rattle.words.proofs.Sums.{sum-zero}
 use Rattle.words.proofs.Tables.{getD-table, length-table}
 use Rattle.words.proofs.Tests.{clash, and-left, and-right}
 use Rattle.order.specs.Before.{Acyclic}
-use Rattle.order.specs.Stored.{row, putRow, rowTable, cells}
-use Rattle.order.specs.Rows.{grow, arcsFrom, arcsIn, circleIn}
-use Rattle.order.specs.Orders.{extended, circleOf, orderOf, orderIn, joinedRows, afterRows}
-use Rattle.records.specs.Bytes.{AreBytes, field, zeros, bytes}
-use Rattle.plan.specs.Records.{activityCount, leading, activityFields, crewFields, arcFields, demandsOf}
-use Rattle.plan.specs.model.ArcRows.{withArc, arcsAfter, arcsUpTo}
-use Rattle.plan.specs.model.Plans.{durationsOf, demandTable, availableOf, planOf}
-use Rattle.plan.specs.Causes.{rule, activityCause, crewCause, arcCause, causeAt, firstRefusal, recordsCause, isLength, answerOf}
-use Rattle.plan.specs.model.Reads.{readOf}
-use Rattle.plan.specs.Meaning.{Readable, FileArc, fileDuration, fileDemand, fileKinds, fileAvailable}
+use Rattle.order.specs.Stored.{row, rowTable, cells}
+use Rattle.order.specs.Rows.{grow, arcsFrom, arcsIn}
+use Rattle.order.specs.Orders.{extended, orderOf, orderIn, joinedRows}
+use Rattle.records.specs.Bytes.{AreBytes, field}
+use Rattle.plan.specs.Records.{activityCount, leading}
+use Rattle.plan.specs.Meaning.{Readable, FileArc, fileDemand, fileKinds, fileAvailable}
 use Rattle.flow_math.specs.Heaviest.{heaviest, needOf}
 use Rattle.kinds.specs.Needs.{demandsFor}
 use Rattle.kinds.specs.Reading.{unitsRead}
 use Rattle.planner.specs.Faults.{isFine, orCause}
-use Rattle.planner.specs.Open.{planIn, readFault, faultOf}
+use Rattle.planner.specs.Open.{planIn, faultOf}
 use Rattle.planner.specs.Output.{outputOf, lentAfter}
 use Rattle.planner.specs.Need.{availableFor, needFor}
 use Rattle.planner.specs.Verdict.{verdictOf}
-use Rattle.planner.specs.Needs.{needsFault, needNumbers, needsOut}
+use Rattle.planner.specs.Needs.{needsFault}
 use Rattle.planner.specs.Flow.{flowFault}
 use Rattle.planner.specs.File.{flowLength}
 use Rattle.planner.specs.declared.Cause.{Cause}
@@ -51,10 +46,12 @@ use Rattle.promises.specs.Ours.{ours}
 use Rattle.promises.specs.PriceList.{quotedNeed, PriceList, PriceListSentence}
 use Rattle.promises.specs.Cases.{planA, planC}
 use Rattle.promises.specs.Hollow.{refusesAll, acceptsAll, emptyFlow, availableAsNeed, unordered, sevenUnweighed, oneDemand}
-use Rattle.promises.specs.Hollow.{Refuses, AcceptsAll, EmptyFlows, NeedIsAvailable, Unweighed, HollowFail, HollowPlannersFail}
+use Rattle.promises.specs.Hollow.{Refuses, RefusesAll, AcceptsAll, EmptyFlows, NeedIsAvailable, Unweighed, HollowFail, HollowPlannersFail}
 use Rattle.promises.proofs.CircleFaults.{opens-when}
 use Rattle.promises.proofs.PriceListHolds.{price-list}
 use Rattle.promises.proofs.DemandsHold.{same-need}
+use Rattle.promises.proofs.CasePlans.{all-opened}
+use Rattle.promises.proofs.CasesHold.{needs-left}
 
 -- ---- lists of bytes, by a test
 
@@ -84,17 +81,17 @@ record Computes : Type 0 where
   alike : unordered planA ≡ unordered planC
 
 computes : Computes
-unfolding row putRow rowTable cells digit bit each run upto first members count sum maximum table grow arcsFrom arcsIn circleIn extended circleOf orderOf orderIn joinedRows afterRows field zeros bytes leading activityFields crewFields arcFields fileDuration fileDemand fileKinds fileAvailable durationsOf demandsOf demandTable availableOf withArc arcsAfter arcsUpTo planOf rule activityCause crewCause arcCause causeAt firstRefusal recordsCause isLength answerOf readOf heaviest needOf demandsFor readFault faultOf lentAfter needFor needsFault needNumbers needsOut flowLength
+unfolding digit bit table row rowTable cells grow arcsFrom arcsIn extended orderOf orderIn joinedRows field leading fileDemand fileKinds fileAvailable heaviest needOf demandsFor lentAfter needFor flowLength
 computes =
     record {
-      a-fault = refl;
-      c-fault = refl;
+      a-fault = all-opened .a .fault;
+      c-fault = all-opened .c .fault;
       a-kinds = refl;
       c-kinds = refl;
       a-available = refl;
       c-available = refl;
-      a-need = refl;
-      c-need = refl;
+      a-need = ap (λ (l : List ℕ). getD l 0 0) (needs-left (all-opened .a) (0 ∷ []));
+      c-need = ap (λ (l : List ℕ). getD l 0 0) (needs-left (all-opened .c) (0 ∷ []));
       a-count = refl;
       a-demand = refl;
       a-room = refl;
@@ -218,9 +215,11 @@ unweighed test seven s t rs fs rt ft e w =
 pub hollow-planners-fail : HollowPlannersFail
 hollow-planners-fail =
     record {
-      refuses-all = λ seven. hollow-fail .refuses-all (refusesAll seven) (λ s. by-true (faultOf s) (seven s) (planIn s .count) (planIn s .kinds));
+      refuses-all = λ seven.
+          let all : RefusesAll (refusesAll seven) = λ s. by-true (faultOf s) (seven s) (planIn s .count) (planIn s .kinds) in
+          hollow-fail .refuses-all (refusesAll seven) all;
       accepts-all = hollow-fail .accepts-all acceptsAll accepted;
-      empty-flow = hollow-fail .empty-flow emptyFlow (λ s kind n r e. no-records (flowFault s kind n) r e);
+      empty-flow = let empty : EmptyFlows emptyFlow = λ s kind n r e. no-records (flowFault s kind n) r e in hollow-fail .empty-flow emptyFlow empty;
       available-as-need = hollow-fail .available-as-need availableAsNeed available-written;
       seven-unweighed = λ test seven. hollow-fail .seven-unweighed (sevenUnweighed test seven) (unweighed test seven);
       seven-of-one-demand = λ seven. hollow-fail .seven-unweighed (sevenUnweighed oneDemand seven) (unweighed oneDemand seven);

@@ -1,4 +1,4 @@
--- DEMAND 2 HOLDS OF OURS. It rests on Circling (causes 5 and 6), Earliest (starts), Checks (crew check) and Promise (flows). Assumes nothing.
+-- DEMAND 2 HOLDS OF OURS. It rests on CircleCauses (causes 5 and 6), EarliestStarts (starts), CrewCheckAnswers (crew check) and PriceListHolds (flows). Assumes nothing.
 use Rattle.promises.specs.Ours.{ours}
 use Rattle.promises.specs.Paper.{PaperSentence}
 use Rattle.promises.proofs.CircleFaults.{opens-when}

@@ -24,11 +24,11 @@ use Rattle.planner.specs.Overload.{overloadFault, overCount}
 use Rattle.planner.specs.Flow.{isKind, flowFault, flowCount}
 use Rattle.planner.specs.File.{flowLength}
 use Rattle.planner.specs.declared.Cause.{Cause}
-use Rattle.planner.specs.declared.Cause.the-variants.{Unreadable, JobCircle, PlanCircle, Overloaded, NoKind, Short, Lists}
+use Rattle.planner.specs.declared.Cause.the-variants.{Unreadable, NoKind, Short}
 use Rattle.planner.specs.declared.Fault.{Fault}
 use Rattle.planner.specs.declared.Fault.the-variants.{Fine, Refused}
-use Rattle.planner.proofs.FaultLaws.{cause-before, cause-next, cause-none, short-next, short-none}
-use Rattle.planner.proofs.OpenLaws.{opens-readable}
+use Rattle.planner.proofs.FaultLaws.{cause-before, cause-next, cause-none, short-next, short-none, Every}
+use Rattle.planner.proofs.OpenLaws.{opens-readable, every-open}
 use Rattle.planner.proofs.QuotedNeeds.{count-in, kinds-in}
 use Rattle.promises.specs.Ours.{ours}
 use Rattle.promises.specs.PriceList.{Exceeds, Enough}
@@ -39,15 +39,12 @@ use Rattle.promises.proofs.CircleCauses.{every-gives, fault-gives, head
 
 -- ---- causes 1 to 4
 
--- a cause with such a number is the reader's
-is-unread : (c : Cause) (n : ℕ) (values : List ℕ) → n ≤ 4 → numbersOf c ≡ n ∷ values → (u : Unread) × (c ≡ Unreadable u)
-is-unread (Unreadable u) n values h e = (u, refl)
-is-unread (JobCircle j) n values h e = absurd (omega (arith, h, heads e))
-is-unread (PlanCircle j) n values h e = absurd (omega (arith, h, heads e))
-is-unread (Overloaded k need set) n values h e = absurd (omega (arith, h, heads e))
-is-unread (NoKind k) n values h e = absurd (omega (arith, h, heads e))
-is-unread (Short k) n values h e = absurd (omega (arith, h, heads e))
-is-unread (Lists m) n values h e = absurd (omega (arith, h, heads e))
+-- a fault of the file with such a number is the reader's
+is-unread : (s : List ℕ) (n : ℕ) (values : List ℕ) → n ≤ 4 → Every (λ (c : Cause). numbersOf c ≡ n ∷ values → (u : Unread) × (c ≡ Unreadable u)) (faultOf s)
+is-unread s n values h =
+    every-open (λ (c : Cause). numbersOf c ≡ n ∷ values → (u : Unread) × (c ≡ Unreadable u)) s (λ u _ e. (u, refl))
+    (λ i _ e. absurd (omega (arith, h, heads e)))
+    (λ i _ e. absurd (omega (arith, h, heads e)))
 
 unreadables : (s : List ℕ) → Unreadables ours s
 unreadables s =
@@ -55,7 +52,7 @@ unreadables s =
       every = λ u e. every-gives s (Unreadable u) (means-unreadable s u e);
       some = λ n values p q g.
           let w = fault-gives n values p (omega (arith, q)) s g in
-          let v = is-unread (w .0) n values q (w .2) in
+          let v = is-unread s n values q (w .0) (w .1) (w .2) in
           (v .0, unreadable-means s (v .0) (w .1 ∙ ap Refused (v .1)), sym (ap numbersOf (v .1)) ∙ w .2);
     }
 

@@ -1,15 +1,16 @@
 -- `planner::open::or_circles` meets its contract, from the two circles. Assumes nothing.
 use native.Mathlib.Omega.{arith}
-use Rattle.planner.proofs.OpenLaws.{circle-most, circles-as}
+use Rattle.order.proofs.Orders.{circle-le}
+use Rattle.planner.proofs.OpenLaws.{circles-as}
 use borrow.Author.Needs.{needs}
 use Rattle.planner.proofs.open.or_circles.Statement.{statement}
 use Rattle.planner.proofs.open.or_circles.Tie as tie
 
 add-t8 : tie.Need-add-t8
-add-t8 c = record { fits = omega (arith, c .circle .ensures, circle-most (c .before .args .job)) }
+add-t8 c = record { fits = omega (arith, c .circle .ensures, circle-le (c .before .args .job)) }
 
 add-t8-2 : tie.Need-add-t8-2
-add-t8-2 c = record { fits = omega (arith, c .circle2 .ensures, circle-most (c .before .before .before .args .whole)) }
+add-t8-2 c = record { fits = omega (arith, c .circle2 .ensures, circle-le (c .before .before .before .args .whole)) }
 
 returns : tie.Need-returns
 returns c =

@@ -1,0 +1,136 @@
+-- The plans A to F, opened: what their bytes are read as, and which fault they have. Each is computed once, here; what an operation makes of a plan goes by these two
+-- alone (`opened-as`). Assumes nothing.
+use mathlib.Core.Path.{_≡_, refl, ap, _∙_}
+use mathlib.Core.List.{List, [], _∷_, _++_}
+use Prim.Native.Nat.{ℕ, _-_, _*_}
+use lib.ListN.{length, replicate}
+use Rattle.words.specs.Bits.{digit, bit}
+use Rattle.words.specs.Members.{first}
+use Rattle.words.specs.Tables.{table}
+use Rattle.order.specs.Stored.{elements, rowsFrom, row, putRow, rowTable, cells}
+use Rattle.order.specs.Rows.{grow, arcsFrom, arcsIn, circleIn}
+use Rattle.order.specs.Orders.{extended, circleOf, orderOf, orderIn, joinedRows}
+use Rattle.records.specs.Bytes.{field, zeros}
+use Rattle.plan.specs.Records.{leading, activityFields, crewFields, arcFields, demandsOf}
+use Rattle.plan.specs.Meaning.{fileDuration, fileDemand, fileKinds, fileAvailable}
+use Rattle.plan.specs.model.ArcRows.{withArc, arcsAfter, arcsUpTo}
+use Rattle.plan.specs.model.Plans.{durationsOf, demandTable, availableOf, planOf}
+use Rattle.plan.specs.Causes.{rule, activityCause, crewCause, arcCause, causeAt, firstRefusal, recordsCause, isLength, answerOf}
+use Rattle.plan.specs.model.Reads.{readOf}
+use Rattle.plan.specs.declared.Plan.{Plan}
+use Rattle.plan.specs.declared.Reading.{Reading}
+use Rattle.plan.specs.declared.Answer.the-variants.{Readable}
+use Rattle.planner.specs.Open.{planIn, orderFor, unreadFault, readFault, orCircles, faultOf}
+use Rattle.planner.specs.declared.Cause.the-variants.{JobCircle, PlanCircle}
+use Rattle.planner.specs.declared.Fault.{Fault}
+use Rattle.planner.specs.declared.Fault.the-variants.{Fine, Refused}
+use Rattle.promises.specs.Cases.{planA, planB, planC, planD, planE, planEJob, planF}
+
+-- ---- the plans as tables
+
+-- n numbers: these, and 0 from there on
+abbrev padded : ℕ → List ℕ → List ℕ
+padded n xs = xs ++ replicate (n - length xs) 0
+
+-- a plan of one kind, with 4 available: durations, demands, and the sets that its rows of job arcs and of extra arcs are
+abbrev planWith : List ℕ → List ℕ → List ℕ → List ℕ → Plan
+planWith duration demand job extra =
+    record {
+      count = length duration;
+      kinds = 1;
+      duration = padded elements duration;
+      demand = padded (8 * elements) demand;
+      available = padded 8 (4 ∷ []);
+      job = rowsFrom (padded elements job);
+      extra = rowsFrom (padded elements extra);
+    }
+
+-- the plans A to E
+abbrev fourWith : List ℕ → List ℕ → Plan
+fourWith job extra = planWith (1 ∷ 2 ∷ 3 ∷ 1 ∷ []) (2 ∷ 2 ∷ 2 ∷ 2 ∷ []) job extra
+
+abbrev pub inA : Plan
+inA = fourWith [] (2 ∷ 8 ∷ [])
+
+abbrev pub inB : Plan
+inB = fourWith [] (14 ∷ [])
+
+abbrev pub inC : Plan
+inC = fourWith [] []
+
+abbrev pub inD : Plan
+inD = fourWith [] (12 ∷ 12 ∷ [])
+
+abbrev pub inE : Plan
+inE = fourWith [] (2 ∷ 1 ∷ [])
+
+abbrev pub inEJob : Plan
+inEJob = fourWith (2 ∷ 1 ∷ []) []
+
+abbrev pub inF : ℕ → Plan
+inF demand = planWith (1 ∷ []) (demand ∷ []) [] []
+
+-- ---- so they are read
+
+abbrev Reads : List ℕ → Plan → Type 0
+Reads s q = readOf s ≡ record { plan = q; answer = Readable }
+
+record AllRead : Type 0 where
+  a : Reads planA inA
+  b : Reads planB inB
+  c : Reads planC inC
+  d : Reads planD inD
+  e : Reads planE inE
+  e-job : Reads planEJob inEJob
+  f4 : Reads (planF 4) (inF 4)
+  f5 : Reads (planF 5) (inF 5)
+
+all-read : AllRead
+unfolding digit bit first table row putRow cells field zeros leading activityFields crewFields arcFields demandsOf fileDuration fileDemand fileKinds fileAvailable withArc arcsAfter arcsUpTo durationsOf demandTable availableOf planOf rule activityCause crewCause arcCause causeAt firstRefusal recordsCause isLength answerOf readOf
+all-read = record { a = refl; b = refl; c = refl; d = refl; e = refl; e-job = refl; f4 = refl; f5 = refl }
+
+-- ---- and so they are opened
+
+-- the fault of what was read
+abbrev faultIn : Reading → Fault
+faultIn r = orCircles (unreadFault (r .answer)) (orderIn (r .plan .job)) (orderFor (r .plan))
+
+fault-in : (s : List ℕ) → faultOf s ≡ faultIn (readOf s)
+unfolding faultOf readFault readOf
+fault-in s = refl
+
+-- the plan and the fault of a file
+pub record OpenedAs (s : List ℕ) (q : Plan) (f : Fault) : Type 0 where
+  pub plan : planIn s ≡ q
+  pub fault : faultOf s ≡ f
+
+reads-as : {s : List ℕ} {q : Plan} {f : Fault} → Reads s q → faultIn (record { plan = q; answer = Readable }) ≡ f → OpenedAs s q f
+reads-as {s} r e = record { plan = ap (λ (x : Reading). x .plan) r; fault = fault-in s ∙ ap faultIn r ∙ e }
+
+pub record AllOpened : Type 0 where
+  pub a : OpenedAs planA inA Fine
+  pub b : OpenedAs planB inB Fine
+  pub c : OpenedAs planC inC Fine
+  pub d : OpenedAs planD inD Fine
+  pub e : OpenedAs planE inE (Refused (PlanCircle 1))
+  pub e-job : OpenedAs planEJob inEJob (Refused (JobCircle 1))
+  pub f4 : OpenedAs (planF 4) (inF 4) Fine
+  pub f5 : OpenedAs (planF 5) (inF 5) Fine
+
+pub all-opened : AllOpened
+unfolding digit bit first table row rowTable cells grow arcsFrom arcsIn circleIn extended circleOf orderOf orderIn joinedRows
+all-opened =
+    record {
+      a = reads-as (all-read .a) refl;
+      b = reads-as (all-read .b) refl;
+      c = reads-as (all-read .c) refl;
+      d = reads-as (all-read .d) refl;
+      e = reads-as (all-read .e) refl;
+      e-job = reads-as (all-read .e-job) refl;
+      f4 = reads-as (all-read .f4) refl;
+      f5 = reads-as (all-read .f5) refl;
+    }
+
+-- what goes by the plan and the fault of a file
+pub opened-as : {A : Type 0} {s : List ℕ} {q : Plan} {f : Fault} (of : Plan → Fault → A) → OpenedAs s q f → of (planIn s) (faultOf s) ≡ of q f
+opened-as {s = s} {q = q} of o = ap (λ (x : Plan). of x (faultOf s)) (o .plan) ∙ ap (λ (x : Fault). of q x) (o .fault)
