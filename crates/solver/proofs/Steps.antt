@@ -10,15 +10,13 @@ use borrow.Author.Tests.{eq-eqb, ne-eqb, lt-ltb, le-ltb}
 use Rattle.words.specs.Bits.{minus, withBit, rest}
 use Rattle.words.specs.model.Loops.{each}
 use Rattle.words.proofs.Tests.{cond-true, cond-false}
-use Rattle.order.specs.Stored.{elements, numberOf, row as setAt, putRow, setOf}
-use Rattle.order.proofs.Stored.{number-of}
+use Rattle.order.specs.Stored.{elements, row as setAt, putRow, setOf}
 use Rattle.solver.specs.model.Search.{Look}
 use Rattle.solver.specs.declared.Quoted.{Quoted}
-use Rattle.solver.specs.declared.Leads.{Leads}
 use Rattle.solver.specs.model.Search.{low, marks, Seen, seen, visit, reached, fresh, found, onward, advance, begun, reach}
 use Rattle.order.specs.model.Places.{positive}
 use Rattle.solver.specs.model.Network.{Network, network, wrap, cell, giver, leaders, joined, shifted, walk, handing, augmented}
-use Rattle.solver.specs.model.Solve.{blanks, blankRows, Round, round, solved, rankOf, rankedAt, ranked, leadsOf, handRank, started, sought, rounded, next, settle}
+use Rattle.solver.specs.model.Solve.{blanks, blankRows, Round, round, solved, rankOf, rankedAt, ranked, handRank, started, sought, rounded, next, settle}
 use Rattle.solver.specs.model.Quote.{unused, copied, outcome, amount, told, quoted, quoteIn, flowIn}
 
 -- ---- a search
@@ -167,16 +165,6 @@ module _ (m : ℕ) (rows : List ℕ) (s : Network) (able roots slack : ℕ) (lef
   pub round-none : elements ≤ q .at → round s q ≡ rounded m rows s
   unfolding rounded
   round-none h = rw (← seen-as) (ap (λ (x : Network). round x q) (sym (cond-false _ _ (le-ltb _ _ h))))
-
--- what the rounds ask, as numbers
-module _ (m : ℕ) (rows b : List ℕ) {l : Leads} (e : l ≡ leadsOf m rows b) where
-  pub able-is : numberOf (l .able) ≡ leaders m rows
-  unfolding leadsOf
-  able-is = number-of _ (ap (λ (x : Leads). x .able) e)
-
-  pub numbers-is : numberOf (l .numbers) ≡ leaders elements b
-  unfolding leadsOf
-  numbers-is = number-of _ (ap (λ (x : Leads). x .numbers) e)
 
 pub solves : {t : Network} {x : Round} (m n : ℕ) (rows b : List ℕ) (s : Network) {w : ℕ}
     → t ≡ each elements (handRank rows b) s w → w ≡ leaders elements b → x ≡ rounded m rows t → settle m n rows x ≡ solved m n rows b s

@@ -4,7 +4,7 @@ ghost use mathlib.Core.Path.{_≡_};
 ghost use Prim.Native.Nat.{_≤_};
 ghost use Rattle.order.specs.Stored.{elements, numberOf};
 ghost use Rattle.solver.specs.model.Search.{looked};
-ghost use Rattle.solver.specs.model.Solve.{ranked, leadsOf};
+ghost use Rattle.solver.specs.model.Solve.{ranked, LeadsOf};
 ghost use Rattle.solver.specs.model.Quote.{unused, copied, amount, told, Clean, quoteIn, flowIn, quoteOf, flowOf};
 use order::ELEMENTS;
 use order::Order;
@@ -100,7 +100,7 @@ pub fn ranks(rows: &Rows, m: usize) -> Rows
 // What else they ask, by an order and its ranking.
 pub fn leads_of(rows: &Rows, ranks: &Rows, m: usize) -> Leads
     requires { ⌜ m ≤ elements ⌝ }
-    ensures { λ r. ⌜ r ≡ leadsOf m (now (rows .entry)) (now (ranks .entry)) ⌝ }
+    ensures { λ r. ⌜ LeadsOf m (now (rows .entry)) (now (ranks .entry)) r ⌝ }
 {
     let numbers = rounds::leading_of(ranks, ELEMENTS);
     let able = rounds::leading_of(rows, m);
@@ -117,7 +117,7 @@ fn quote_ranked(
     demand: &[u32; ELEMENTS],
     flow: &mut [u32; ELEMENTS * ELEMENTS],
 ) -> Quoted
-    requires { ⌜ (m ≤ elements) × (now ranks ≡ ranked m (now rows)) × (leads ≡ leadsOf m (now rows) (now ranks)) × (now flow ≡ unused) ⌝ }
+    requires { ⌜ (m ≤ elements) × (now ranks ≡ ranked m (now rows)) × LeadsOf m (now rows) (now ranks) leads × (now flow ≡ unused) ⌝ }
     ensures { λ r. ⌜ (r ≡ quoteIn m (now (rows .entry)) (now (demand .entry))) × (now (flow .exit) ≡ flowIn m (now (rows .entry)) (now (demand .entry))) ⌝ }
 {
     let mut givers = rounds::blank_rows();
@@ -145,7 +145,7 @@ pub fn weigh_ranked(
     demand: &[u32; ELEMENTS],
     flow: &mut [u32; ELEMENTS * ELEMENTS],
 ) -> Quoted
-    requires { ⌜ (m ≤ elements) × (now ranks ≡ ranked m (now rows)) × (leads ≡ leadsOf m (now rows) (now ranks)) × (now flow ≡ unused) ⌝ }
+    requires { ⌜ (m ≤ elements) × (now ranks ≡ ranked m (now rows)) × LeadsOf m (now rows) (now ranks) leads × (now flow ≡ unused) ⌝ }
     ensures { λ r. ⌜ (r ≡ quoteIn m (now (rows .entry)) (now (demand .entry))) × (now (flow .exit) ≡ unused) ⌝ }
 {
     let mut givers = rounds::blank_rows();

@@ -1,5 +1,6 @@
 -- The solver, as functions on lists: a start, a round (a search, and the walk back where it found something), and rounds until a search finds
 -- nothing. m is the number of elements in use: those from m on have no units, and are passed over. Assumes nothing.
+use mathlib.Core.Path.{_≡_}
 use mathlib.Core.Bool.{Bool, cond}
 use mathlib.Core.List.{List}
 use Prim.Native.Nat.{ℕ, _%_}
@@ -8,7 +9,7 @@ use lib.ListN.{replicate}
 use Rattle.words.specs.Bits.{bit, withBit}
 use Rattle.words.specs.Members.{count}
 use Rattle.words.specs.model.Loops.{each, upto, run}
-use Rattle.order.specs.Stored.{elements, cells, row as setAt, putRow, setOf}
+use Rattle.order.specs.Stored.{elements, cells, numberOf, row as setAt, putRow}
 use Rattle.order.specs.model.Places.{positive}
 use Rattle.solver.specs.declared.Leads.{Leads}
 use Rattle.solver.specs.model.Search.{Look, Reached, reached, begun, reach}
@@ -47,8 +48,8 @@ unfoldable pub started : List ℕ → List ℕ → Network → Network
 started rows b s = each elements (handRank rows b) s (leaders elements b)
 
 -- what the rounds ask of an order and its ranking
-unfoldable pub leadsOf : ℕ → List ℕ → List ℕ → Leads
-leadsOf m rows b = record { numbers = setOf (leaders elements b); able = setOf (leaders m rows) }
+abbrev pub LeadsOf : ℕ → List ℕ → List ℕ → Leads → Type 0
+LeadsOf m rows b l = (numberOf (l .numbers) ≡ leaders elements b) × (numberOf (l .able) ≡ leaders m rows)
 
 -- ---- rounds
 
