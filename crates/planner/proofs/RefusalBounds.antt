@@ -8,6 +8,7 @@ use mathlib.Core.List.{List}
 use Prim.Native.Nat.{ℕ, _^_, _<_}
 use native.Mathlib.Omega.{arith}
 use lib.Dec.{ltb}
+use lib.Pow.{pow-pos}
 use Rattle.records.specs.Bytes.{AreBytes}
 use Rattle.order.specs.Stored.{numberOf}
 use Rattle.order.proofs.Stored.{number-none}
@@ -43,7 +44,7 @@ pub record Small (r : Refusal) : Type 0 where
   pub members : numberOf (r .set) < 2 ^ activities
 
 plain-small : (number values first : ℕ) → number < 256 → first < 2 ^ 32 → Small (plain number values first 0)
-plain-small number values first h l = record { number = h; first = l; second = omega arith; members = omega (arith, number-none) }
+plain-small number values first h l = record { number = h; first = l; second = omega arith; members = rw number-none (pow-pos activities) }
 
 -- ---- a fault whose refusal is small, and the next cause in turn
 
