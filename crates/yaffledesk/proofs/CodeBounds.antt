@@ -8,11 +8,13 @@ use Prim.Native.Nat.{ℕ, _+_, _-_, _^_, _≤_, _<_}
 use native.Mathlib.Omega.{arith}
 use lib.Dec.{ltb}
 use lib.ListN.{getD}
+use lib.Pow.{pow-pos}
 use Rattle.words.proofs.Counts.{count-le}
 use Rattle.words.proofs.Tests.{cond-has, cond-least}
 use Rattle.records.specs.Bytes.{AreBytes}
 use Rattle.order.specs.Stored.{elements}
 use Rattle.order.specs.Sets.{member}
+use Rattle.plan.specs.Records.{activities}
 use Rattle.schedule.specs.Network.{Network}
 use Rattle.schedule.specs.Checks.{Work, brokenTo, brokenFrom, lowestKind, firstPeriod, checkOf}
 use Rattle.schedule.specs.model.Arrays.{crewNet}
@@ -48,15 +50,23 @@ use Rattle.yaffledesk.specs.Codes.{refusalCode, verdictCode, outputCode,
 refusal-small : (r : Refusal) → Small r → refusalCode r < 2 ^ 64
 refusal-small r h = omega (arith, h .number, h .first, h .second, count-le elements (member (r .set)))
 
--- ---- Verdict, and the set that it shows
+-- ---- Verdict
 
-verdict-by : (f : Fault) (m n : ℕ) → SmallFault f → m ≤ elements → n ≤ 8
-    → (verdictCode (verdictOf f m n) < 2 ^ 64) × (shownWord (verdictOf f m n) < 2 ^ 64)
-verdict-by Fine m n small a b = (omega arith, omega arith)
-verdict-by (Refused c) m n small a b = (refusal-small (refusalOf c) (small c refl), small c refl .members)
+verdict-by : (f : Fault) (m n : ℕ) → SmallFault f → m ≤ elements → n ≤ 8 → verdictCode (verdictOf f m n) < 2 ^ 64
+verdict-by Fine m n small a b = omega arith
+verdict-by (Refused c) m n small a b = refusal-small (refusalOf c) (small c refl)
 
-pub verdict-small : (s : List ℕ) → AreBytes s → (verdictCode (verdictAnswer s) < 2 ^ 64) × (shownWord (verdictAnswer s) < 2 ^ 64)
+pub verdict-small : (s : List ℕ) → AreBytes s → verdictCode (verdictAnswer s) < 2 ^ 64
 verdict-small s small = verdict-by (verdictFault s) (planIn s .count) (planIn s .kinds) (verdict-refuses s small) (count-few s) (kinds-few s)
+
+-- and the set that it shows has a digit for each activity that a file may have
+
+shown-by : (f : Fault) (m n : ℕ) → SmallFault f → shownWord (verdictOf f m n) < 2 ^ activities
+shown-by Fine m n small = pow-pos activities
+shown-by (Refused c) m n small = small c refl .members
+
+pub shown-small : (s : List ℕ) → AreBytes s → shownWord (verdictAnswer s) < 2 ^ activities
+shown-small s small = shown-by (verdictFault s) (planIn s .count) (planIn s .kinds) (verdict-refuses s small)
 
 -- ---- Needs, Starts, Overload, Flow
 

@@ -78,7 +78,7 @@ pub fn crew_check_code(c: CrewChecked) -> u64
     }
 }
 
-// The first word of the set that a refusal shows. (It is all of it: `verdict-small` of proofs/CodeBounds.antt.)
+// The first word of the set that a refusal shows. (It is all of it: `shown-small` of proofs/CodeBounds.antt.)
 fn cause_word(c: Cause) -> u64
     ensures { λ r. ⌜ r ≡ causeWord c % 2 ^ 64 ⌝ }
 {

@@ -12,7 +12,7 @@ use Rattle.yaffledesk.proofs.yaffledesk_verdict.Tie as tie
 verdict-code-requires : tie.Need-verdict-code-requires
 verdict-code-requires c κs =
     let s = c .before .before .args .plan .now in
-    subst (λ (x : Decision). verdictCode x < 2 ^ 64) (sym (c .verdict .ensures)) (verdict-small s (λ i. omega (arith, c .before .shared-slice-known .given i)) .0)
+    subst (λ (x : Decision). verdictCode x < 2 ^ 64) (sym (c .verdict .ensures)) (verdict-small s (λ i. omega (arith, c .before .shared-slice-known .given i)))
 
 returns : tie.Need-returns
 returns c = c .verdict-code .ensures ∙ ap verdictCode (c .before .verdict .ensures)
