@@ -6,16 +6,28 @@ ghost use Rattle.io.specs.Counts.{Counts};
 ghost use Rattle.lines.specs.Text.{text, more};
 ghost use Rattle.records.specs.Records.{joined};
 ghost use Rattle.planner.specs.Open.{planIn};
+ghost use Rattle.planner.specs.Flow.{mostRecords};
 ghost use Rattle.planner.specs.Needs.{needNumbers};
 ghost use Rattle.planner.specs.Starts.{startNumbers};
 ghost use Rattle.report_lines.specs.Lines.{headLines, headRoom};
 ghost use Rattle.report.specs.Report.{flowRoom, textRoom, kindLines, planLines, reportOf, Accepts};
+use crate::RECORDS;
 use plan::ACTIVITIES;
 use planner::Decision;
 use planner::Output;
 use report_lines::head_text;
 use report_lines::put_records;
 use report_lines::refused_text;
+
+// How many bytes the records of a flow take.
+const FLOW: usize = 24 * RECORDS;
+
+// Zeros, for the records of the largest plan's flow.
+fn flow_buffer() -> [u8; FLOW]
+    ensures { λ r. ⌜ 24 * mostRecords ≡ length r ⌝ }
+{
+    [0; FLOW]
+}
 
 // Writes the lines of one kind's flow behind what is written, each of at most 32 bytes, and the last may ask for 78 more. The records of the
 // largest plan fit into the buffer; so Flow of an accepted plan refuses none of its kinds, and the second case does not happen.
@@ -24,7 +36,7 @@ fn put_flow(out: &mut [u8], at: usize, s: &[u8], kind: usize) -> usize
     ensures { λ r. ⌜ text r (now (out .exit)) ≡ more (text at (now (out .entry))) (kindLines (planIn (now (s .entry))) (kind - 1)) ⌝ }
     ensures { λ r. ⌜ r ≤ at + flowRoom ⌝ }
 {
-    let mut records = io::large_buffer();
+    let mut records = flow_buffer();
     let written = planner::flow(s, kind, &mut records);
     match written {
         Output::Written(n) => put_records(out, at, &records, n),

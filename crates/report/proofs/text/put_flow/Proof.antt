@@ -16,7 +16,7 @@ put-records-requires c κs =
     let s = k .before .before in
     let a = s .args in
     let held =
-    written-lines (a .s .now) (s .pre .0) (a .kind) (s .pre .1) (s .pre .2) (z .large-buffer .result) (omega arith) (f .flow .ensures .0)
+    written-lines (a .s .now) (s .pre .0) (a .kind) (s .pre .1) (s .pre .2) (z .flow-buffer .result) (omega arith) (f .flow .ensures .0)
     (λ i. omega (arith, k .shared-slice-known .given i)) _ (w .written .given .1) (f .flow .ensures .1) in
     (held .0, omega arith, omega arith)
 
@@ -30,7 +30,7 @@ returns c =
     let s = k .before .before in
     let a = s .args in
     let held =
-    written-lines (a .s .now) (s .pre .0) (a .kind) (s .pre .1) (s .pre .2) (z .large-buffer .result) (omega arith) (f .flow .ensures .0)
+    written-lines (a .s .now) (s .pre .0) (a .kind) (s .pre .1) (s .pre .2) (z .flow-buffer .result) (omega arith) (f .flow .ensures .0)
     (λ i. omega (arith, k .shared-slice-known .given i)) _ (w .written .given .1) (f .flow .ensures .1) in
     (p .put-records .ensures .0 ∙ ap (more (text (a .at) (a .out .now))) (held .1), omega arith)
 
@@ -40,7 +40,7 @@ returns-2 c =
     let z = f .before .before in
     let s = z .before .before .before in
     let a = s .args in
-    absurd (not-refused (a .s .now) (s .pre .0) (a .kind) (s .pre .1) (s .pre .2) (z .large-buffer .result) (omega arith) (f .flow .ensures .0)
+    absurd (not-refused (a .s .now) (s .pre .0) (a .kind) (s .pre .1) (s .pre .2) (z .flow-buffer .result) (omega arith) (f .flow .ensures .0)
     _ (c .enum-told .given .1))
 
 pub put-flow-spec : {M : Type 1} → statement M
