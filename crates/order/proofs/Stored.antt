@@ -61,11 +61,6 @@ everyone-bit i h = all-ones elements i h
 pub number-of : (s : Set) {w : ℕ} → s ≡ setOf w → numberOf s ≡ w
 number-of s {w} e = ap numberOf e ∙ number-set w
 
--- and a set is known by its number
-pub set-of : (s : Set) {w : ℕ} → numberOf s ≡ w → s ≡ setOf w
-unfolding numberOf setOf
-set-of s e = ap setOf e
-
 -- ---- a table of sets
 
 -- there is nothing past the last row
