@@ -7,7 +7,8 @@ use native.Mathlib.Omega.{arith}
 use borrow.Author.Tests.{ltb-true, ltb-false}
 use Rattle.order.specs.Before.{Before}
 use Rattle.order.proofs.Before.{before-least}
-use Rattle.flow_math.specs.Kept.{Kept, Broken, isBroken, Keeps, FirstBroken}
+use Rattle.flow_math.specs.Kept.{Kept, Keeps}
+use Rattle.flow_math.specs.Breaks.{Broken, isBroken, FirstBroken}
 
 -- the test tells broken from kept
 module _ (s : ℕ → ℕ) (w : ℕ → ℕ → ℕ) (i j : ℕ) where

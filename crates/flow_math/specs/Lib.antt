@@ -5,6 +5,7 @@ pub mod Need
 pub mod Handover
 pub mod Flow
 pub mod Kept
+pub mod Breaks
 pub mod Crew
 pub mod Heaviest
 pub mod Peak

@@ -58,7 +58,3 @@ rowTable n f = table n f
 -- every row is a number of n digits
 unfoldable pub RowsFit : ℕ → List ℕ → Type 0
 RowsFit n rows = (i : ℕ) → row rows i < 2 ^ n
-
--- the table of sets that a list of numbers gives, for examples
-abbrev pub rowsFrom : List ℕ → List ℕ
-rowsFrom ws = ws

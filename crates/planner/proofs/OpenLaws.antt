@@ -29,7 +29,7 @@ use Rattle.plan.specs.declared.Plan.{Plan}
 use Rattle.plan.specs.declared.Reading.{Reading}
 use Rattle.schedule.specs.model.Arrays.{AllAtMost}
 use Rattle.planner.specs.Faults.{isFine, orCause}
-use Rattle.planner.specs.Numbers.{causeNumber}
+use Rattle.planner.specs.Answers.{causeNumber}
 use Rattle.planner.specs.Open.{planIn, rowsOf, jobOrder, planOrder, unreadFault, readFault, orCircle, orCircles, faultOf, Opens}
 use Rattle.planner.specs.model.Opening.{readPlan, orderedOf, openedOf}
 use Rattle.planner.specs.declared.Cause.{Cause}

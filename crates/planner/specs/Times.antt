@@ -4,7 +4,7 @@ use mathlib.Core.List.{List}
 use Prim.Native.Nat.{ℕ, _≤_, _<_}
 use Rattle.plan.specs.Records.{activityCount}
 use Rattle.plan.specs.Meaning.{FileArc, fileDemand}
-use Rattle.flow_math.specs.Kept.{Keeps, FirstBroken}
+use Rattle.flow_math.specs.Kept.{Keeps}
 use Rattle.flow_math.specs.Crew.{occupied}
 
 -- how long after the start of i an arc of the file from i to j lets j start: the duration of i. What keeps a file's arcs, and what breaks one, goes by this alone.
@@ -14,10 +14,6 @@ arcWeight s w i j = w i
 -- "It keeps every arc: for each arc i to j, job or extra, the start of i plus its duration is at most the start of j." (01, Crew check)
 abbrev pub KeepsArcs : List ℕ → (ℕ → ℕ) → (ℕ → ℕ) → Type 0
 KeepsArcs s x w = Keeps (FileArc s) x (arcWeight s w)
-
--- "the first arc i to j, by from and then to, with start of i plus its duration greater than the start of j"
-abbrev pub FirstBrokenArc : List ℕ → (ℕ → ℕ) → (ℕ → ℕ) → ℕ → ℕ → Type 0
-FirstBrokenArc s x w = FirstBroken (FileArc s) x (arcWeight s w)
 
 -- "A crew in demand 3 is one start and one duration of 1 or more for each activity, in any whole numbers"
 pub record FileCrew (s : List ℕ) (x w : ℕ → ℕ) : Type 0 where

@@ -3,11 +3,11 @@
 use mathlib.Core.Path.{_≡_, refl, ap, _∙_}
 use mathlib.Core.List.{List, [], _∷_, _++_}
 use Prim.Native.Nat.{ℕ, _-_, _*_}
-use lib.ListN.{length, replicate}
+use lib.ListN.{length, getD, replicate}
 use Rattle.words.specs.Bits.{digit, bit}
 use Rattle.words.specs.Members.{first}
 use Rattle.words.specs.Tables.{table}
-use Rattle.order.specs.Stored.{elements, rowsFrom, row, putRow, rowTable, cells}
+use Rattle.order.specs.Stored.{elements, row, putRow, rowTable, cells}
 use Rattle.order.specs.Rows.{grow, arcsFrom, arcsIn, circleIn}
 use Rattle.order.specs.Orders.{extended, circleOf, orderOf, orderIn, joinedRows}
 use Rattle.records.specs.Bytes.{field, zeros}
@@ -41,8 +41,8 @@ planWith duration demand job extra =
       duration = padded elements duration;
       demand = padded (8 * elements) demand;
       available = padded 8 (4 ∷ []);
-      job = rowsFrom (padded elements job);
-      extra = rowsFrom (padded elements extra);
+      job = rowTable elements (λ i. getD job i 0);
+      extra = rowTable elements (λ i. getD extra i 0);
     }
 
 -- the plans A to E
@@ -86,7 +86,7 @@ record AllRead : Type 0 where
   f5 : Reads (planF 5) (inF 5)
 
 all-read : AllRead
-unfolding digit bit first table row putRow cells field zeros leading activityFields crewFields arcFields demandsOf fileDuration fileDemand fileKinds fileAvailable withArc arcsAfter arcsUpTo durationsOf demandTable availableOf planOf rule activityCause crewCause arcCause causeAt firstRefusal recordsCause isLength answerOf readOf
+unfolding digit bit first table row putRow rowTable cells field zeros leading activityFields crewFields arcFields demandsOf fileDuration fileDemand fileKinds fileAvailable withArc arcsAfter arcsUpTo durationsOf demandTable availableOf planOf rule activityCause crewCause arcCause causeAt firstRefusal recordsCause isLength answerOf readOf
 all-read = record { a = refl; b = refl; c = refl; d = refl; e = refl; e-job = refl; f4 = refl; f5 = refl }
 
 -- ---- and so they are opened

@@ -5,14 +5,14 @@ use Prim.Native.Nat.{ℕ, _+_}
 use lib.ListN.{length, replicate}
 use Rattle.words.specs.Bits.{digit, bit}
 use Rattle.words.specs.model.Loops.{each, run, upto}
-use Rattle.words.specs.Members.{first, members, count}
+use Rattle.words.specs.Members.{first, count}
+use Rattle.words.specs.Listing.{members}
 use Rattle.words.specs.Sums.{sum, maximum}
 use Rattle.words.specs.Tables.{table}
 use Rattle.order.specs.Stored.{row, putRow, rowTable, cells, numberOf, setOf}
 use Rattle.order.specs.Rows.{grow, arcsFrom, arcsIn}
 use Rattle.order.specs.Orders.{extended, orderOf, orderIn, joinedRows, afterRows}
-use Rattle.records.specs.Bytes.{bytes}
-use Rattle.records.specs.Records.{overloadRecord}
+use Rattle.records.specs.Records.{bytes, overloadRecord}
 use Rattle.plan.specs.declared.Plan.{Plan}
 use Rattle.schedule.specs.Starts.{asked, rounds, earliestOf, endOf}
 use Rattle.schedule.specs.Checks.{brokenTo, brokenFrom, lowestKind, lastFinish, quiet, firstPeriod, checkOf}
@@ -27,7 +27,7 @@ use Rattle.solver.specs.model.Solve.{blanks, blankRows, ranked, started, rounde
 use Rattle.solver.specs.model.Quote.{unused, copied, outcome, amount, quoteIn}
 use Rattle.kinds.specs.Needs.{demandsFor}
 use Rattle.planner.specs.Faults.{orCause, orShort}
-use Rattle.planner.specs.Numbers.{verdictNumbers, outputNumbers, crewCheckNumbers}
+use Rattle.planner.specs.Answers.{verdictNumbers, outputNumbers, crewCheckNumbers}
 use Rattle.planner.specs.Open.{rowsFor}
 use Rattle.planner.specs.Output.{outputOf, lentAfter}
 use Rattle.planner.specs.Need.{needFor, overKind, isOverloaded, overCause, orOverloaded}

@@ -13,7 +13,8 @@ use Rattle.schedule.specs.declared.Checked.{Checked}
 use Rattle.schedule.specs.declared.Checked.the-variants.{Fits, Broken, Overload}
 use Rattle.planner.specs.Faults.{orCause, orShort}
 use Rattle.planner.specs.Open.{planIn, faultOf}
-use Rattle.planner.specs.Numbers.{numbersOf, causeNumber, verdictNumbers, outputNumbers, crewCheckNumbers}
+use Rattle.planner.specs.Numbers.{numbersOf}
+use Rattle.planner.specs.Answers.{causeNumber, verdictNumbers, outputNumbers, crewCheckNumbers}
 use Rattle.planner.specs.Output.{outputOf}
 use Rattle.planner.specs.Need.{isOverloaded, overCause}
 use Rattle.planner.specs.Verdict.{verdictFault, verdictOf}

@@ -26,7 +26,7 @@ use Rattle.planner.proofs.OpenLaws.{said-in, opens-readable}
 use Rattle.planner.proofs.CrewCheckLaws.{bad-zero, lists-fine}
 use Rattle.planner.proofs.QuotedNeeds.{count-in, kinds-in, kinds-few, available-in}
 use Rattle.planner.specs.declared.CrewChecked.the-variants.{Found}
-use Rattle.planner.specs.Numbers.{foundNumbers, crewCheckNumbers}
+use Rattle.planner.specs.Answers.{foundNumbers, crewCheckNumbers}
 use Rattle.promises.specs.Ours.{ours}
 use Rattle.promises.specs.Paper.{RightLists, NeverOver, FirstOverload, CrewCheck}
 use Rattle.promises.proofs.AnswersWhen.{crew-lists, crew-looks}

@@ -25,7 +25,8 @@ use Rattle.schedule.proofs.Answers.{fits-says, broken-says, over-says}
 use Rattle.planner.specs.Open.{planIn, rowsOf, Opens}
 use Rattle.planner.specs.CrewCheck.{someZero, crewWork, crewFound}
 use Rattle.plan.specs.Meaning.{FileArc}
-use Rattle.planner.specs.Times.{KeepsArcs, FirstBrokenArc}
+use Rattle.planner.specs.Times.{KeepsArcs}
+use Rattle.promises.specs.Paper.{FirstBrokenArc}
 use Rattle.planner.proofs.OpenLaws.{said-in, opens-readable, count-few}
 use Rattle.planner.proofs.FileOrders.{plan-arcs, arc-ends}
 

@@ -29,7 +29,7 @@ use Rattle.planner.specs.declared.CrewChecked.the-variants as crew
 use Rattle.planner.proofs.FaultLaws.{Every, every-turn}
 use Rattle.planner.proofs.OpenLaws.{every-open, unread-number}
 use Rattle.planner.proofs.OutputLaws.{output-is-refused, lent-refused}
-use Rattle.planner.specs.Numbers.{causeNumber}
+use Rattle.planner.specs.Answers.{causeNumber}
 use Rattle.promises.specs.Ours.{ours}
 use Rattle.promises.specs.EveryInput.{OneOf, opening, EveryInput}
 

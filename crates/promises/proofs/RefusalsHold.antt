@@ -14,7 +14,8 @@ use Rattle.plan.specs.declared.Cause.{Cause as Unread}
 use Rattle.plan.specs.declared.Answer.the-variants as answer
 use Rattle.planner.specs.Faults.{isFine, orCause, orShort}
 use Rattle.planner.specs.Open.{planIn, faultOf, Opens}
-use Rattle.planner.specs.Numbers.{numbersOf, verdictNumbers, outputNumbers}
+use Rattle.planner.specs.Numbers.{numbersOf}
+use Rattle.planner.specs.Answers.{verdictNumbers, outputNumbers}
 use Rattle.planner.specs.Output.{outputOf}
 use Rattle.planner.specs.Need.{isOverloaded, overCause}
 use Rattle.planner.specs.Verdict.{verdictFault, verdictOf}

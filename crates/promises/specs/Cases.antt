@@ -5,7 +5,7 @@ use mathlib.Core.Path.{_≡_}
 use mathlib.Core.List.{List, [], _∷_, _++_}
 use Prim.Native.Nat.{ℕ}
 use lib.ListN.{replicate}
-use Rattle.planner.specs.Numbers.{verdictNumbers, outputNumbers, crewCheckNumbers}
+use Rattle.planner.specs.Answers.{verdictNumbers, outputNumbers, crewCheckNumbers}
 use Rattle.promises.specs.Planner.{Planner}
 
 -- an activity with a demand of kind 1, a crew of one kind, and an arc

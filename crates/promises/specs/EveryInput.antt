@@ -10,7 +10,7 @@ use Rattle.planner.specs.declared.Cause.{Cause}
 use Rattle.planner.specs.declared.Decision.the-variants as verdict
 use Rattle.planner.specs.declared.Output.the-variants.{Written, Refused}
 use Rattle.planner.specs.declared.CrewChecked.the-variants as crew
-use Rattle.planner.specs.Numbers.{causeNumber}
+use Rattle.planner.specs.Answers.{causeNumber}
 use Rattle.promises.specs.Planner.{Writing, Planner}
 
 -- n is one of these numbers

@@ -13,11 +13,12 @@ use Rattle.plan.specs.Records.{activityCount}
 use Rattle.schedule.specs.Lists.{LargestOr0, FinishOf, at}
 use Rattle.schedule.specs.declared.Checked.the-variants.{Fits, Broken, Overload}
 use Rattle.kinds.specs.Reading.{unitsRead}
+use Rattle.flow_math.specs.Breaks.{FirstBroken}
 use Rattle.planner.specs.File.{FileFlow}
-use Rattle.planner.specs.Times.{KeepsArcs, FirstBrokenArc, crewOccupies}
+use Rattle.planner.specs.Times.{arcWeight, KeepsArcs, crewOccupies}
 use Rattle.planner.specs.declared.Output.the-variants.{Written}
 use Rattle.planner.specs.declared.CrewChecked.the-variants.{Found}
-use Rattle.planner.specs.Numbers.{verdictNumbers, outputNumbers, crewCheckNumbers}
+use Rattle.planner.specs.Answers.{verdictNumbers, outputNumbers, crewCheckNumbers}
 use Rattle.promises.specs.Planner.{Planner}
 
 -- ---- order: the causes 5 and 6
@@ -98,6 +99,10 @@ pub record FirstOverload (s starts worked : List ℕ) (t k : ℕ) : Type 0 where
   pub over : IsOver s starts worked t k
   pub sooner : (u x : ℕ) → 1 ≤ u → u < t → x < fileKinds s → NotOver s starts worked u x
   pub lower : (x : ℕ) → x < k → NotOver s starts worked t x
+
+-- "the first arc i to j, by from and then to, with start of i plus its duration greater than the start of j"
+abbrev pub FirstBrokenArc : List ℕ → (ℕ → ℕ) → (ℕ → ℕ) → ℕ → ℕ → Type 0
+FirstBrokenArc s x w = FirstBroken (FileArc s) x (arcWeight s w)
 
 pub record CrewCheck (P : Planner) (s starts worked : List ℕ) : Type 0 where
   -- "lists not m long, or a worked duration 0 | 10 | m"

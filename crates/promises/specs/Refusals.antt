@@ -10,7 +10,7 @@ use Rattle.plan.specs.Causes.{answerOf}
 use Rattle.plan.specs.Records.{activityCount}
 use Rattle.plan.specs.declared.Cause.{Cause as Unread}
 use Rattle.plan.specs.declared.Answer.the-variants as answer
-use Rattle.planner.specs.Numbers.{unreadNumbers, verdictNumbers, outputNumbers}
+use Rattle.planner.specs.Answers.{unreadNumbers, verdictNumbers, outputNumbers}
 use Rattle.planner.specs.File.{flowLength}
 use Rattle.promises.specs.Planner.{Planner}
 use Rattle.promises.specs.Paper.{EveryGives, SomeGives}

@@ -7,7 +7,8 @@ use native.Mathlib.Nat.{pow-zero, pow-suc, mod-lt, mod-add-div, div-lt-iff-lt-mu
 use lib.Arith.{mod-mul}
 use lib.ListN.{length, take, drop, replicate, List·getD-append}
 use lib.Seq.{getD-take, getD-drop}
-use Rattle.records.specs.Bytes.{byte, field, bytes, AreBytes}
+use Rattle.records.specs.Bytes.{byte, field, AreBytes}
+use Rattle.records.specs.Records.{bytes}
 
 pub length-bytes : (n x : ℕ) → length (bytes n x) ≡ n
 unfolding bytes

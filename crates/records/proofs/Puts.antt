@@ -7,9 +7,8 @@ use native.Mathlib.Nat.{add-zero, sub-zero}
 use native.Mathlib.Numerals.{add-one}
 use lib.ListN.{length, getD, set, drop}
 use lib.Seq.{paste, paste-zero, paste-suc, length-paste, take-length, getD-drop, drop-drop}
-use Rattle.records.specs.Bytes.{bytes}
+use Rattle.records.specs.Records.{bytes, writtenAt}
 use Rattle.records.proofs.Fields.{length-bytes}
-use Rattle.records.specs.Records.{writtenAt}
 
 -- what a list has at i is the first of what it has from i on
 first-of-rest : (l : List ℕ) (i b : ℕ) (t : List ℕ) → drop i l ≡ b ∷ t → getD l i 0 ≡ b

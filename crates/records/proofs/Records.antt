@@ -5,8 +5,8 @@ use mathlib.Core.List.{List, [], _∷_, _++_}
 use Prim.Native.Nat.{ℕ, _%_, _^_, _<_}
 use native.Mathlib.Omega.{arith}
 use lib.ListN.{length, drop, replicate, List·getD-append}
-use Rattle.records.specs.Bytes.{byte, field, bytes, zeros, AreBytes}
-use Rattle.records.specs.Records.{flowRecord, overloadRecord}
+use Rattle.records.specs.Bytes.{byte, field, zeros, AreBytes}
+use Rattle.records.specs.Records.{bytes, flowRecord, overloadRecord}
 use Rattle.records.proofs.Fields.{bytes-low, field-append, field-bytes, bytes-cons, bytes-append, bytes-bytes, bytes-zeros}
 
 module _ (kind from to units mark : ℕ) where

@@ -7,8 +7,7 @@ use native.Mathlib.Nat.{le-of-eq}
 use lib.ListN.{length, set, take, drop, length-append, length-drop, drop-of-length-le}
 use lib.Seq.{length-take-le, take-all, drop-drop}
 use borrow.Rule.Slice.PartMut.{putMid}
-use Rattle.records.specs.Bytes.{bytes}
-use Rattle.records.specs.Records.{flowRecord, overloadRecord, begun, startingWith, writtenAt}
+use Rattle.records.specs.Records.{bytes, flowRecord, overloadRecord, begun, startingWith, writtenAt}
 
 -- a writing that has room changes no length
 pub length-writtenAt : (at : ℕ) (r out : List ℕ) → at + length r ≤ length out → length (writtenAt at r out) ≡ length out

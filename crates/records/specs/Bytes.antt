@@ -1,5 +1,5 @@
 -- The bytes of a record: its fields and its spare bytes (document 01, "The plan file"). Assumes nothing.
-use Prim.Native.Nat.{ℕ, zero, suc, _+_, _*_, _/_, _%_, _<_}
+use Prim.Native.Nat.{ℕ, zero, suc, _+_, _*_, _<_}
 use mathlib.Core.List.{List, [], _∷_}
 use mathlib.Core.Bool.{Bool, true, _&&_}
 use lib.ListN.{getD}
@@ -18,11 +18,6 @@ field r i (suc n) = byte r i + 256 * field r (i + 1) n
 unfoldable pub zeros : List ℕ → Bool
 zeros [] = true
 zeros (b ∷ bs) = eqb b 0 && zeros bs
-
--- the n bytes of a number, lowest byte first
-unfoldable pub bytes : ℕ → ℕ → List ℕ
-bytes zero x = []
-bytes (suc n) x = x % 256 ∷ bytes n (x / 256)
 
 -- a list of bytes: each number of it is below 256
 abbrev pub AreBytes : List ℕ → Type 0

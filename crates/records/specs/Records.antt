@@ -1,8 +1,12 @@
 -- The records that are written (document 01, "Flow" and "Need and overload"), as their 24 bytes, and where they are written. Assumes nothing.
-use Prim.Native.Nat.{ℕ, zero, suc, _+_}
+use Prim.Native.Nat.{ℕ, zero, suc, _+_, _/_, _%_}
 use mathlib.Core.List.{List, [], _∷_, _++_}
 use lib.ListN.{length, take, drop, replicate}
-use Rattle.records.specs.Bytes.{bytes}
+
+-- the n bytes of a number, lowest byte first
+unfoldable pub bytes : ℕ → ℕ → List ℕ
+bytes zero x = []
+bytes (suc n) x = x % 256 ∷ bytes n (x / 256)
 
 -- "Flow record: byte 0 is 33, 1 kind, 2 from, 3 to, 4–7 units, 8 the added mark." "Bytes with no field are spare and zero."
 unfoldable pub flowRecord : ℕ → ℕ → ℕ → ℕ → ℕ → List ℕ

@@ -3,8 +3,7 @@ ghost use mathlib.Core.Path.{_≡_};
 ghost use mathlib.Core.List.{_++_};
 ghost use Prim.Native.Nat.{_+_, _*_, _≤_};
 ghost use lib.ListN.{length, take, drop};
-ghost use Rattle.records.specs.Bytes.{bytes};
-ghost use Rattle.records.specs.Records.{flowRecord, overloadRecord, startingWith, writtenAt, begun};
+ghost use Rattle.records.specs.Records.{bytes, flowRecord, overloadRecord, startingWith, writtenAt, begun};
 
 // Writes the n bytes of a number, lowest byte first, from byte `at` on.
 fn put(out: &mut [u8], at: usize, n: usize, x: u64)

@@ -11,7 +11,8 @@ use Rattle.lines.proofs.Texts.{grown, line-length}
 use Rattle.order.specs.Stored.{elements, bound, numberOf, noSet}
 use Rattle.order.proofs.Stored.{in-bound, number-none}
 use Rattle.words.specs.Bits.{bit, rest}
-use Rattle.words.specs.Members.{first, lead, members}
+use Rattle.words.specs.Members.{first}
+use Rattle.words.specs.Listing.{lead, members}
 use Rattle.words.proofs.Members.{members-none, members-more}
 use Rattle.planner.specs.Numbers.{plain}
 use Rattle.report_lines.specs.Lines.{refusedWord, refusalNumbers, slots, refusedRoom}

@@ -3,7 +3,7 @@
 use mathlib.Core.List.{List, [], _∷_, _++_, map}
 use Prim.Native.Nat.{ℕ, suc, _+_, _*_}
 use lib.ListN.{getD, take, drop}
-use Rattle.words.specs.Members.{members}
+use Rattle.words.specs.Listing.{members}
 use Rattle.order.specs.Stored.{elements, numberOf}
 use Rattle.records.specs.Bytes.{byte, field}
 use Rattle.records.specs.Records.{joined}

@@ -3,7 +3,7 @@ ghost use mathlib.Core.Path.{_≡_};
 ghost use mathlib.Core.List.{_++_, map};
 ghost use Prim.Native.Nat.{suc, min, _≤_};
 ghost use lib.ListN.{length, take};
-ghost use Rattle.words.specs.Members.{members};
+ghost use Rattle.words.specs.Listing.{members};
 ghost use Rattle.order.specs.Stored.{elements, numberOf};
 ghost use Rattle.lines.specs.Text.{text, more};
 ghost use Rattle.report_lines.specs.Lines.{refusedNumbers, refusedLine, slots, refusedRoom};

@@ -7,7 +7,7 @@ use native.Mathlib.Omega.{arith}
 use lib.Dec.{ltb}
 use borrow.Author.Tests.{ltb-true, ltb-false, lt-ltb, le-ltb}
 use Rattle.words.proofs.Tests.{by-test}
-use Rattle.flow_math.specs.Kept.{FirstBroken}
+use Rattle.flow_math.specs.Breaks.{FirstBroken}
 use Rattle.schedule.specs.Network.{Network, Arc, Keeps}
 use Rattle.schedule.specs.Checks.{brokenTo, brokenFrom, Work, occupied, lowestKind, firstPeriod, checkOf, Enough, FirstOver}
 use Rattle.schedule.specs.declared.Checked.the-variants.{Fits, Broken, Overload}

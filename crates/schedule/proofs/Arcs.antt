@@ -10,7 +10,8 @@ use Rattle.words.specs.Members.{IsFirst}
 use Rattle.words.proofs.Firsts.{the-first}
 use Rattle.words.proofs.Tests.{clash, fails, and-says, and-both}
 use Rattle.order.specs.Rows.{after}
-use Rattle.flow_math.specs.Kept.{Kept, FirstBroken}
+use Rattle.flow_math.specs.Kept.{Kept}
+use Rattle.flow_math.specs.Breaks.{FirstBroken}
 use Rattle.flow_math.proofs.Kept.{is-broken, not-broken}
 use Rattle.schedule.specs.Network.{Network, Arc, Schedule, Keeps}
 use Rattle.schedule.specs.Checks.{breaks, brokenTo, brokenFrom}

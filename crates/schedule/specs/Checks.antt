@@ -4,7 +4,7 @@ use mathlib.Core.Bool.{Bool, cond, _&&_}
 use Prim.Native.Nat.{ℕ, suc, _+_, _≤_, _<_}
 use lib.Dec.{ltb}
 use Rattle.words.specs.Members.{first}
-use Rattle.flow_math.specs.Kept.{isBroken}
+use Rattle.flow_math.specs.Breaks.{isBroken}
 use Rattle.flow_math.specs.Crew.{active}
 use Rattle.flow_math.specs.Crew as crew
 use Rattle.schedule.specs.Network.{Network, Schedule}

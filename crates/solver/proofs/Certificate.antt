@@ -12,7 +12,7 @@ use lib.Dec.{eqb}
 use borrow.Author.Tests.{eq-eqb, eqb-false, eqb-true}
 use Rattle.words.specs.Bits.{digit, minus, rest}
 use Rattle.words.specs.model.Loops.{each, fold}
-use Rattle.words.specs.Members.{members}
+use Rattle.words.specs.Listing.{members}
 use Rattle.words.proofs.Bits.{digit-and, digit-lt, digit-none, digit-minus, digit-or, zero-or-one}
 use Rattle.words.proofs.Kept.{run-ends}
 use Rattle.words.proofs.Members.{Has, digit-rest, low-lt, member-has}

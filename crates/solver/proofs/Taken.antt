@@ -9,7 +9,7 @@ use lib.ListN.{getD, length, length-set, replicate, set, List·getD-eq-default}
 use lib.Seq.{ext-getD, getD-set-other, getD-set-same}
 use Rattle.words.specs.Bits.{digit}
 use Rattle.words.specs.model.Loops.{each, fold}
-use Rattle.words.specs.Members.{members}
+use Rattle.words.specs.Listing.{members}
 use Rattle.words.proofs.Bits.{digit-none}
 use Rattle.words.proofs.Kept.{each-keeps}
 use Rattle.words.proofs.Members.{Has, member-has}

@@ -11,7 +11,7 @@ use lib.ListN.{getD, getD-replicate, length, length-replicate, length-set, set}
 use lib.Seq.{getD-set-other, getD-set-same}
 use Rattle.words.specs.Bits.{digit, minus, rest}
 use Rattle.words.specs.model.Loops.{each, fold}
-use Rattle.words.specs.Members.{members}
+use Rattle.words.specs.Listing.{members}
 use Rattle.words.proofs.Bits.{digit-and, digit-lt, digit-minus, digit-none, digit-or, zero-or-one}
 use Rattle.words.proofs.Kept.{each-keeps}
 use Rattle.words.proofs.Members.{Has, has-member, low-lt, member-has}

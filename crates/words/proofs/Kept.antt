@@ -6,7 +6,7 @@ use mathlib.Core.Logic.{inl, inr}
 use Prim.Native.Nat.{ℕ, zero, suc, _≤_, _<_}
 use native.Mathlib.Omega.{arith}
 use Rattle.words.specs.Bits.{digit}
-use Rattle.words.specs.Members.{members}
+use Rattle.words.specs.Listing.{members}
 use Rattle.words.specs.model.Loops.{fold, each, run, upto}
 use Rattle.words.proofs.Tests.{cond-has}
 use Rattle.words.proofs.Members.{Has, has-member}

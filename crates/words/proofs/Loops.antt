@@ -6,7 +6,8 @@ use Prim.Native.Nat.{ℕ, zero, suc, _+_, _-_, _^_, _≤_, _<_}
 use native.Mathlib.Omega.{arith}
 use native.Mathlib.Numerals.{add-one}
 use Rattle.words.specs.Bits.{bit, rest}
-use Rattle.words.specs.Members.{first, members}
+use Rattle.words.specs.Members.{first}
+use Rattle.words.specs.Listing.{members}
 use Rattle.words.specs.model.Loops.{fold, each, run, upto}
 use Rattle.words.proofs.Tests.{cond-true, cond-false}
 use Rattle.words.proofs.Members.{rest-le, members-none, members-more, members-last, only}

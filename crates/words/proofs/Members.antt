@@ -11,7 +11,8 @@ use lib.Count.{trailingZeros}
 use lib.Dec.{eqb, eqb·suc-suc, eqb·suc-zero}
 use borrow.Author.Tests.{eqb-true}
 use Rattle.words.specs.Bits.{digit, bit, rest}
-use Rattle.words.specs.Members.{first, lead, members}
+use Rattle.words.specs.Members.{first}
+use Rattle.words.specs.Listing.{lead, members}
 use Rattle.words.proofs.Tests.{by-test}
 use Rattle.words.proofs.Bits
 use Rattle.words.proofs.Firsts.{first-cong, at-first}

@@ -2,6 +2,7 @@
 -- sums and largest values, lists given by their elements. `model` is for the code. The laws are in `proofs/`.
 pub mod Bits
 pub mod Members
+pub mod Listing
 pub mod Sums
 pub mod Tables
 pub mod model

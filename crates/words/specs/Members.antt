@@ -2,8 +2,7 @@
 -- `bit w` is one. Assumes nothing.
 use mathlib.Core.Path.{_≡_}
 use mathlib.Core.Bool.{Bool, true, false, cond, _||_}
-use mathlib.Core.List.{List, [], _∷_, map}
-use Prim.Native.Nat.{ℕ, zero, suc, _+_, _/_, _%_, _≤_, _<_}
+use Prim.Native.Nat.{ℕ, zero, suc, _+_, _≤_, _<_}
 
 -- 1 for true, 0 for false
 abbrev pub tally : Bool → ℕ
@@ -29,15 +28,3 @@ pub record IsFirst (n : ℕ) (p : ℕ → Bool) (r : ℕ) : Type 0 where
 unfoldable pub some : ℕ → (ℕ → Bool) → Bool
 some zero p = false
 some (suc n) p = some n p || p n
-
--- ---- the members of a number
-
--- a list with 0 in front where the digit is 1
-abbrev pub lead : ℕ → List ℕ → List ℕ
-lead zero l = l
-lead (suc d) l = 0 ∷ l
-
--- the members of w below k, ascending
-unfoldable pub members : ℕ → ℕ → List ℕ
-members zero w = []
-members (suc k) w = lead (w % 2) (map suc (members k (w / 2)))

@@ -1,8 +1,7 @@
 -- `records::append_flow` meets its contract: a writing to the start of the lent tail is a writing there (`tail-written`). Assumes nothing.
 use Prim.Native.Nat.{_*_}
 use borrow.Author.Needs.{needs}
-use Rattle.records.specs.Bytes.{bytes}
-use Rattle.records.specs.Records.{flowRecord}
+use Rattle.records.specs.Records.{bytes, flowRecord}
 use Rattle.records.proofs.Steps.{tail-written}
 use Rattle.records.proofs.append_flow.Statement.{statement}
 use Rattle.records.proofs.append_flow.Tie as tie

@@ -4,7 +4,7 @@ use mathlib.Core.Bool.{Bool, cond}
 use mathlib.Core.List.{List, [], _∷_}
 use Prim.Native.Nat.{ℕ, zero, suc}
 use lib.ListN.{getD, set}
-use Rattle.words.specs.Members.{members}
+use Rattle.words.specs.Listing.{members}
 
 -- the step f at each element of a list, from the state s
 abbrev pub fold : {S : Type 0} → (S → ℕ → S) → S → List ℕ → S
