@@ -8,5 +8,6 @@ pub mod Represents
 pub mod Closure
 pub mod Arcs
 pub mod Growing
+pub mod Gaining
 pub mod Orders
 pub mod Nonzero

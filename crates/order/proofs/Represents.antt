@@ -111,7 +111,7 @@ module _ (n : ℕ) (rows : List ℕ) (x y : ℕ) where
   abbrev ends : ℕ → Bool
   ends j = after rows y j || eqb j y
 
-  grow-long : length (grow n rows x y) ≡ cells n
+  pub grow-long : length (grow n rows x y) ≡ cells n
   unfolding grow
   grow-long = length-rows n (λ i. gained x (gain rows y) i (row rows i))
 
@@ -126,19 +126,19 @@ module _ (n : ℕ) (rows : List ℕ) (x y : ℕ) where
       ∙ ap (λ (b : Bool). after rows i j || (starts i && b))
       (bit-or (row rows y) (2 ^ y) j ∙ ap (λ (b : Bool). after rows y j || b) (bit-single y j))
 
+  pub grow-fit : RowsFit n rows → y < n → RowsFit n (grow n rows x y)
+  unfolding grow
+  grow-fit fits hy = fit-table n (λ i. gained x (gain rows y) i (row rows i)) each
+    where
+      fit : (i : ℕ) → row rows i < 2 ^ n
+      fit = row-fit n rows fits
+
+      each : (i : ℕ) → i < n → gained x (gain rows y) i (row rows i) < 2 ^ n
+      each i h =
+          cond-has (λ w. w < 2 ^ n) (starts i) (bitOr (row rows i) (gain rows y)) (row rows i)
+          (λ e. or-lt n (row rows i) (gain rows y) (fit i) (or-lt n (row rows y) (2 ^ y) (fit y) (pow-lt hy))) (λ e. fit i)
+
   module _ {A : ℕ → ℕ → Type 0} (r : Represents n rows A) (hx : x < n) (hy : y < n) where
-    grow-fit : RowsFit n (grow n rows x y)
-    unfolding grow
-    grow-fit = fit-table n (λ i. gained x (gain rows y) i (row rows i)) each
-      where
-        fit : (i : ℕ) → row rows i < 2 ^ n
-        fit = row-fit n rows (r .fit)
-
-        each : (i : ℕ) → i < n → gained x (gain rows y) i (row rows i) < 2 ^ n
-        each i h =
-            cond-has (λ w. w < 2 ^ n) (starts i) (bitOr (row rows i) (gain rows y)) (row rows i)
-            (λ e. or-lt n (row rows i) (gain rows y) (fit i) (or-lt n (row rows y) (2 ^ y) (fit y) (pow-lt hy))) (λ e. fit i)
-
     through : (i j : ℕ) → (starts i && ends j ≡ true) ↔ Through A x y i j
     through i j =
         Iff·trans (and-says (starts i) (ends j))
@@ -163,4 +163,4 @@ module _ (n : ℕ) (rows : List ℕ) (x y : ℕ) where
         at (no h) = ((λ e. clash e (after-past n (grow n rows x y) i j grow-long (omega arith))), (λ b. absurd (h (grow-below b))))
 
     pub grow-represents : Represents n (grow n rows x y) (With A x y)
-    grow-represents = record { long = grow-long; fit = grow-fit; means = grow-means }
+    grow-represents = record { long = grow-long; fit = grow-fit (r .fit) hy; means = grow-means }

@@ -1,12 +1,11 @@
 // Rows that stay transitive while they gain: what an arc adds to them, and what a way through an element does; and an order's rows, with further arcs.
 ghost use mathlib.Core.Path.{_≡_};
 ghost use Prim.Native.Nat.{_<_};
-ghost use Rattle.order.specs.Stored.{elements, numberOf};
-ghost use Rattle.order.specs.Rows.{grow};
+ghost use lib.ListN.{length};
+ghost use Rattle.order.specs.Stored.{elements, numberOf, cells, RowsFit};
 ghost use Rattle.order.specs.model.Growing.{growFrom};
 ghost use Rattle.order.specs.model.Warshall.{passingBy, gaining, passing, endsIn, passingOver};
 use crate::ELEMENTS;
-use crate::Order;
 use crate::Rows;
 use crate::Set;
 use crate::put_row;
@@ -66,27 +65,22 @@ pub fn pass_over(rows: &mut Rows, ends: Set, k: usize)
     }
 }
 
-// The rows of an order become those of the order with one arc more.
-fn add_arc(rows: &mut Rows, from: usize, to: usize)
-    requires { ⌜ (from < elements) × (to < elements) ⌝ }
-    ensures { λ _. ⌜ now (rows .exit) ≡ grow elements (now (rows .entry)) from to ⌝ }
-{
-    let o = Order { rows: *rows };
-    let whole = o.with_arc(from, to);
-    let new = whole.rows;
-    *rows = new;
-}
-
-// The same, with the arcs from i to each member of `to` that it does not hold yet. (What an arc leads to is held when it is added: that is
-// passed over as a set. An order is copied for each arc that is new, and not for each that is held.)
+// The rows of an order become those of the order with the arcs from i to each member of `to` that it does not hold yet. (What an arc leads to is held
+// when it is added, and is passed over as a set. The rows stay as they are until all that i gains is found: what an arc would have added to them
+// is gained already.)
 pub fn add_row(rows: &mut Rows, i: usize, to: Set)
-    requires { ⌜ i < elements ⌝ }
+    requires { ⌜ (i < elements) × (length (now rows) ≡ cells elements) × RowsFit elements (now rows) ⌝ }
     ensures { λ _. ⌜ now (rows .exit) ≡ growFrom elements (now (rows .entry)) i (numberOf to) ⌝ }
 {
     let mut w = to.minus(row(rows, i));
+    if w.is_empty() {
+        return;
+    }
+    let mut gain = Set::EMPTY;
     while !w.is_empty() {
         let j = w.lowest();
-        add_arc(rows, i, j);
-        w = w.minus(row(rows, i));
+        gain = gain.union(row(rows, j).with(j));
+        w = w.minus(gain);
     }
+    gain_all(rows, i, gain);
 }

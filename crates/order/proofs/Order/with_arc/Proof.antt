@@ -10,7 +10,7 @@ use Rattle.order.specs.model.Warshall.{gaining}
 use Rattle.order.specs.Orders.{extended}
 use Rattle.order.specs.declared.Order.{Order}
 use Rattle.order.proofs.Stored.{number-of}
-use Rattle.order.proofs.Growing.{gaining-grow}
+use Rattle.order.proofs.Gaining.{gaining-grow}
 use Rattle.order.proofs.Order.with_arc.Statement.{statement}
 use Rattle.order.proofs.Order.with_arc.Tie as tie
 
@@ -28,7 +28,7 @@ returns c =
     (c .gain-all .ensures
     ∙ ap (λ (x : ℕ). gaining elements (e .from) x (e .self .rows))
     (number-of _ (g .with .ensures) ∙ ap (λ (w : ℕ). withBit w (e .to)) (number-of _ (g .before .row .ensures)))
-    ∙ gaining-grow elements (e .self .rows) long (e .from) (e .to) (start .pre .0))
+    ∙ gaining-grow elements (e .self .rows) long (e .from) (start .pre .0) (e .to))
 
 pub with-arc-spec : {M : Type 1} → statement M
 with-arc-spec = tie.close (tie.spec (λ c κs. search needs) (λ c κs. search needs) (λ c κs. search needs) returns)
