@@ -1,5 +1,6 @@
 // How long the proved reader, orders, earliest starts and crew check take, next to plain C (plain.c, gcc -O3), in one run.
-// The plan is a full file: 64 activities, a crew record and 1,983 arcs; the starts are those of all 2,016 arcs. README.md says how to run it.
+// The plan is a full file: 64 activities, a crew record and 1,983 arcs; the starts are those of all 2,016 arcs, and so are the orders of extra arcs alone.
+// README.md says how to run it.
 #include "plain.h"
 
 #include <stdio.h>
@@ -19,6 +20,8 @@ static _Alignas(4096) uint8_t file[24 * RECORDS];
 static _Alignas(4096) plain_plan plain, proved;
 static uint32_t starts[64], plain_starts[64], crew[64];
 static uint64_t jobs[64], both[64], plain_jobs[64], plain_both[64], joined[64], complete[64];
+static const uint64_t none[64];
+static uint64_t alone[64]; // extra arcs without job arcs
 static volatile uint64_t sink;
 
 static double now(void) {
@@ -59,6 +62,11 @@ static void orders_plain(void) {
     plain_order(plain.job, plain_jobs);
     plain_order(joined, plain_both);
 }
+static void alone_ours(void) { yaffledesk_bench_orders(none, alone, jobs, both); }
+static void alone_plain(void) {
+    plain_order(none, plain_jobs);
+    plain_order(alone, plain_both);
+}
 static void open_ours(void) { read_ours(), orders_ours(); }
 static void open_plain(void) { read_plain(), orders_plain(); }
 static void earliest_ours(void) { yaffledesk_bench_earliest(complete, proved.duration, starts); }
@@ -93,6 +101,20 @@ static void same(const char *what, const void *a, const void *b, size_t n) {
     exit(1);
 }
 
+// All 2,016 pairs as extra arcs, with the activities numbered along the order, scrambled, or against it: the rows from the last to the first find
+// an arc's end complete, or here and there, or never.
+static int along(int i) { return i; }
+static int scrambled(int i) { return (37 * i + 11) % 64; }
+static int against(int i) { return 63 - i; }
+static void number(int (*place)(int)) {
+    memset(alone, 0, sizeof alone);
+    for (int i = 0; i < 64; i++)
+        for (int j = 0; j < 64; j++)
+            if (place(i) < place(j)) alone[i] |= UINT64_C(1) << j;
+    alone_ours(), alone_plain();
+    same("order of extra arcs", both, plain_both, sizeof both);
+}
+
 int main(void) {
     make_file();
     read_plain();
@@ -112,17 +134,22 @@ int main(void) {
     struct {
         const char *what;
         void (*ours)(void), (*plain)(void);
+        int (*place)(int);
     } rows[] = {
-        {"read 2,048 records", read_ours, read_plain},
-        {"both orders, 1,983 arcs", orders_ours, orders_plain},
-        {"open: read and both orders", open_ours, open_plain},
-        {"earliest starts, 2,016 arcs", earliest_ours, earliest_plain},
-        {"crew check, 64 x 8", check_ours, check_plain},
+        {"read 2,048 records", read_ours, read_plain, 0},
+        {"both orders, 1,983 arcs", orders_ours, orders_plain, 0},
+        {"open: read and both orders", open_ours, open_plain, 0},
+        {"earliest starts, 2,016 arcs", earliest_ours, earliest_plain, 0},
+        {"crew check, 64 x 8", check_ours, check_plain, 0},
+        {"both orders, 2,016 extra arcs, numbered along", alone_ours, alone_plain, along},
+        {"the same, scrambled", alone_ours, alone_plain, scrambled},
+        {"the same, against", alone_ours, alone_plain, against},
     };
     int missed = 0;
     printf("| what | proved, us | plain C, us | ratio |\n|---|--:|--:|--:|\n");
     for (size_t i = 0; i < sizeof rows / sizeof *rows; i++) {
         double mine, its;
+        if (rows[i].place != 0) number(rows[i].place);
         measure(rows[i].ours, rows[i].plain, &mine, &its);
         printf("| %s | %.2f | %.2f | %.2f |\n", rows[i].what, mine, its, mine / its);
         missed += mine / its > MOST || (i == 2 && mine > 60);

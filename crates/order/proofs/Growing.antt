@@ -1,30 +1,28 @@
 -- Rows that are extended by further arcs, each that they do not hold yet: they represent the order of all the arcs together. For any n.
 -- Assumes nothing.
 use mathlib.Core.Path.{_≡_, refl, sym, ap, _∙_, subst}
-use mathlib.Core.Bool.{Bool, true, false, not, _&&_, _||_, and-true, cond}
+use mathlib.Core.Bool.{Bool, true, false, not, _&&_, and-true, cond}
 use mathlib.Core.List.{List}
-use mathlib.Core.Logic.{_⊎_, inl, inr, ⊎-elim, _↔_, _≢_, Iff·symm}
+use mathlib.Core.Logic.{inl, inr, ⊎-elim, _↔_, Iff·symm}
 use Prim.Native.Nat.{ℕ, zero, suc, _-_, _^_, _≤_, _<_}
 use native.Mathlib.Nat.{eq-or-lt-of-le, le-of-suc-le-suc}
 use native.Mathlib.Omega.{arith}
-use lib.Bits.{bitAnd, bitOr}
+use lib.Bits.{bitAnd}
 use lib.Dec.{eqb}
 use lib.ListN.{length}
 use Rattle.words.specs.Bits.{bit, minus, rest}
 use Rattle.words.specs.Members.{first}
 use Rattle.words.specs.model.Loops.{each, upto}
-use Rattle.words.proofs.Tests.{clash, fails, by-test, and-both, and-right, or-left, or-right, false-of-not, eqb-says, cond-true, cond-false, cond-has, at-or-other}
-use Rattle.words.proofs.Bits.{bit-zero, bit-or, bit-and, bit-minus, bit-same}
+use Rattle.words.proofs.Tests.{clash, fails, by-test, and-both, and-right, or-left, or-right, false-of-not, eqb-says, cond-true, cond-false, cond-has}
+use Rattle.words.proofs.Bits.{bit-zero, bit-and, bit-minus}
 use Rattle.words.proofs.Members.{low-member, bit-rest}
 use Rattle.words.proofs.Loops.{each-more, each-upto}
 use Rattle.words.proofs.Kept.{each-keeps, upto-keeps}
 use Rattle.order.specs.Before.{Before, Joined}
 use Rattle.order.specs.Arcs.{With, Drawn}
 use Rattle.order.specs.Stored.{cells, row, RowsFit}
-use Rattle.order.specs.Rows.{after, Represents, gain, gained, grow}
+use Rattle.order.specs.Rows.{after, Represents, grow}
 use Rattle.order.specs.model.Growing.{grown, growFrom, growBy}
-use Rattle.order.specs.model.Warshall.{passed, gaining}
-use Rattle.order.proofs.Stored.{length-put, row-put-same, row-put-other, rows-updated, row-tables}
 use Rattle.order.proofs.Before.{before-same, before-implied}
 use Rattle.order.proofs.Represents.{represents-same, after-grow, grow-long, grow-fit, grow-represents}
 

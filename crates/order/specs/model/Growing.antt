@@ -1,5 +1,5 @@
--- How code adds further arcs to rows: each that they do not hold yet (what that comes to is `extended-by` of proofs/Orders.antt). For any n.
--- Assumes nothing.
+-- Further arcs added to rows: each that they do not hold yet (what that comes to is `extended-by` of proofs/Orders.antt; code finds what an element gains by
+-- all its arcs at once, proofs/Gaining.antt). For any n. Assumes nothing.
 use mathlib.Core.Bool.{cond}
 use mathlib.Core.List.{List}
 use Prim.Native.Nat.{ℕ, zero, suc}
