@@ -1,5 +1,5 @@
 -- Flow: its causes 8, 9 and 7 in their turn, and what it answers and writes. Assumes nothing.
-use mathlib.Core.Path.{_≡_, sym, ap, _∙_}
+use mathlib.Core.Path.{_≡_, sym, ap, _∙_, subst}
 use mathlib.Core.Bool.{Bool, true, false, not}
 use mathlib.Core.List.{List}
 use Prim.Native.Nat.{ℕ, _-_, _≤_, _<_}
@@ -15,9 +15,9 @@ use Rattle.kinds.specs.model.Writing.{Lent, lent}
 use Rattle.planner.specs.Faults.{isFine, orCause, orShort}
 use Rattle.planner.specs.Open.{planIn, faultOf, Opens}
 use Rattle.planner.specs.Need.{availableFor, needFor, overKind, isOverloaded, overCause, orOverloaded}
-use Rattle.planner.specs.Flow.{isKind, flowFault, flowCount, recordBytes}
+use Rattle.planner.specs.Flow.{isKind, kindFault, flowFault, flowCount, recordBytes}
 use Rattle.planner.specs.File.{flowLength}
-use Rattle.planner.specs.model.Opening.{openedOf, overloadIn, orFound}
+use Rattle.planner.specs.model.Opening.{openedOf, kindFaultIn}
 use Rattle.planner.specs.model.Records.{FlowAsked, flowPut}
 use Rattle.planner.specs.declared.Cause.the-variants.{NoKind}
 use Rattle.planner.specs.declared.Fault.{Fault}
@@ -47,37 +47,47 @@ pub length-none : (m : ℕ) → m ≡ 0 → 24 ≡ flowLength m
 unfolding flowLength
 length-none m e = rw e
 
--- ---- when Flow goes on
+-- ---- when an operation on one kind goes on: n bytes are lent, and so many are needed
 
-module _ (s : List ℕ) (kind n : ℕ) where
+module _ (s : List ℕ) (kind n needed : ℕ) where
   -- the fault with 8 in its turn, and then 9
   abbrev known : Fault
   known = orCause (faultOf s) (not (isKind kind (planIn s .kinds))) (NoKind (planIn s .kinds))
 
   abbrev roomy : Fault
-  roomy = orShort known n (flowLength (planIn s .count))
+  roomy = orShort known n needed
 
-  roomy-fine : isFine roomy ≡ true → Opens s × (isKind kind (planIn s .kinds) ≡ true) × (flowLength (planIn s .count) ≤ n)
+  roomy-fine : isFine roomy ≡ true → Opens s × (isKind kind (planIn s .kinds) ≡ true) × (needed ≤ n)
   roomy-fine e =
-      let r = short-fine known n (flowLength (planIn s .count)) e in
+      let r = short-fine known n needed e in
       let k = cause-fine (faultOf s) (not (isKind kind (planIn s .kinds))) (NoKind (planIn s .kinds)) (r .0) in
       (k .0, not-false (isKind kind (planIn s .kinds)) (k .1), r .1)
 
-  pub flow-fine : isFine (flowFault s kind n) ≡ true
-      → Opens s × (isKind kind (planIn s .kinds) ≡ true) × (flowLength (planIn s .count) ≤ n) × (isOverloaded (planIn s) ≡ false)
-  unfolding flowFault
-  flow-fine e =
+  pub kind-fine : isFine (kindFault s kind n needed) ≡ true
+      → Opens s × (isKind kind (planIn s .kinds) ≡ true) × (needed ≤ n) × (isOverloaded (planIn s) ≡ false)
+  kind-fine e =
       let w = cause-fine roomy (isOverloaded (planIn s)) (overCause (planIn s)) e in
       let r = roomy-fine (w .0) in
       (r .0, r .1, r .2, w .1)
 
+  pub fine-kind : Opens s → isKind kind (planIn s .kinds) ≡ true → needed ≤ n → isOverloaded (planIn s) ≡ false → kindFault s kind n needed ≡ Fine
+  fine-kind o k l e =
+      let a = cause-none (faultOf s) (not (isKind kind (planIn s .kinds))) (NoKind (planIn s .kinds)) o (ap not k) in
+      let r = short-none known n needed (ap isFine a) l in
+      cause-none roomy (isOverloaded (planIn s)) (overCause (planIn s)) (ap isFine r) e
+
+-- ---- when Flow does
+
+module _ (s : List ℕ) (kind n : ℕ) where
+  pub flow-fine : isFine (flowFault s kind n) ≡ true
+      → Opens s × (isKind kind (planIn s .kinds) ≡ true) × (flowLength (planIn s .count) ≤ n) × (isOverloaded (planIn s) ≡ false)
+  unfolding flowFault
+  flow-fine = kind-fine s kind n (flowLength (planIn s .count))
+
   pub fine-flow : Opens s → isKind kind (planIn s .kinds) ≡ true → flowLength (planIn s .count) ≤ n → isOverloaded (planIn s) ≡ false
       → flowFault s kind n ≡ Fine
   unfolding flowFault
-  fine-flow o k l e =
-      let a = cause-none (faultOf s) (not (isKind kind (planIn s .kinds))) (NoKind (planIn s .kinds)) o (ap not k) in
-      let r = short-none known n (flowLength (planIn s .count)) (ap isFine a) l in
-      cause-none roomy (isOverloaded (planIn s)) (overCause (planIn s)) (ap isFine r) e
+  fine-flow = fine-kind s kind n (flowLength (planIn s .count))
 
 -- no kind needs more than there is
 pub not-over : (s : List ℕ) → isOverloaded (planIn s) ≡ false → (k : ℕ) → k < planIn s .kinds → needFor (planIn s) k ≤ availableFor (planIn s) k
@@ -90,22 +100,27 @@ not-over s e k h =
 -- ---- what the code holds: `o` is the plan that was opened
 
 module _ (s : List ℕ) (kind : ℕ) (out : List ℕ) (bytes : AreBytes s) {o : Opened} (held : o ≡ openedOf s) where
-  -- `long` is the length needed, `t` whether the kind is one, `first` and `second` the faults with 8 and then 9 in their turn, `f` that with 7 after them, and `b`
-  -- what the code's test said of it
-  pub ends : {long : ℕ} {t b : Bool} {first second f : Fault} → long ≡ flowLength (o .plan .count) → t ≡ isKind kind (o .plan .kinds)
-      → first ≡ orCause (o .fault) (not t) (NoKind (o .plan .kinds)) → second ≡ orShort first (length out) long
-      → f ≡ orFound second (overloadIn (o .order) (o .plan)) (o .plan .kinds) → b ≡ isFine f → Ends (flowFault s kind (length out)) f b
-  unfolding flowFault
-  ends {second = second} long one eight nine seven test =
+  -- an operation on one kind: `f` is the fault with 8, 9 and 7 in their turn, and `b` what the code's test said of it
+  pub kind-ends : (n needed : ℕ) {b : Bool} {f : Fault} → f ≡ kindFaultIn (o .fault) (o .order) (o .plan) kind n needed → b ≡ isFine f → Ends (kindFault s kind n needed) f b
+  kind-ends n needed seven test =
       record {
         fault =
-            weighed-held s held bytes second (λ e. roomy-fine s kind (length out) (sym (ap isFine second-is) ∙ e) .0) seven
+            weighed-held s held bytes second (λ e. roomy-fine s kind n needed (sym (ap isFine second-is) ∙ e) .0) seven
             ∙ ap (λ (x : Fault). orOverloaded x (planIn s)) second-is;
         test = test;
       }
     where
-      second-is : second ≡ roomy s kind (length out)
-      second-is = rw (nine, eight, one, long, held)
+      second : Fault
+      second = orShort (orCause (o .fault) (not (isKind kind (o .plan .kinds))) (NoKind (o .plan .kinds))) n needed
+
+      second-is : second ≡ roomy s kind n needed
+      second-is = rw held
+
+  -- Flow: `long` is the length needed
+  pub ends : {long : ℕ} {b : Bool} {f : Fault} → long ≡ flowLength (o .plan .count) → f ≡ kindFaultIn (o .fault) (o .order) (o .plan) kind (length out) long → b ≡ isFine f
+      → Ends (flowFault s kind (length out)) f b
+  unfolding flowFault
+  ends {long} {b} {f} e seven test = subst (λ (x : ℕ). Ends (kindFault s kind (length out) x) f b) (e ∙ ap (λ (x : Opened). flowLength (x .plan .count)) held) (kind-ends (length out) long seven test)
 
   module _ (e : isFine (flowFault s kind (length out)) ≡ true) where
     goes : Opens s × (isKind kind (planIn s .kinds) ≡ true) × (flowLength (planIn s .count) ≤ length out) × (isOverloaded (planIn s) ≡ false)

@@ -25,7 +25,7 @@ use Rattle.planner.specs.Verdict.{verdictFault}
 use Rattle.planner.specs.Needs.{needsFault}
 use Rattle.planner.specs.Starts.{needed, startsFault}
 use Rattle.planner.specs.File.{flowLength}
-use Rattle.planner.specs.Flow.{isKind, flowFault}
+use Rattle.planner.specs.Flow.{isKind, kindFault, flowFault}
 use Rattle.planner.specs.Overload.{overloadFault}
 use Rattle.planner.specs.CrewCheck.{badLists, crewCheckFault}
 use Rattle.planner.specs.declared.Cause.{Cause}
@@ -94,27 +94,27 @@ pub overload-refuses : (s : List ℕ) (n : ℕ) → SmallFault (overloadFault s 
 unfolding overloadFault
 overload-refuses s n = short-small (faultOf s) (ltb n 24) 24 (omega arith) (open-refuses s)
 
--- ---- Flow
+-- ---- the operations on one kind, and Flow
 
-pub flow-refuses : (s : List ℕ) → AreBytes s → (kind n : ℕ) → SmallFault (flowFault s kind n)
-unfolding flowFault
-flow-refuses s small kind n =
+pub kind-refuses : (s : List ℕ) → AreBytes s → (kind n needed : ℕ) → needed < 2 ^ 32 → SmallFault (kindFault s kind n needed)
+kind-refuses s small kind n needed few =
     small-turn roomy (isOverloaded (planIn s)) (overCause (planIn s))
-    (short-small known short (flowLength (planIn s .count)) (omega (arith, length-few (planIn s .count) (count-within s)))
+    (short-small known (ltb n needed) needed few
     (small-turn (faultOf s) none (NoKind (planIn s .kinds)) (open-refuses s) (λ o e. plain-small 8 1 _ (omega arith) (omega (arith, kinds-few s)))))
-    (λ e. over-small s small (cause-fine (faultOf s) none (NoKind (planIn s .kinds)) (cause-fine known short (Short (flowLength (planIn s .count))) e .0) .0))
+    (λ e. over-small s small (cause-fine (faultOf s) none (NoKind (planIn s .kinds)) (cause-fine known (ltb n needed) (Short needed) e .0) .0))
   where
     none : Bool
     none = not (isKind kind (planIn s .kinds))
-
-    short : Bool
-    short = ltb n (flowLength (planIn s .count))
 
     known : Fault
     known = orCause (faultOf s) none (NoKind (planIn s .kinds))
 
     roomy : Fault
-    roomy = orCause known short (Short (flowLength (planIn s .count)))
+    roomy = orCause known (ltb n needed) (Short needed)
+
+pub flow-refuses : (s : List ℕ) → AreBytes s → (kind n : ℕ) → SmallFault (flowFault s kind n)
+unfolding flowFault
+flow-refuses s small kind n = kind-refuses s small kind n (flowLength (planIn s .count)) (omega (arith, length-few (planIn s .count) (count-within s)))
 
 -- ---- Crew check
 

@@ -28,12 +28,16 @@ isKind kind n = ltb 0 kind && leb kind n
 abbrev pub mostRecords : ℕ
 mostRecords = activities * (activities - 1) / 2 + 2 * activities + 1
 
--- "Flow: 8, 9, 7 (any kind's overload)."; n bytes are lent
-unfoldable pub flowFault : List ℕ → ℕ → ℕ → Fault
-flowFault s kind n =
+-- "8, 9, 7 (any kind's overload)", of an operation on one kind: n bytes are lent, and so many are needed
+abbrev pub kindFault : List ℕ → ℕ → ℕ → ℕ → Fault
+kindFault s kind n needed =
     let q = planIn s in
     let known = orCause (faultOf s) (not (isKind kind (q .kinds))) (NoKind (q .kinds)) in
-    orOverloaded (orShort known n (flowLength (q .count))) q
+    orOverloaded (orShort known n needed) q
+
+-- "Flow: 8, 9, 7 (any kind's overload)."
+unfoldable pub flowFault : List ℕ → ℕ → ℕ → Fault
+flowFault s kind n = kindFault s kind n (flowLength (planIn s .count))
 
 -- THE FLOW SHOWN is free: it is what the solver hands over from activity to activity, with what the start and the end then pass and take. That it is
 -- a flow of the paper's is `file-flow` of promises/proofs/FileFlows.antt. From node u to node v, where node 0 is the start and m + 1 the end, pass

@@ -5,9 +5,11 @@ ghost use lib.ListN.{length};
 ghost use Rattle.order.specs.Stored.{elements};
 ghost use Rattle.planner.specs.Flow.{isKind, flowAnswer, flowOut};
 ghost use Rattle.planner.specs.File.{flowLength};
+ghost use Rattle.planner.specs.model.Opening.{kindFaultIn};
 ghost use Rattle.planner.specs.model.Records.{FlowAsked, flowPut};
 ghost use Rattle.kinds.specs.model.Writing.{lent};
 use crate::Cause;
+use crate::Fault;
 use crate::Output;
 use crate::answer::output_of;
 use crate::faults::is_fine;
@@ -38,6 +40,24 @@ fn flow_length(m: usize) -> usize
     24 * (m * (m - 1) / 2 + 2 * m + 1)
 }
 
+// 8, 9 and 7 in their turn, after a fault: the causes of an operation on one kind of a plan, of which `needed` bytes are needed.
+pub fn kind_fault(
+    fault: Fault,
+    order: Order,
+    q: plan::Plan,
+    kind: usize,
+    lent: usize,
+    needed: usize,
+) -> Fault
+    requires { ⌜ (q .count ≤ elements) × (q .kinds ≤ 8) ⌝ }
+    ensures { λ r. ⌜ r ≡ kindFaultIn fault order q kind lent needed ⌝ }
+{
+    let n = q.kinds;
+    let known = or_cause(fault, !is_kind(kind, n), Cause::NoKind(n));
+    let roomy = or_short(known, lent, needed);
+    or_overloaded(roomy, order, q)
+}
+
 // Writes the records of a plan's flow of kind k + 1 to the front of the lent bytes. Gives their number.
 fn write_records(out: &mut [u8], order: Order, q: plan::Plan, k: usize) -> usize
     requires { ⌜ FlowAsked order q k (now out) ⌝ }
@@ -56,14 +76,10 @@ pub fn flow(s: &[u8], kind: usize, out: &mut [u8]) -> Output
 {
     let opened = open_plan(s);
     let q = opened.plan;
-    let m = q.count;
-    let n = q.kinds;
     let order = opened.order;
-    let needed = flow_length(m);
+    let needed = flow_length(q.count);
     let read = opened.fault;
-    let known = or_cause(read, !is_kind(kind, n), Cause::NoKind(n));
-    let roomy = or_short(known, out.len(), needed);
-    let fault = or_overloaded(roomy, order, q);
+    let fault = kind_fault(read, order, q, kind, out.len(), needed);
     if !is_fine(fault) {
         return output_of(fault, 0);
     }

@@ -17,16 +17,16 @@ use Rattle.planner.proofs.ops.flow.flow.Tie as tie
 flow-length-requires : tie.Need-flow-length-requires
 flow-length-requires c κs = let o = c .before .before in opened-few (o .before .before .before .args .s .now) (o .open-plan .ensures)
 
-or-overloaded-requires : tie.Need-or-overloaded-requires
-or-overloaded-requires c κs =
-    let o = c .before .before .before .before .before .before in
+kind-fault-requires : tie.Need-kind-fault-requires
+kind-fault-requires c κs =
+    let o = c .before .before .before in
     let s = o .before .before .before .args .s .now in
     (opened-few s (o .open-plan .ensures), opened-kinds s (o .open-plan .ensures))
 
 -- what the code has found when it looks at its fault
 module _ (t : tie.After-is-fine) where
   abbrev o : tie.After-open-plan
-  o = t .before .before .before .before .before .before .before .before
+  o = t .before .before .before .before .before
 
   abbrev s : List ℕ
   s = o .before .before .before .args .s .now
@@ -40,11 +40,8 @@ module _ (t : tie.After-is-fine) where
   abbrev kind : ℕ
   kind = o .before .before .before .args .kind
 
-  found : Ends (flowFault s kind (length out)) (t .before .or-overloaded .result) (t .is-fine .result)
-  found =
-      let k = t .before .before .before in
-      ends s kind out bytes (o .open-plan .ensures) (k .before .before .flow-length .ensures) (k .before .is-kind .ensures) (k .or-cause .ensures)
-      (t .before .before .or-short .ensures) (t .before .or-overloaded .ensures) (t .is-fine .ensures)
+  found : Ends (flowFault s kind (length out)) (t .before .kind-fault .result) (t .is-fine .result)
+  found = ends s kind out bytes (o .open-plan .ensures) (t .before .before .flow-length .ensures) (t .before .kind-fault .ensures) (t .is-fine .ensures)
 
 returns : tie.Need-returns
 unfolding flowOut
@@ -76,10 +73,7 @@ flow-spec =
     (tie.spec
     (λ c κs. search needs)
     flow-length-requires
-    (λ c κs. search needs)
-    (λ c κs. search needs)
-    (λ c κs. search needs)
-    or-overloaded-requires
+    kind-fault-requires
     (λ c κs. search needs)
     (λ c κs. search needs)
     returns
