@@ -1,7 +1,10 @@
 # make run [PLAN=file]  proves and builds the report program, and prints the report of a plan file; of examples/a.plan where none is named
+# make sheet [PLAN=file] [KIND=1] [PAGE=1]  proves and builds the library, and prints a page of a kind's crew sheet
 # make test             proves every crate, tries the wrong versions, runs the programs and the other tests
 PLAN ?= examples/a.plan
-.PHONY: run test
+KIND ?= 1
+PAGE ?= 1
+.PHONY: run sheet test
 
 run:
 	@tests/tools rt
@@ -9,6 +12,14 @@ run:
 	@rt check report >.run.log 2>&1 || { cat .run.log; rm -f .run.log; exit 1; }
 	@rm -f .run.log
 	@target/bin/report <"$(PLAN)"
+
+sheet:
+	@tests/tools rt gcc
+	@test -r "$(PLAN)" || { echo "make sheet: cannot read the plan file $(PLAN)" >&2; exit 2; }
+	@rt staticlib yaffledesk >.sheet.log 2>&1 || { cat .sheet.log; rm -f .sheet.log; exit 1; }
+	@rm -f .sheet.log
+	@gcc -Wall -Wextra -Werror -Iinclude examples/sheet.c target/staticlib/libyaffledesk.a -o target/sheet
+	@target/sheet "$(PLAN)" "$(KIND)" "$(PAGE)"
 
 test:
 	@tests/run

@@ -22,7 +22,7 @@ uint64_t paint(size_t at) { return Random{at}.next(); }
 uint32_t numbers[N + 1], starts[N], durations[N];
 uint8_t records[YAFFLEDESK_FLOW_BYTES(N)];
 std::vector<uint8_t> plan;
-uint64_t kind, answer;
+uint64_t kind, page, answer;
 
 void nothing() { answer = 0; }
 void verdict() { answer = yaffledesk_verdict(plan.data(), plan.size()); }
@@ -30,6 +30,7 @@ void set() { answer = yaffledesk_set(plan.data(), plan.size()); }
 void needs() { answer = yaffledesk_needs(plan.data(), plan.size(), numbers, N + 1); }
 void earliest() { answer = yaffledesk_starts(plan.data(), plan.size(), numbers, N + 1); }
 void flow() { answer = yaffledesk_flow(plan.data(), plan.size(), kind, records, sizeof records); }
+void sheet() { answer = yaffledesk_sheet(plan.data(), plan.size(), kind, page, records, sizeof records); }
 void overload() { answer = yaffledesk_overload(plan.data(), plan.size(), records, sizeof records); }
 void crew_check() { answer = yaffledesk_crew_check(plan.data(), plan.size(), starts, N, durations, N); }
 
@@ -40,9 +41,9 @@ struct Operation {
     int given[256]; // how often it gave each number
 } operations[] = {
     {"verdict", verdict, 0, {}}, {"set", set, 0, {}},           {"needs", needs, 0, {}},           {"starts", earliest, 0, {}},
-    {"flow", flow, 0, {}},       {"overload", overload, 0, {}}, {"crew_check", crew_check, 0, {}},
+    {"flow", flow, 0, {}},       {"sheet", sheet, 0, {}},       {"overload", overload, 0, {}},     {"crew_check", crew_check, 0, {}},
 };
-Operation &flow_operation = operations[4];
+Operation &flow_operation = operations[4], &sheet_operation = operations[5];
 
 // ---- The thread ----
 
@@ -85,7 +86,7 @@ void run(Operation &operation) {
 // ---- The files ----
 
 void run_all() {
-    for (kind = 1; kind < KINDS; kind++) run(flow_operation); // of kind 8, with the others below
+    for (kind = 1; kind < KINDS; kind++) run(flow_operation), run(sheet_operation); // of kind 8, with the others below
     for (Operation &operation : operations) run(operation);
 }
 
@@ -102,9 +103,9 @@ void run_file(PlanFile &file, uint32_t available) {
     file.available.fill(available);
     put_crew(file);
     plan = file.bytes;
-    work(false);
+    work(false), page = 1;
     run_all();
-    work(true);
+    work(true), page = 99; // of no sheet
     run_all();
 }
 

@@ -46,6 +46,7 @@ enum {
     YAFFLEDESK_NO_SUCH_KIND = 8,    /* kind not 1 to K; rest: K */
     YAFFLEDESK_TOO_SHORT = 9,       /* lent memory too short; rest: the length needed, in elements */
     YAFFLEDESK_BAD_LISTS = 10,      /* lists not m long, or a worked duration 0; rest: m */
+    YAFFLEDESK_NO_PAGE = 11,        /* page not 1 to the count of pages; rest: that count */
 
     /* The two findings of the crew check. */
     YAFFLEDESK_BROKEN_ARC = 254,    /* a broken arc; YAFFLEDESK_BROKEN_FROM, _TO */
@@ -75,6 +76,7 @@ enum {
 enum {
     YAFFLEDESK_RECORD_BYTES = 24,        /* any record: of a plan, of a flow, of an overload */
     YAFFLEDESK_OVERLOAD_BYTES = 24,      /* what yaffledesk_overload needs */
+    YAFFLEDESK_SHEET_BYTES = 2460,       /* what yaffledesk_sheet needs: a page, 60 lines of 40 characters and a newline */
     YAFFLEDESK_MOST_PLAN_BYTES = 49152,  /* 2,048 records */
     YAFFLEDESK_MOST_ACTIVITIES = 64,
     YAFFLEDESK_MOST_KINDS = 8
@@ -105,6 +107,11 @@ uint64_t yaffledesk_starts(const uint8_t *plan, size_t len, uint32_t *out, size_
 /* Writes the flow of a kind as flow records, ascending by from, then to. 0: how many records were written, possibly none. Else 1 to
  * 6, then 8, then 9 (needs YAFFLEDESK_FLOW_BYTES(m) bytes), then 7, for the lowest overloaded kind even if the one asked for fits. */
 uint64_t yaffledesk_flow(const uint8_t *plan, size_t len, uint64_t kind, uint8_t *out, size_t out_len);
+
+/* Writes a page of the crew sheet of a kind as text: the records that yaffledesk_flow gives of it, a line each ("Sheets" below says
+ * how). Pages count from 1. 0: how many pages the sheet has, 1 or more. Else 1 to 6, then 8, then 9 (needs YAFFLEDESK_SHEET_BYTES
+ * bytes), then 7, as yaffledesk_flow gives it, then 11. Kind and page may be any numbers of 64 bits. */
+uint64_t yaffledesk_sheet(const uint8_t *plan, size_t len, uint64_t kind, uint64_t page, uint8_t *out, size_t out_len);
 
 /* Writes the overload record of an overloaded plan. 0: how many records were written, 1, or 0 where no kind is overloaded. Else
  * 1 to 6, then 9 (needs 24 bytes, whether the plan is overloaded or not). Never 7. */
@@ -166,6 +173,18 @@ static inline uint64_t yaffledesk_members(const uint8_t *record) {
 static inline int yaffledesk_has(uint64_t set, unsigned i) {
     return (int)(set >> (i - 1) & 1);
 }
+
+/* ---- Sheets ----
+ *
+ * A page of a crew sheet is 60 lines of 40 characters and a newline, in ASCII, without a 0 at its end. The first line is the word
+ * KIND, the kind and the page; each further one is a flow record, and those not used are blank. Numbers are right-aligned in their
+ * columns, which count from 1; the other columns are blank.
+ *
+ *     first line   1-4: KIND   6: kind   8-10: page
+ *     record       1-3: from   5-7: to   9-16: units   18-27: when the receiver starts
+ *
+ * The start of a receiver is what yaffledesk_starts gives of it, the end included. The lines ascend by that start, then by from, then
+ * by to. A page has 59 records before the next begins; a sheet without any has one page. The added mark is not printed. */
 
 #ifdef __cplusplus
 }

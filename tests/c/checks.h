@@ -117,6 +117,13 @@ static uint64_t flow(const plan_file *plan, uint64_t kind, size_t lent) {
     return answer;
 }
 
+static uint64_t sheet(const plan_file *plan, uint64_t kind, uint64_t page, size_t lent) {
+    fresh_memory();
+    uint64_t answer = yaffledesk_sheet(plan->bytes, plan->len, kind, page, lent_bytes, lent);
+    check_unchanged(plan->name, "Sheet", 0, YAFFLEDESK_NUMBER(answer) ? 0 : YAFFLEDESK_SHEET_BYTES);
+    return answer;
+}
+
 static uint64_t overload(const plan_file *plan, size_t lent) {
     fresh_memory();
     uint64_t answer = yaffledesk_overload(plan->bytes, plan->len, lent_bytes, lent);

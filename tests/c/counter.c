@@ -1,11 +1,14 @@
-// The planner through its C interface, as a counter screen calls it: plans A to F, every refusal and every crew answer of document 01.
+// The planner through its C interface, as a counter screen calls it: plans A to F, every refusal and every crew answer of document 01, and crew sheets.
 // It runs in the project's root, prints a line for each check that fails, and ends with 'N passed, M failed'.
 #include "checks.h"
 
-enum { RECORD = YAFFLEDESK_RECORD_BYTES };
+enum { RECORD = YAFFLEDESK_RECORD_BYTES, PAGE = YAFFLEDESK_SHEET_BYTES };
 // Places in plan A: activities are records 0 to 3, the crew is record 4, the extra arcs are records 5 and 6.
 enum { CREW = 4 * RECORD, ARC_1_2 = 5 * RECORD, ARC_2_4 = 6 * RECORD };
-static plan_file a, b, c, d, e, e_job, f, f5;
+static plan_file a, b, c, d, e, e_job, f, f5, hall;
+// Numbers that are neither 0 nor 1, though some would be if only their low bits were looked at.
+static const uint64_t wide[] = {2, 256, 257, (uint64_t)1 << 32, (uint64_t)1 << 32 | 1, (uint64_t)1 << 63 | 1, UINT64_MAX};
+enum { WIDE = sizeof wide / sizeof *wide };
 
 // Every operation refuses the plan alike, whatever it is lent and whichever kind it is asked for.
 static void check_refused(plan_file plan, unsigned number, uint64_t rest) {
@@ -18,6 +21,8 @@ static void check_refused(plan_file plan, unsigned number, uint64_t rest) {
         check_answer(plan.name, "Overload", overload(&plan, lent), number, rest);
         check_answer(plan.name, "Flow of kind 0", flow(&plan, 0, lent), number, rest);
         check_answer(plan.name, "Flow of kind 1", flow(&plan, 1, lent ? YAFFLEDESK_FLOW_BYTES(64) : 0), number, rest);
+        check_answer(plan.name, "Sheet of kind 0, page 0", sheet(&plan, 0, 0, lent), number, rest);
+        check_answer(plan.name, "Sheet of kind 1, page 1", sheet(&plan, 1, 1, lent ? PAGE : 0), number, rest);
         check_answer(plan.name, "Crew check", yaffledesk_crew_check(plan.bytes, plan.len, list, lent, list, lent), number, rest);
     }
 }
@@ -81,6 +86,7 @@ static plan_file idle_plan(unsigned activities) {
 }
 
 static void check_flow(const plan_file *plan, size_t lent, const uint8_t expected[][5], size_t count);
+static void check_page(const plan_file *plan, size_t lent, const char *const *lines, size_t count);
 
 // The least and the greatest count of activities.
 static void counts(void) {
@@ -89,12 +95,14 @@ static void counts(void) {
     check_answer(most.name, "Starts", starts(&most, 65), YAFFLEDESK_DONE, 65);
     check_answer(most.name, "Flow", flow(&most, 1, 51480), YAFFLEDESK_DONE, 0);
     check_answer(most.name, "Flow, short", flow(&most, 1, 51479), YAFFLEDESK_TOO_SHORT, 51480);
+    check_page(&most, PAGE, (const char *[]){"KIND 1   1"}, 1);
     check_refused(renamed(idle_plan(65), "65 activities"), YAFFLEDESK_BAD_FIELD, 64);
 
     check_answer(none.name, "Verdict", yaffledesk_verdict(none.bytes, none.len), YAFFLEDESK_DONE, 0 + 256 * 1);
     check_answer(none.name, "Needs", needs(&none, 1), YAFFLEDESK_DONE, 1);
     check(lent_numbers[0] == 0, "%s: need %" PRIu32, none.name, lent_numbers[0]);
     check_flow(&none, 24, (const uint8_t[][5]){{1, 0, 1, 4, 0}}, 1);
+    check_page(&none, PAGE, (const char *[]){"KIND 1   1", "  0   1        4          0"}, 2);
     check_answer(none.name, "Crew check", yaffledesk_crew_check(none.bytes, none.len, lent_numbers, 0, lent_numbers, 0), YAFFLEDESK_DONE, 0);
 }
 
@@ -129,6 +137,11 @@ static void check_overloaded(const plan_file *plan, size_t m, uint8_t kind, uint
     check_answer(plan->name, "Flow", flow(plan, 1, YAFFLEDESK_FLOW_BYTES(m)), YAFFLEDESK_OVERLOADED, rest);
     check_answer(plan->name, "Flow, short", flow(plan, 1, YAFFLEDESK_FLOW_BYTES(m) - 1), YAFFLEDESK_TOO_SHORT, YAFFLEDESK_FLOW_BYTES(m));
     check_answer(plan->name, "Flow of kind 0", flow(plan, 0, 0), YAFFLEDESK_NO_SUCH_KIND, plan->bytes[m * RECORD + 1]);
+    for (uint64_t page = 0; page <= 2; page++) {
+        check_answer(plan->name, "Sheet", sheet(plan, 1, page, PAGE), YAFFLEDESK_OVERLOADED, rest);
+        check_answer(plan->name, "Sheet, short", sheet(plan, 1, page, PAGE - 1), YAFFLEDESK_TOO_SHORT, PAGE);
+        check_answer(plan->name, "Sheet of kind 0", sheet(plan, 0, page, 0), YAFFLEDESK_NO_SUCH_KIND, plan->bytes[m * RECORD + 1]);
+    }
 }
 
 static void verdicts(void) {
@@ -188,7 +201,6 @@ static void flows(void) {
     static const uint8_t of_a[][5] = {{1, 0, 1, 2, 0}, {1, 0, 3, 2, 0}, {1, 1, 2, 2, 1}, {1, 2, 4, 2, 1}, {1, 3, 5, 2, 0}, {1, 4, 5, 2, 0}};
     static const uint8_t of_job[][5] = {{1, 0, 1, 2, 0}, {1, 0, 3, 2, 0}, {1, 1, 2, 2, 0}, {1, 2, 4, 2, 1}, {1, 3, 5, 2, 0}, {1, 4, 5, 2, 0}};
     static const uint8_t of_more[][5] = {{1, 0, 1, 4, 0}, {1, 0, 2, 2, 0}, {1, 1, 2, 4, 0}};
-    static const uint64_t no_kinds[] = {0, 2, 257, (uint64_t)1 << 32 | 1, UINT64_MAX};
     plan_file job = renamed(with_byte(a, ARC_1_2, 3), "A with 1 to 2 as a job arc");
     plan_file more = renamed(with_byte(f, RECORD + 4, 6), "F with 6 available");
 
@@ -199,8 +211,43 @@ static void flows(void) {
     check_flow(&more, YAFFLEDESK_FLOW_BYTES(1), of_more, 3);
     flow_of_d();
     check_answer("A", "Flow, short", flow(&a, 1, 359), YAFFLEDESK_TOO_SHORT, 360);
-    for (size_t i = 0; i < sizeof no_kinds / sizeof *no_kinds; i++)
-        check_answer("A", "Flow of no kind", flow(&a, no_kinds[i], 0), YAFFLEDESK_NO_SUCH_KIND, 1);
+    check_answer("A", "Flow of kind 0", flow(&a, 0, 0), YAFFLEDESK_NO_SUCH_KIND, 1);
+    for (size_t i = 0; i < WIDE; i++) check_answer("A", "Flow of no kind", flow(&a, wide[i], 0), YAFFLEDESK_NO_SUCH_KIND, 1);
+}
+
+// Page 1 of the sheet of kind 1, which has no other: its lines without the blanks behind them, and further ones that are blank.
+static void check_page(const plan_file *plan, size_t lent, const char *const *lines, size_t count) {
+    char line[42];
+    check_answer(plan->name, "Sheet", sheet(plan, 1, 1, lent), YAFFLEDESK_DONE, 1);
+    for (size_t n = 0; n < 60; n++) {
+        snprintf(line, sizeof line, "%-40s\n", n < count ? lines[n] : "");
+        check(memcmp(lent_bytes + 41 * n, line, 41) == 0, "%s: line %zu of the sheet is %.40s", plan->name, n + 1, (const char *)lent_bytes + 41 * n);
+    }
+}
+
+static void sheets(void) {
+    static const char *const of_a[] = {"KIND 1   1",
+                                       "  0   1        2          0",
+                                       "  0   3        2          0",
+                                       "  1   2        2          1",
+                                       "  2   4        2          3",
+                                       "  3   5        2          4",
+                                       "  4   5        2          4"};
+    check_page(&a, PAGE, of_a, 7);
+    check_page(&a, YAFFLEDESK_FLOW_BYTES(64), of_a, 7);
+    for (uint64_t page = 1; page <= 3; page++) check_answer("hall", "Sheet", sheet(&hall, 1, page, PAGE), YAFFLEDESK_DONE, 3);
+    check_answer("hall", "Sheet of kind 2", sheet(&hall, 2, 1, PAGE), YAFFLEDESK_DONE, 1);
+    check_answer("hall", "Sheet, page 4", sheet(&hall, 1, 4, PAGE), YAFFLEDESK_NO_PAGE, 3);
+    check_answer("hall", "Sheet of kind 2, page 2", sheet(&hall, 2, 2, PAGE), YAFFLEDESK_NO_PAGE, 1);
+
+    check_answer("A", "Sheet, page 0", sheet(&a, 1, 0, PAGE), YAFFLEDESK_NO_PAGE, 1);
+    check_answer("A", "Sheet, short", sheet(&a, 1, 1, PAGE - 1), YAFFLEDESK_TOO_SHORT, PAGE);
+    check_answer("A", "Sheet of kind 0", sheet(&a, 0, 1, PAGE), YAFFLEDESK_NO_SUCH_KIND, 1);
+    for (size_t i = 0; i < WIDE; i++) {
+        check_answer("A", "Sheet, no such page", sheet(&a, 1, wide[i], PAGE), YAFFLEDESK_NO_PAGE, 1);
+        check_answer("A", "Sheet, no such page, short", sheet(&a, 1, wide[i], 0), YAFFLEDESK_TOO_SHORT, PAGE);
+        check_answer("A", "Sheet of no kind", sheet(&a, wide[i], wide[i], 0), YAFFLEDESK_NO_SUCH_KIND, 1);
+    }
 }
 
 static uint64_t crew(const plan_file *plan, const uint32_t *from, const uint32_t *worked) {
@@ -227,12 +274,13 @@ static void crews(void) {
 
 int main(void) {
     a = example("a"), b = example("b"), c = example("c"), d = example("d");
-    e = example("e"), e_job = example("e_job"), f = example("f"), f5 = example("f5");
+    e = example("e"), e_job = example("e_job"), f = example("f"), f5 = example("f5"), hall = example("hall");
     lengths();
     records();
     counts();
     verdicts();
     flows();
+    sheets();
     crews();
     printf("%u passed, %u failed\n", passed, failed);
     return failed == 0 ? 0 : 1;

@@ -148,7 +148,7 @@ def public(crate):
     text = (crate / "src" / "lib.rt").read_text()
     holder, names = "", []
     for line in text.splitlines():
-        if got := re.match(r"impl (\w+) \{", line):
+        if got := re.match(r"impl(?:<[^>]*>)? (\w+)(?:<[^>]*>)? \{", line):
             holder = f"{got[1]}::"
         elif line == "}":
             holder = ""

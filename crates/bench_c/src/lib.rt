@@ -1,10 +1,13 @@
 // What bench/ measures, as functions that a C program can call. Each calls proved functions, and copies the answer out. A table of sets is one
 // of words for C, as is what is shown of a set: bit i for the element i.
 ghost use mathlib.Core.Path.{_≡_};
-ghost use Prim.Native.Nat.{_%_, _^_, _≤_};
+ghost use Prim.Native.Nat.{_*_, _%_, _^_, _≤_};
+ghost use lib.ListN.{length};
 ghost use Rattle.order.specs.Before.{Acyclic};
 ghost use Rattle.order.specs.Stored.{elements, numberOf as setNumber};
 ghost use Rattle.order.specs.Orders.{afterRows, Direct, orderIn, joinedRows};
+ghost use Rattle.records.specs.Records.{startingWith};
+ghost use Rattle.crew_sheet.specs.Sheet.{pageBytes, pagesOf, sheetPage, mostLines};
 ghost use Rattle.plan.specs.model.Reads.{readOf};
 ghost use Rattle.schedule.specs.model.Arrays.{byDuration, startsOf, AllAtMost, Listed, crewNet, workOf};
 ghost use Rattle.schedule.specs.Checks.{checkOf};
@@ -144,4 +147,20 @@ fn number(c: Checked) -> u64
         Checked::Broken { from: _, to: _ } => 1,
         Checked::Overload { period: _, kind: _ } => 2,
     }
+}
+
+// A page of the sheet of n flow records, with the starts of their receivers, to the front of `out`. Gives the count of pages.
+#[no_mangle]
+pub extern "C" fn yaffledesk_bench_page(
+    flow: &[u8],
+    n: usize,
+    starts: &[u32],
+    kind: u64,
+    page: usize,
+    out: &mut [u8],
+) -> usize
+    requires { ⌜ (pageBytes ≤ length (now out)) × (n ≤ mostLines) × (24 * n ≤ length (now flow)) × (1 ≤ page) × (page ≤ mostLines) ⌝ }
+    ensures { λ r. ⌜ (r ≡ pagesOf n) × (now (out .exit) ≡ startingWith (sheetPage (now (flow .entry)) (now (starts .entry)) n kind page) (now (out .entry))) ⌝ }
+{
+    crew_sheet::write_page(out, flow, n, starts, kind, page)
 }

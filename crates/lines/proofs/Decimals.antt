@@ -1,5 +1,5 @@
 -- The decimal digits of a number: how many there are, which they are, and that they are read back as the number. Assumes nothing.
-use mathlib.Core.Path.{_≡_, refl, sym, ap, _∙_}
+use mathlib.Core.Path.{_≡_, refl, sym, ap, subst, _∙_}
 use mathlib.Core.Bool.{Bool}
 use mathlib.Core.Logic.{_≢_}
 use Prim.Native.Nat.{ℕ, zero, suc, _+_, _*_, _-_, _/_, _%_, _^_, _≤_, _<_}
@@ -57,7 +57,7 @@ places-is n k most before h =
 
 -- ---- the loop that counts them
 
-positive : (k : ℕ) → 0 < 10 ^ k
+pub positive : (k : ℕ) → 0 < 10 ^ k
 positive k = one-le-pow k 10 (omega arith)
 
 -- a further digit is divided off
@@ -106,6 +106,21 @@ length-decimal n = length-table (places n) (λ i. 48 + n / 10 ^ (places n - suc 
 pub decimal-at : (n i : ℕ) → i < places n → getD (decimal n) i 0 ≡ 48 + n / 10 ^ (places n - suc i) % 10
 unfolding decimal
 decimal-at n i h = getD-table (places n) (λ i. 48 + n / 10 ^ (places n - suc i) % 10) i 0 h
+
+-- each is one of the digits 0 to 9
+pub decimal-digit : (n i : ℕ) → i < places n → (48 ≤ getD (decimal n) i 0) × (getD (decimal n) i 0 ≤ 57)
+decimal-digit n i h = (omega (arith, decimal-at n i h), omega (arith, decimal-at n i h))
+
+-- and the first of several is not 0
+pub decimal-lead : (n : ℕ) → n < 10 ^ 20 → 1 < places n → 48 < getD (decimal n) 0 0
+decimal-lead n h more =
+    let p : ℕ = places n - 1 in
+    let least : 10 ^ suc (places n - 2) ≤ n = places-least n (places n - 2) (omega arith) in
+    let same : suc (places n - 2) ≡ p = omega arith in
+    let holds : n < 10 ^ suc p = subst (λ k. n < 10 ^ k) (let e : places n ≡ suc p = omega arith in e) (places-hold n h) in
+    let some : 1 ≤ n / 10 ^ p = le-div-iff-mul-le {k = 10 ^ p} {x = 1} {y = n} (positive p) .1 (omega (arith, (rw same at least))) in
+    let few : n / 10 ^ p < 10 = div-lt-iff-lt-mul {k = 10 ^ p} {x = n} {y = 10} (positive p) .1 (omega (arith, holds, pow-suc 10 p)) in
+    omega (arith, decimal-at n 0 (omega arith), some, few)
 
 -- ---- reading back
 

@@ -78,7 +78,7 @@ pub record Spelling (at x : ℕ) (old : List ℕ) (i rest : ℕ) (out : List ℕ
   pub done : out ≡ take (at + i) old ++ drop i (decimal x) ++ drop (at + places x) old
 
 -- one byte more of a list, before those that are written
-set-before : (old ds tail : List ℕ) (k j : ℕ) → k < length old → j < length ds
+pub set-before : (old ds tail : List ℕ) (k j : ℕ) → k < length old → j < length ds
     → set (take (suc k) old ++ drop (suc j) ds ++ tail) k (getD ds j 0) ≡ take k old ++ drop j ds ++ tail
 set-before old ds tail k j h l =
     let long : length (take k old) ≡ k = length-take-le k old (omega arith) in

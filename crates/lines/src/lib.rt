@@ -34,7 +34,7 @@ fn put_decimal(out: &mut [u8], at: usize, x: u64) -> usize
 }
 
 // Writes bytes behind those that are written.
-fn put_bytes(out: &mut [u8], at: usize, bytes: &[u8]) -> usize
+pub fn put_bytes(out: &mut [u8], at: usize, bytes: &[u8]) -> usize
     requires { ⌜ at + length (now bytes) ≤ length (now out) ⌝ }
     ensures { λ r. ⌜ text r (now (out .exit)) ≡ more (text at (now (out .entry))) (now (bytes .entry)) ⌝ }
 {

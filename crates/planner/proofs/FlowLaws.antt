@@ -15,7 +15,7 @@ use Rattle.kinds.specs.model.Writing.{Lent, lent}
 use Rattle.planner.specs.Faults.{isFine, orCause, orShort}
 use Rattle.planner.specs.Open.{planIn, faultOf, Opens}
 use Rattle.planner.specs.Need.{availableFor, needFor, overKind, isOverloaded, overCause, orOverloaded}
-use Rattle.planner.specs.Flow.{isKind, kindFault, flowFault, flowCount, recordBytes}
+use Rattle.planner.specs.Flow.{isKind, mostRecords, kindFault, flowFault, flowCount, recordBytes}
 use Rattle.planner.specs.File.{flowLength}
 use Rattle.planner.specs.model.Opening.{openedOf, kindFaultIn}
 use Rattle.planner.specs.model.Records.{FlowAsked, flowPut}
@@ -25,9 +25,9 @@ use Rattle.planner.specs.declared.Fault.the-variants.{Fine}
 use Rattle.planner.specs.declared.open.Opened.{Opened}
 use Rattle.planner.proofs.FaultLaws.{cause-fine, cause-none, short-fine, short-none}
 use Rattle.planner.proofs.OutputLaws.{Ends}
-use Rattle.planner.proofs.OpenLaws.{count-few}
+use Rattle.planner.proofs.OpenLaws.{count-few, count-within}
 use Rattle.planner.proofs.QuotedNeeds.{kinds-few, need-quoted, weighed-held}
-use Rattle.planner.proofs.FlowUnits.{bounded-in, room-in, flow-put}
+use Rattle.planner.proofs.FlowUnits.{length-few, count-room, bounded-in, room-in, flow-put}
 
 -- ---- the kind
 
@@ -51,10 +51,10 @@ length-none m e = rw e
 
 module _ (s : List ℕ) (kind n needed : ℕ) where
   -- the fault with 8 in its turn, and then 9
-  abbrev known : Fault
+  abbrev pub known : Fault
   known = orCause (faultOf s) (not (isKind kind (planIn s .kinds))) (NoKind (planIn s .kinds))
 
-  abbrev roomy : Fault
+  abbrev pub roomy : Fault
   roomy = orShort known n needed
 
   roomy-fine : isFine roomy ≡ true → Opens s × (isKind kind (planIn s .kinds) ≡ true) × (needed ≤ n)
@@ -96,6 +96,18 @@ not-over s e k h =
     let l = ltb-false (overKind (planIn s)) (planIn s .kinds) e in
     ltb-false (availableFor (planIn s) k) (needFor (planIn s) k)
     (before-first (planIn s .kinds) (λ i. ltb (availableFor (planIn s) i) (needFor (planIn s) i)) k (omega (arith, l)))
+
+-- how many records a flow has then
+pub records-few : (s : List ℕ) → AreBytes s → (kind n needed : ℕ) → isFine (kindFault s kind n needed) ≡ true → flowCount (planIn s) (kind - 1) ≤ mostRecords
+records-few s bytes kind n needed e =
+    let w = kind-fine s kind n needed e in
+    let k = kind-within kind (planIn s .kinds) (w .1) in
+    let h : kind - 1 < planIn s .kinds = omega (arith, k .0, k .1) in
+    omega (arith, length-few (planIn s .count) (count-within s), count-room s bytes (w .0) (kind - 1) (omega (arith, kinds-few s)) (not-over s (w .3) (kind - 1) h))
+
+pub flow-few : (s : List ℕ) → AreBytes s → (kind n : ℕ) → isFine (flowFault s kind n) ≡ true → flowCount (planIn s) (kind - 1) ≤ mostRecords
+unfolding flowFault
+flow-few s bytes kind n = records-few s bytes kind n (flowLength (planIn s .count))
 
 -- ---- what the code holds: `o` is the plan that was opened
 

@@ -25,11 +25,12 @@ use Rattle.solver.specs.model.Network.{handed}
 use Rattle.solver.specs.model.Quote.{flowOf}
 use Rattle.solver.specs.Sound.{asked}
 use Rattle.kinds.specs.Needs.{demandsFor}
-use Rattle.kinds.specs.Flows.{units, kindUnits, Bounded, markOf, flowBytes, pairsFrom, pairsOf}
+use Rattle.kinds.specs.Flows.{units as nodeUnits, kindUnits, Bounded, markOf, flowBytes, pairsFrom, pairsOf}
 use Rattle.kinds.specs.model.Writing.{Room, lent, putFlow}
 use Rattle.kinds.specs.Reading.{unitsRead}
 use Rattle.kinds.proofs.RecordsWritten.{length-flow, flow-written, flow-same, pairs-same}
 use Rattle.kinds.proofs.RecordsRead.{flow-read, flow-read-none}
+use Rattle.kinds.proofs.RecordsAscend.{from, to, units, Less, flow-ends, flow-ascends}
 use Rattle.planner.specs.Open.{planIn, planOrder, Opens}
 use Rattle.planner.specs.Need.{demandFor, availableFor, needFor}
 use Rattle.planner.specs.Flow.{mostRecords, flowUnits, flowCount, recordBytes}
@@ -56,6 +57,12 @@ pub records-length : (q : Plan) (k : ℕ) → length (recordBytes q k) ≡ 24 * 
 unfolding flowCount recordBytes
 records-length q k = length-flow (k + 1) (flowUnits q k) (markOf (q .job) (q .count)) (q .count + 2)
 
+-- they ascend by from, then to, whatever stands behind them
+pub records-ascend : (q : Plan) (k : ℕ) (rest : List ℕ) (i j : ℕ) → i < j → j < flowCount q k
+    → Less (from (recordBytes q k ++ rest) i) (to (recordBytes q k ++ rest) i) (from (recordBytes q k ++ rest) j) (to (recordBytes q k ++ rest) j)
+unfolding flowCount recordBytes
+records-ascend q k = flow-ascends (k + 1) (flowUnits q k) (markOf (q .job) (q .count)) (q .count + 2)
+
 -- the units of kind k as the code has them
 abbrev pub codedUnits : List ℕ → ℕ → ℕ → ℕ → ℕ
 codedUnits s k = kindUnits (planOrder s) (planIn s .demand) k (availableFor (planIn s) k) (planIn s .count)
@@ -79,13 +86,15 @@ module _ (s : List ℕ) (small : AreBytes s) (o : Opens s) (k : ℕ) (hk : k < 8
 
   -- ---- its units fit four bytes, and pass between the nodes 0 to m + 1
 
-  units-below : (u v : ℕ) → flowUnits (planIn s) k u v < 256 ^ 4
+  units-most : (u v : ℕ) → flowUnits (planIn s) k u v ≤ 65535
   unfolding flowUnits
-  units-below u v =
-      let l = units-small (planIn s .count) (isBefore (planOrder s)) (demandFor (planIn s) k) (handed (flowOf (planIn s .count) (planOrder s) (demandsFor (planIn s .demand) k)))
+  units-most u v =
+      units-small (planIn s .count) (isBefore (planOrder s)) (demandFor (planIn s) k) (handed (flowOf (planIn s .count) (planOrder s) (demandsFor (planIn s .demand) k)))
       (needFor (planIn s) k) (availableFor (planIn s) k) 65535 (sound-in s small o k hk .handover)
-      (λ i h. demand-small s small o k i (omega (arith, count-few s))) available-below u v in
-      omega arith
+      (λ i h. demand-small s small o k i (omega (arith, count-few s))) available-below u v
+
+  units-below : (u v : ℕ) → flowUnits (planIn s) k u v < 256 ^ 4
+  units-below u v = omega (arith, units-most u v)
 
   pub units-past : (u v : ℕ) → (planIn s .count + 2 ≤ u) ⊎ (planIn s .count + 2 ≤ v) → flowUnits (planIn s) k u v ≡ 0
   unfolding flowUnits
@@ -93,7 +102,17 @@ module _ (s : List ℕ) (small : AreBytes s) (o : Opens s) (k : ℕ) (hk : k < 8
       nodes-none (planIn s .count) (demandFor (planIn s) k) (handed (flowOf (planIn s .count) (planOrder s) (demandsFor (planIn s .demand) k)))
       (needFor (planIn s) k) (availableFor (planIn s) k) u v h
 
-  -- ---- ITS RECORDS HAVE ROOM
+  -- ---- ITS RECORDS are between such nodes, with such units, whatever stands behind them
+
+  pub record-ends : (rest : List ℕ) (i : ℕ) → i < flowCount (planIn s) k
+      → let F = recordBytes (planIn s) k ++ rest in (from F i < planIn s .count + 2) × (to F i < planIn s .count + 2) × (units F i ≤ 65535)
+  unfolding flowCount recordBytes
+  record-ends rest i h =
+      let F : List ℕ = flowBytes (k + 1) (flowUnits (planIn s) k) (markOf (planIn s .job) (planIn s .count)) (planIn s .count + 2) ++ rest in
+      let r = flow-ends (k + 1) (flowUnits (planIn s) k) (markOf (planIn s .job) (planIn s .count)) (planIn s .count + 2) rest i h in
+      (r .0, r .1, omega (arith, r .2 (units-below (from F i) (to F i)), units-most (from F i) (to F i)))
+
+  -- ---- THERE IS ROOM FOR THEM
 
   strict : StrictOrder (planIn s .count) (isBefore (planOrder s))
   strict = strict-first (planIn s .count) elements (isBefore (planOrder s)) (count-few s) (opens-strict s o)
@@ -110,7 +129,7 @@ module _ (s : List ℕ) (small : AreBytes s) (o : Opens s) (k : ℕ) (hk : k < 8
   -- ---- AS THE CODE HAS IT
 
   units-coded : (u v : ℕ) → codedUnits s k u v ≡ flowUnits (planIn s) k u v
-  unfolding units flowUnits
+  unfolding nodeUnits flowUnits
   units-coded u v =
       let f : ℕ → ℕ → ℕ = handed (flowOf (planIn s .count) (planOrder s) (demandsFor (planIn s .demand) k)) in
       let a = availableFor (planIn s) k in
@@ -146,11 +165,11 @@ module _ (s : List ℕ) (small : AreBytes s) (o : Opens s) (k : ℕ) (hk : k < 8
 
   -- nothing goes into the start or out of the end
   none-in : (u : ℕ) → codedUnits s k u 0 ≡ 0
-  unfolding units
+  unfolding nodeUnits
   none-in u = units-into-start (planIn s .count) (demandFor (planIn s) k) _ 0 _ u
 
   none-out : (v : ℕ) → codedUnits s k (suc (planIn s .count)) v ≡ 0
-  unfolding units
+  unfolding nodeUnits
   none-out v = units-out-of-end (planIn s .count) (demandFor (planIn s) k) _ 0 _ v
 
   pub flow-put : (out : List ℕ)

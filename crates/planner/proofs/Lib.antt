@@ -2,7 +2,8 @@
 --
 -- FaultLaws (causes in turn), OutputLaws (answers, lent memory, and how an operation ends), OpenLaws (the causes 1 to 6), FileOrders (arcs, orders and
 -- starts, in the file's own terms), QuotedNeeds (needs and overload), FlowUnits (flows), and for each operation one: VerdictLaws (Verdict), NeedsLaws (Needs),
--- StartsLaws, FlowLaws (Flow), OverloadLaws (Overload), CrewCheckLaws (Crew check); RefusalBounds (what a refusal tells is small).
+-- StartsLaws, FlowLaws (Flow, and the causes of the operations on one kind), SheetLaws (Sheet), SheetFaults (which refusal when, of Flow and Sheet), OverloadLaws (Overload),
+-- CrewCheckLaws (Crew check); RefusalBounds (what a refusal tells is small).
 pub mod FaultLaws
 pub mod OutputLaws
 pub mod OpenLaws
@@ -15,4 +16,6 @@ pub mod VerdictLaws
 pub mod NeedsLaws
 pub mod OverloadLaws
 pub mod FlowLaws
+pub mod SheetLaws
+pub mod SheetFaults
 pub mod RefusalBounds

@@ -1,7 +1,7 @@
 -- What an operation refuses with is small, whatever the plan's bytes are and whatever is lent: the cause's number has 8 bits, its two values have 32, and its set holds
 -- activities alone. Assumes nothing.
 --
---   open-refuses, verdict-refuses, needs-refuses, starts-refuses, overload-refuses, flow-refuses, crew-refuses    what every operation does first, and the six
+--   open-refuses, verdict-refuses, needs-refuses, starts-refuses, overload-refuses, flow-refuses, sheet-refuses, crew-refuses    what every operation does first, and the seven
 use mathlib.Core.Path.{_≡_}
 use mathlib.Core.Bool.{Bool, true, not}
 use mathlib.Core.List.{List}
@@ -12,6 +12,7 @@ use lib.Pow.{pow-pos}
 use Rattle.records.specs.Bytes.{AreBytes}
 use Rattle.order.specs.Stored.{numberOf}
 use Rattle.order.proofs.Stored.{number-none}
+use Rattle.crew_sheet.specs.Sheet.{pageBytes}
 use Rattle.plan.specs.Records.{activities}
 use Rattle.plan.specs.declared.Answer.the-variants as answer
 use Rattle.plan.proofs.CausePlaces.{told-small}
@@ -26,16 +27,18 @@ use Rattle.planner.specs.Needs.{needsFault}
 use Rattle.planner.specs.Starts.{needed, startsFault}
 use Rattle.planner.specs.File.{flowLength}
 use Rattle.planner.specs.Flow.{isKind, kindFault, flowFault}
+use Rattle.planner.specs.Sheet.{isPage, sheetPages, sheetFault}
 use Rattle.planner.specs.Overload.{overloadFault}
 use Rattle.planner.specs.CrewCheck.{badLists, crewCheckFault}
 use Rattle.planner.specs.declared.Cause.{Cause}
-use Rattle.planner.specs.declared.Cause.the-variants.{NoKind, Short, Lists}
+use Rattle.planner.specs.declared.Cause.the-variants.{NoKind, Short, Lists, NoPage}
 use Rattle.planner.specs.declared.Fault.{Fault}
 use Rattle.planner.specs.declared.Refusal.{Refusal}
 use Rattle.planner.proofs.FaultLaws.{cause-fine, Every, every-turn}
 use Rattle.planner.proofs.OpenLaws.{count-few, count-within, every-open}
 use Rattle.planner.proofs.QuotedNeeds.{kinds-few, need-quoted, quotable, over-below, set-fits}
 use Rattle.planner.proofs.FlowUnits.{length-few}
+use Rattle.planner.proofs.SheetLaws.{pages-small}
 
 pub record Small (r : Refusal) : Type 0 where
   pub number : r .number < 256
@@ -115,6 +118,14 @@ kind-refuses s small kind n needed few =
 pub flow-refuses : (s : List ℕ) → AreBytes s → (kind n : ℕ) → SmallFault (flowFault s kind n)
 unfolding flowFault
 flow-refuses s small kind n = kind-refuses s small kind n (flowLength (planIn s .count)) (omega (arith, length-few (planIn s .count) (count-within s)))
+
+-- ---- Sheet
+
+pub sheet-refuses : (s : List ℕ) → AreBytes s → (kind page n : ℕ) → SmallFault (sheetFault s kind page n)
+unfolding sheetFault
+sheet-refuses s small kind page n =
+    small-turn (kindFault s kind n pageBytes) (not (isPage page (sheetPages s kind))) (NoPage (sheetPages s kind)) (kind-refuses s small kind n pageBytes (omega arith))
+    (λ o e. plain-small 11 1 _ (omega arith) (omega (arith, pages-small s small kind n o)))
 
 -- ---- Crew check
 

@@ -2,14 +2,15 @@
 use mathlib.Core.Path.{_≡_, sym, ap, _∙_, subst}
 use mathlib.Core.Bool.{Bool, true, cond}
 use mathlib.Core.List.{List}
-use Prim.Native.Nat.{ℕ, _+_, _≤_, _<_}
+use mathlib.Core.Logic.{⊎-elim}
+use Prim.Native.Nat.{ℕ, _+_, _^_, _≤_, _<_}
 use native.Mathlib.Omega.{arith}
-use lib.Dec.{ltb}
-use lib.ListN.{length, getD, set}
-use borrow.Author.Tests.{lt-ltb, le-ltb}
+use lib.Dec.{ltb, eqb}
+use lib.ListN.{length, getD, set, List·getD-eq-default}
+use borrow.Author.Tests.{lt-ltb, le-ltb, ltb-true, ltb-false, eqb-true, eqb-false}
 use Rattle.words.specs.Tables.{over}
 use Rattle.words.proofs.Tables.{length-table, getD-table, over-turn}
-use Rattle.words.proofs.Tests.{cond-true, cond-false}
+use Rattle.words.proofs.Tests.{by-test, cond-true, cond-false}
 use Rattle.records.specs.Bytes.{AreBytes}
 use Rattle.order.specs.Before.{Acyclic}
 use Rattle.order.specs.Orders.{Direct}
@@ -17,15 +18,16 @@ use Rattle.schedule.specs.Starts.{endOf}
 use Rattle.schedule.specs.model.Arrays.{byDuration, startsOf, AllAtMost, FinishesFit}
 use Rattle.schedule.specs.Lists.{at}
 use Rattle.schedule.proofs.Arrays.{starts-fit}
+use Rattle.schedule.proofs.Starts.{end-largest}
 use Rattle.planner.specs.Faults.{isFine, orShort}
-use Rattle.planner.specs.Open.{planIn, faultOf, Opens}
+use Rattle.planner.specs.Open.{planIn, rowsOf, faultOf, Opens}
 use Rattle.planner.specs.Starts.{needed, startsFault, withEnd, firstStarts, endStart, startNumbers}
 use Rattle.planner.specs.model.Opening.{openedOf}
 use Rattle.planner.specs.declared.Fault.{Fault}
 use Rattle.planner.specs.declared.open.Opened.{Opened}
 use Rattle.planner.proofs.FaultLaws.{short-fine}
 use Rattle.planner.proofs.OutputLaws.{Ends}
-use Rattle.planner.proofs.OpenLaws.{opens-plan, opens-small}
+use Rattle.planner.proofs.OpenLaws.{count-few, opens-plan, opens-small}
 
 -- ---- m numbers and one more
 
@@ -58,6 +60,34 @@ module _ (m : ℕ) (starts : List ℕ) (end : ℕ) where
 pub length-numbers : (s : List ℕ) → length (startNumbers s) ≡ needed s
 unfolding startNumbers
 length-numbers s = length-end (planIn s .count) (firstStarts s) (endStart s)
+
+-- each of the numbers fits 32 bits
+pub numbers-fit : (s : List ℕ) → AreBytes s → Opens s → (i : ℕ) → getD (startNumbers s) i 0 < 2 ^ 32
+unfolding startNumbers
+numbers-fit s bytes o i =
+    by-test (ltb i m)
+    (λ t.
+    let l : i < m = ltb-true i m t in
+    omega (arith, before-end m (firstStarts s) (endStart s) i l, fit i i (omega (arith, count-few s))))
+    (λ t.
+    by-test (eqb i m)
+    (λ e. subst (λ (k : ℕ). getD (withEnd m (firstStarts s) (endStart s)) k 0 < 2 ^ 32) (sym (eqb-true i m e)) last)
+    (λ e.
+    let past : m + 1 ≤ i = omega (arith, ltb-false i m t, eqb-false i m e) in
+    omega (arith, List·getD-eq-default (withEnd m (firstStarts s) (endStart s)) 0 {n = i} (omega (arith, length-end m (firstStarts s) (endStart s))))))
+  where
+    m : ℕ
+    m = planIn s .count
+
+    fit : FinishesFit (firstStarts s) (byDuration (planIn s .duration))
+    fit = starts-fit (rowsOf s) (byDuration (planIn s .duration)) (λ i j. opens-small s bytes o i)
+
+    last : getD (withEnd m (firstStarts s) (endStart s)) m 0 < 2 ^ 32
+    last =
+        ⊎-elim
+        (λ z. omega (arith, at-end m (firstStarts s) (endStart s), z))
+        (λ F. omega (arith, at-end m (firstStarts s) (endStart s), F .finish, fit (F .element) 0 (omega (arith, F .picked, count-few s))))
+        (end-largest m (at (firstStarts s)) (at (planIn s .duration)) .reached)
 
 -- it goes on where the plan opens and there is room
 starts-fine : (s : List ℕ) (n : ℕ) → isFine (startsFault s n) ≡ true → Opens s × (needed s ≤ n)

@@ -14,6 +14,7 @@ pub mod Verdict
 pub mod Needs
 pub mod Starts
 pub mod Flow
+pub mod Sheet
 pub mod Overload
 pub mod CrewCheck
 pub mod model

@@ -8,7 +8,7 @@ use Rattle.words.specs.Members.{count}
 use Rattle.order.specs.Stored.{elements, numberOf, noSet}
 use Rattle.plan.specs.Numbers.{toldBy}
 use Rattle.planner.specs.declared.Cause.{Cause}
-use Rattle.planner.specs.declared.Cause.the-variants.{Unreadable, JobCircle, PlanCircle, Overloaded, NoKind, Short, Lists}
+use Rattle.planner.specs.declared.Cause.the-variants.{Unreadable, JobCircle, PlanCircle, Overloaded, NoKind, Short, Lists, NoPage}
 use Rattle.planner.specs.declared.Refusal.{Refusal}
 
 -- no set: so many of the two values
@@ -24,6 +24,7 @@ refusalOf (Overloaded k need set) = record { number = 7; values = 4; first = k; 
 refusalOf (NoKind n) = plain 8 1 n 0
 refusalOf (Short n) = plain 9 1 n 0
 refusalOf (Lists m) = plain 10 1 m 0
+refusalOf (NoPage n) = plain 11 1 n 0
 
 -- as a list. (7 returns "kind, need, set, size": the set is the number that it means, and its "size is the count of ones")
 abbrev pub numbersOf : Cause → List ℕ

@@ -1,3 +1,4 @@
--- For the code: what the two steps of the opening give, and 7 in its turn by what a search found (Opening), and the writing of a flow (Records).
+-- For the code: what the two steps of the opening give, and 7 in its turn by what a search found (Opening), the writing of a flow (Records), and the starts that a sheet shows (Sheets).
 pub mod Opening
 pub mod Records
+pub mod Sheets

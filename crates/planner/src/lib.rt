@@ -11,6 +11,7 @@ pub use ops::crew_check::crew_check;
 pub use ops::flow::flow;
 pub use ops::needs::needs;
 pub use ops::overload::overload;
+pub use ops::sheet::sheet;
 pub use ops::starts::starts;
 pub use ops::verdict::verdict;
 
@@ -34,6 +35,8 @@ pub enum Cause {
     Short(usize),
     // The lists are not m long, or a worked duration is 0, 10: m.
     Lists(usize),
+    // The page is not 1 to the page count, 11: that count.
+    NoPage(usize),
 }
 
 // What a refusal tells: document 01's number of its cause, and how many of the values after it are returned: two plain ones, a set, and the set's size.

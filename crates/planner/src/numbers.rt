@@ -39,5 +39,6 @@ pub fn refusal_of(c: Cause) -> Refusal
         Cause::NoKind(n) => plain(8, 1, n, 0),
         Cause::Short(n) => plain(9, 1, n, 0),
         Cause::Lists(m) => plain(10, 1, m, 0),
+        Cause::NoPage(n) => plain(11, 1, n, 0),
     }
 }

@@ -1,13 +1,16 @@
--- When Starts and Crew check answer what: each case of the plan's fault and of what is lent has its answer. Assumes nothing.
-use mathlib.Core.Path.{_≡_, ap, _∙_}
+-- When Starts and Crew check answer what: each case of the plan's fault and of what is lent has its answer. And what Flow leaves where it answers. Assumes nothing.
+use mathlib.Core.Path.{_≡_, sym, ap, _∙_}
 use mathlib.Core.Bool.{true, false}
 use mathlib.Core.List.{List, _++_}
-use Prim.Native.Nat.{ℕ, _≤_, _<_}
+use Prim.Native.Nat.{ℕ, _+_, _-_, _≤_, _<_}
+use native.Mathlib.Omega.{arith}
 use lib.Dec.{ltb}
 use lib.ListN.{length, drop}
+use Rattle.records.specs.Records.{startingWith}
 use Rattle.planner.specs.Faults.{orCause}
 use Rattle.planner.specs.Open.{planIn, faultOf, Opens}
 use Rattle.planner.specs.Starts.{needed, startsFault, startsAnswer, startNumbers, startsOut}
+use Rattle.planner.specs.Flow.{flowFault, flowCount, recordBytes, flowAnswer, flowOut}
 use Rattle.planner.specs.CrewCheck.{badLists, crewCheckFault, crewFound, checkedOf, crewCheckAnswer}
 use Rattle.planner.specs.declared.Cause.{Cause}
 use Rattle.planner.specs.declared.Cause.the-variants.{Short, Lists}
@@ -16,7 +19,7 @@ use Rattle.planner.specs.declared.Fault.the-variants.{Fine, Refused}
 use Rattle.planner.specs.declared.Output.the-variants as output
 use Rattle.planner.specs.declared.CrewChecked.the-variants as crew
 use Rattle.planner.proofs.FaultLaws.{cause-before, cause-next, cause-none, short-next, short-none}
-use Rattle.planner.proofs.OutputLaws.{output-refused, output-fine, lent-refused, lent-fine}
+use Rattle.planner.proofs.OutputLaws.{output-refused, output-fine, output-is-fine, lent-refused, lent-fine}
 use Rattle.planner.proofs.StartsLaws.{length-numbers}
 
 -- ---- Starts
@@ -80,3 +83,17 @@ module _ (s starts worked : List ℕ) where
 
   pub crew-looks : Opens s → badLists (planIn s .count) starts worked ≡ false → crewCheckAnswer s starts worked ≡ crew.Found (crewFound s starts worked)
   crew-looks o e = by-fault (cause-none (faultOf s) (badLists (planIn s .count) starts worked) (Lists (planIn s .count)) o e)
+
+-- ---- Flow
+
+-- where it answers with a count, so many records stand at the front, and the rest is as it was
+pub flow-left : (s : List ℕ) (k : ℕ) (out : List ℕ) (n : ℕ) → flowAnswer s (k + 1) (length out) ≡ output.Written n
+    → (flowFault s (k + 1) (length out) ≡ Fine) × (n ≡ flowCount (planIn s) k) × (flowOut s (k + 1) out ≡ startingWith (recordBytes (planIn s) k) out)
+unfolding flowOut
+flow-left s k out n e =
+    let w = output-is-fine (flowFault s (k + 1) (length out)) n (flowCount (planIn s) (k + 1 - 1)) e in
+    let same : k + 1 - 1 ≡ k = omega arith in (
+      w .0,
+      sym (w .1) ∙ ap (λ (x : ℕ). flowCount (planIn s) x) same,
+      lent-fine (flowFault s (k + 1) (length out)) (recordBytes (planIn s) (k + 1 - 1)) out (w .0) ∙ ap (λ (x : ℕ). startingWith (recordBytes (planIn s) x) out) same,
+    )

@@ -30,6 +30,7 @@ use Rattle.planner.specs.declared.Fault.{Fault}
 use Rattle.planner.specs.declared.Fault.the-variants.{Fine, Refused}
 use Rattle.planner.proofs.FaultLaws.{cause-before, Every}
 use Rattle.planner.proofs.OpenLaws.{every-open, unread-number}
+use Rattle.planner.proofs.SheetFaults.{flow-before}
 use Rattle.promises.specs.Ours.{ours}
 use Rattle.promises.specs.Paper.{EveryGives, SomeGives, Circles}
 use Rattle.promises.proofs.CircleFaults.{job-circle-means, plan-circle-means, means-job-circle, means-plan-circle}
@@ -37,10 +38,6 @@ use Rattle.promises.proofs.CircleFaults.{job-circle-means, plan-circle-
 -- ---- a fault of the file is every operation's
 
 module _ (s : List ℕ) (c : Cause) (e : faultOf s ≡ Refused c) where
-  flow-before : (kind n : ℕ) → flowFault s kind n ≡ Refused c
-  unfolding flowFault
-  flow-before kind n = cause-before _ _ _ c (cause-before _ _ _ c (cause-before _ _ _ c e))
-
   outputs : (f : Fault) (v : ℕ) → f ≡ Refused c → outputNumbers (outputOf f v) ≡ numbersOf c
   outputs f v p = ap (λ (x : Fault). outputNumbers (outputOf x v)) p
 
@@ -52,7 +49,7 @@ module _ (s : List ℕ) (c : Cause) (e : faultOf s ≡ Refused c) where
         needs = λ n. outputs (needsFault s n) (planIn s .kinds) (cause-before _ _ _ c e);
         starts = λ n. outputs (startsFault s n) (needed s) (cause-before _ _ _ c e);
         overload = λ n. outputs (overloadFault s n) (overCount (planIn s)) (cause-before _ _ _ c e);
-        flow = λ kind n. outputs (flowFault s kind n) (flowCount (planIn s) (kind - 1)) (flow-before kind n);
+        flow = λ kind n. outputs (flowFault s kind n) (flowCount (planIn s) (kind - 1)) (flow-before s c kind n e);
         crew-check = λ starts worked. ap (λ (x : Fault). crewCheckNumbers (checkedOf x (crewFound s starts worked))) (cause-before _ _ _ c e);
       }
 

@@ -1,5 +1,5 @@
 -- "plans with the same activities, crew, set of job arcs and set of extra arcs get equal flows" (01, Flow): they are read as one and the same plan, and Flow goes by
--- that alone. Assumes nothing.
+-- that alone, and so does Sheet. Assumes nothing.
 use mathlib.Core.Path.{_≡_, sym, _∙_}
 use mathlib.Core.List.{List}
 use Prim.Native.Nat.{ℕ}
@@ -9,7 +9,9 @@ use Rattle.plan.specs.Causes.{answerOf}
 use Rattle.plan.proofs.Refusals.{readable-is}
 use Rattle.plan.proofs.Said.{plan-same}
 use Rattle.planner.specs.Open.{planIn, readFault, faultOf}
+use Rattle.planner.specs.Starts.{startNumbers}
 use Rattle.planner.specs.Flow.{flowFault, flowAnswer, flowOut}
+use Rattle.planner.specs.Sheet.{sheetFault, sheetAnswer, sheetOut}
 use Rattle.planner.proofs.OpenLaws.{plan-in}
 use Rattle.promises.specs.Same.{SamePlan}
 
@@ -27,3 +29,8 @@ module _ (s t : List ℕ) (e : Readable s) (f : Readable t) (same : SamePlan s t
       → (flowAnswer s kind (length out) ≡ flowAnswer t kind (length out)) × (flowOut s kind out ≡ flowOut t kind out)
   unfolding flowOut flowFault faultOf readFault
   equal-flows kind out = (rw (answers, plans), rw (answers, plans))
+
+  pub equal-sheets : (kind page : ℕ) (out : List ℕ)
+      → (sheetAnswer s kind page (length out) ≡ sheetAnswer t kind page (length out)) × (sheetOut s kind page out ≡ sheetOut t kind page out)
+  unfolding sheetOut sheetFault faultOf readFault startNumbers
+  equal-sheets kind page out = (rw (answers, plans), rw (answers, plans))

@@ -3,7 +3,7 @@ use mathlib.Core.Path.{_≡_, refl}
 use mathlib.Core.Bool.{Bool}
 use mathlib.Core.List.{List, [], _∷_, _++_}
 use mathlib.Core.Logic.{_⊎_, inl, inr}
-use Prim.Native.Nat.{ℕ, _+_, _-_}
+use Prim.Native.Nat.{ℕ, _-_}
 use lib.Dec.{ltb}
 use lib.ListN.{length}
 use Rattle.plan.specs.declared.Cause.{Cause as Unread}
@@ -17,7 +17,8 @@ use Rattle.planner.specs.Verdict.{verdictFault, verdictOf}
 use Rattle.planner.specs.Needs.{needsFault, needNumbers, needsOut}
 use Rattle.planner.specs.Starts.{needed, startsFault, startNumbers, startsOut}
 use Rattle.planner.specs.Overload.{overloadFault, overCount, overBytes, overloadOut}
-use Rattle.planner.specs.Flow.{flowFault, flowCount, recordBytes, flowOut}
+use Rattle.planner.specs.Flow.{kindFault, flowFault, flowCount, recordBytes, flowOut}
+use Rattle.planner.specs.File.{flowLength}
 use Rattle.planner.specs.CrewCheck.{badLists, crewCheckFault, crewFound, checkedOf}
 use Rattle.planner.specs.declared.Cause.{Cause}
 use Rattle.planner.specs.declared.Cause.the-variants.{Unreadable, Short, Lists}
@@ -40,19 +41,19 @@ one-more [] ys n h = absurd h
 one-more (x ∷ xs) ys n (inl e) = inl e
 one-more (x ∷ xs) ys n (inr h) = inr (one-more xs ys n h)
 
-one-last : (xs : List ℕ) (n : ℕ) → OneOf (xs ++ n ∷ []) n
+pub one-last : (xs : List ℕ) (n : ℕ) → OneOf (xs ++ n ∷ []) n
 one-last [] n = inl refl
 one-last (x ∷ xs) n = inr (one-last xs n)
 
 -- ---- a fault has one of these numbers
 
-abbrev Only : List ℕ → Fault → Type 0
+abbrev pub Only : List ℕ → Fault → Type 0
 Only xs f = Every (λ (c : Cause). OneOf xs (causeNumber c)) f
 
-only-cause : (xs : List ℕ) (f : Fault) (b : Bool) (d : Cause) → Only xs f → OneOf xs (causeNumber d) → Only xs (orCause f b d)
+pub only-cause : (xs : List ℕ) (f : Fault) (b : Bool) (d : Cause) → Only xs f → OneOf xs (causeNumber d) → Only xs (orCause f b d)
 only-cause xs f b d h o = every-turn (λ (c : Cause). OneOf xs (causeNumber c)) f b d h (λ _ _. o)
 
-only-more : (xs ys : List ℕ) (f : Fault) → Only xs f → Only (xs ++ ys) f
+pub only-more : (xs ys : List ℕ) (f : Fault) → Only xs f → Only (xs ++ ys) f
 only-more xs ys f h c e = one-more xs ys (causeNumber c) (h c e)
 
 -- ---- the causes 1 to 6
@@ -70,7 +71,7 @@ then-only s b d = only-cause (opening ++ causeNumber d ∷ []) (faultOf s) b d (
 
 -- ---- the answers
 
-output-by : (xs : List ℕ) (f : Fault) (v : ℕ) → Only xs f
+pub output-by : (xs : List ℕ) (f : Fault) (v : ℕ) → Only xs f
     → ((r : ℕ) × (outputOf f v ≡ output.Written r)) ⊎ ((c : Cause) × (outputOf f v ≡ output.Refused c) × OneOf xs (causeNumber c))
 output-by xs Fine v h = inl (v, refl)
 output-by xs (Refused c) v h = inr (c, refl, h c refl)
@@ -85,7 +86,7 @@ checked-by : (xs : List ℕ) (f : Fault) (x : Checked) → Only xs f
 checked-by xs Fine x h = inl (x, refl)
 checked-by xs (Refused c) x h = inr (c, refl, h c refl)
 
-kept : (f : Fault) (v : ℕ) (written out : List ℕ) (c : Cause) → outputOf f v ≡ output.Refused c → lentAfter f written out ≡ out
+pub kept : (f : Fault) (v : ℕ) (written out : List ℕ) (c : Cause) → outputOf f v ≡ output.Refused c → lentAfter f written out ≡ out
 kept f v written out c e = lent-refused f c written out (output-is-refused f v c e)
 
 -- ---- the faults of the operations
@@ -106,9 +107,10 @@ overload-only : (s : List ℕ) (n : ℕ) → Only (opening ++ 9 ∷ []) (overloa
 unfolding overloadFault
 overload-only s n = then-only s (ltb n 24) (Short 24)
 
-flow-only : (s : List ℕ) (kind n : ℕ) → Only (opening ++ 8 ∷ 9 ∷ 7 ∷ []) (flowFault s kind n)
-unfolding flowFault overCause
-flow-only s kind n =
+-- of an operation on one kind, however much it needs
+pub kind-only : (s : List ℕ) (kind n needed : ℕ) → Only (opening ++ 8 ∷ 9 ∷ 7 ∷ []) (kindFault s kind n needed)
+unfolding overCause
+kind-only s kind n needed =
     let L = opening ++ 8 ∷ 9 ∷ 7 ∷ [] in
     only-cause L _ _ _
     (only-cause L _ _ _
@@ -116,6 +118,10 @@ flow-only s kind n =
     (inr (inr (inr (inr (inr (inr (inl refl))))))))
     (inr (inr (inr (inr (inr (inr (inr (inl refl)))))))))
     (inr (inr (inr (inr (inr (inr (inr (inr (inl refl)))))))))
+
+flow-only : (s : List ℕ) (kind n : ℕ) → Only (opening ++ 8 ∷ 9 ∷ 7 ∷ []) (flowFault s kind n)
+unfolding flowFault
+flow-only s kind n = kind-only s kind n (flowLength (planIn s .count))
 
 crew-only : (s starts worked : List ℕ) → Only (opening ++ 10 ∷ []) (crewCheckFault s starts worked)
 unfolding crewCheckFault

@@ -3,7 +3,8 @@
 -- OURS KEEPS THE THREE DEMANDS is DemandsHold. Demand 1 is EveryInputHolds and RefusalsHold. Demand 2 is PaperHolds; it rests on CircleCauses (causes 5 and 6), EarliestStarts (starts) and
 -- CrewCheckAnswers (crew check). Demand 3, THE PRICE-LIST SENTENCE, is PriceListHolds; it rests on FileNeeds (needs, sets and crews, in the
 -- file's own terms), FileFlows (flows) and OverloadShown (overload).
--- EqualFlowsHold: plans that say the same get equal flows. CasesHold: the starred cases, of the plans that CasePlans opens. HollowFail: the hollow planners keep no price list.
+-- CHANGE 1 of document 02, Sheet, is SheetHolds; it rests on SheetAnswers (what Sheet answers and leaves) and SheetPrinted (what is on the page).
+-- EqualFlowsHold: plans that say the same get equal flows and sheets. CasesHold: the starred cases, of the plans that CasePlans opens. HollowFail: the hollow planners keep no price list.
 -- What the other answers mean, in the file's own terms: CircleFaults (causes 1 to 6), CrewCheckMeaning (the crew check), AnswersWhen (which case has which answer).
 pub mod FileNeeds
 pub mod FileFlows
@@ -20,6 +21,9 @@ pub mod CircleCauses
 pub mod PaperHolds
 pub mod RefusalsHold
 pub mod DemandsHold
+pub mod SheetAnswers
+pub mod SheetPrinted
+pub mod SheetHolds
 pub mod CasePlans
 pub mod CasesHold
 pub mod HollowFail

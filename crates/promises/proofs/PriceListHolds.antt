@@ -5,16 +5,15 @@ use mathlib.Core.List.{List, [], _∷_, _++_}
 use mathlib.Core.Logic.{_↔_, _⊎_, inl, inr}
 use Prim.Native.Nat.{ℕ, _+_, _-_, _^_, _≤_, _<_}
 use native.Mathlib.Omega.{arith}
-use lib.Dec.{ltb, leb}
+use lib.Dec.{ltb}
 use lib.ListN.{length, drop}
-use borrow.Author.Tests.{lt-ltb, le-leb, leb-true}
 use Rattle.words.specs.Bits.{bit}
 use Rattle.words.specs.Members.{count}
-use Rattle.words.proofs.Tests.{by-test, cond-true, and-right, and-both}
+use Rattle.words.proofs.Tests.{by-test, cond-true}
 use Rattle.order.specs.Stored.{elements, numberOf}
 use Rattle.order.specs.Sets.{sizeOf}
 use Rattle.records.specs.Bytes.{AreBytes, byte, field}
-use Rattle.records.specs.Records.{overloadRecord}
+use Rattle.records.specs.Records.{overloadRecord, startingWith}
 use Rattle.records.proofs.Records.{overload-read}
 use Rattle.plan.specs.Meaning.{Readable, fileKinds, fileAvailable}
 use Rattle.plan.specs.Records.{activityCount}
@@ -46,7 +45,9 @@ use Rattle.planner.proofs.QuotedNeeds.{count-in, kinds-in, quotable, need-quote
 use Rattle.promises.proofs.FileNeeds.{need-some, need-every, crew-none, crew-some}
 use Rattle.planner.proofs.FlowUnits.{flow-said}
 use Rattle.promises.proofs.FileFlows.{file-flow, file-unused}
-use Rattle.planner.proofs.FlowLaws.{flow-fine, fine-flow, not-over}
+use Rattle.planner.proofs.FlowLaws.{kind-within, flow-fine, fine-flow, not-over}
+use Rattle.planner.proofs.SheetFaults.{is-kind}
+use Rattle.promises.proofs.AnswersWhen.{flow-left}
 use Rattle.promises.proofs.OverloadShown.{few, needs-answers, need-written, quoted-is, over-when, over-kind, over-below, shown, enough-not}
 
 -- ---- answers and causes
@@ -189,42 +190,29 @@ module _ (s : List ℕ) (small : AreBytes s) (o : Opens s) where
       go (inr (inl e)) = absurd (let z : _≡_ {A = ℕ} 9 7 = cc in omega arith)
       go (inr (inr w)) = seven-shown c kind need set size (w .0) (w .1) i
 
-  -- a kind of the file, as Flow is asked for it
-  is-kind : (k : ℕ) → k < fileKinds s → isKind (k + 1) (planIn s .kinds) ≡ true
-  is-kind k h =
-      and-both (ltb 0 (k + 1)) (leb (k + 1) (planIn s .kinds)) (lt-ltb 0 (k + 1) (omega arith))
-      (le-leb (k + 1) (planIn s .kinds) (omega (arith, h, kinds-in s readable)))
-
   flows : Enough ours s → (k : ℕ) → k < fileKinds s → (out : List ℕ) → flowLength (activityCount s) ≤ length out
       → (n : ℕ) × (flowAnswer s (k + 1) (length out) ≡ output.Written n)
   flows en k h out l =
       let room : flowLength (planIn s .count) ≤ length out = rw (count-in s readable) l in
-      let f = fine-flow s (k + 1) (length out) o (is-kind k h) room (enough-not s small o en) in
+      let there = is-kind (k + 1) (planIn s .kinds) (omega arith) (omega (arith, h, kinds-in s readable)) in
+      let f = fine-flow s (k + 1) (length out) o there room (enough-not s small o en) in
       (flowCount (planIn s) (k + 1 - 1), output-fine (flowFault s (k + 1) (length out)) (flowCount (planIn s) (k + 1 - 1)) f)
 
   module _ (k : ℕ) (out : List ℕ) (n : ℕ) (e : flowAnswer s (k + 1) (length out) ≡ output.Written n) where
-    answered : (flowFault s (k + 1) (length out) ≡ fault.Fine) × (flowCount (planIn s) (k + 1 - 1) ≡ n)
-    answered = output-is-fine (flowFault s (k + 1) (length out)) n (flowCount (planIn s) (k + 1 - 1)) e
+    left : (flowFault s (k + 1) (length out) ≡ fault.Fine) × (n ≡ flowCount (planIn s) k) × (flowOut s (k + 1) out ≡ startingWith (recordBytes (planIn s) k) out)
+    left = flow-left s k out n e
 
     went : Opens s × (isKind (k + 1) (planIn s .kinds) ≡ true) × (flowLength (planIn s .count) ≤ length out) × (isOverloaded (planIn s) ≡ false)
-    went = flow-fine s (k + 1) (length out) (ap isFine (answered .0))
+    went = flow-fine s (k + 1) (length out) (ap isFine (left .0))
 
     kind-there : k < fileKinds s
-    kind-there =
-        let l = leb-true (k + 1) (planIn s .kinds) (and-right (ltb 0 (k + 1)) (leb (k + 1) (planIn s .kinds)) (went .1)) in
-        omega (arith, l, kinds-in s readable)
-
-    same : k + 1 - 1 ≡ k
-    same = omega arith
+    kind-there = omega (arith, kind-within (k + 1) (planIn s .kinds) (went .1) .1, kinds-in s readable)
 
     -- the records, read back
     units-said : (u v : ℕ) → unitsRead n (flowOut s (k + 1) out) u v ≡ flowUnits (planIn s) k u v
-    unfolding flowOut
     units-said u v =
-        ap (λ (x : ℕ). unitsRead x (flowOut s (k + 1) out) u v) (sym (answered .1))
-        ∙ ap (λ (l : List ℕ). unitsRead (flowCount (planIn s) (k + 1 - 1)) l u v)
-        (lent-fine (flowFault s (k + 1) (length out)) (recordBytes (planIn s) (k + 1 - 1)) out (answered .0))
-        ∙ ap (λ (x : ℕ). unitsRead (flowCount (planIn s) x) (recordBytes (planIn s) x ++ drop (length (recordBytes (planIn s) x)) out) u v) same
+        ap (λ (x : ℕ). unitsRead x (flowOut s (k + 1) out) u v) (left .1)
+        ∙ ap (λ (l : List ℕ). unitsRead (flowCount (planIn s) k) l u v) (left .2)
         ∙ flow-said s small o k (few s small o kind-there .1) (drop (length (recordBytes (planIn s) k)) out) u v
 
     meets : FileFlow s k (unitsRead n (flowOut s (k + 1) out))

@@ -1,36 +1,33 @@
 -- Which answer when: ours. Assumes nothing.
 use mathlib.Core.Path.{_≡_, refl, sym, ap, _∙_}
-use mathlib.Core.Bool.{Bool, true, false, not, cond}
+use mathlib.Core.Bool.{Bool, true, cond}
 use mathlib.Core.List.{List, [], _∷_}
-use Prim.Native.Nat.{ℕ, _+_, _-_, _≤_, _<_}
+use Prim.Native.Nat.{ℕ, _+_, _-_, _≤_}
 use native.Mathlib.Omega.{arith}
-use lib.Dec.{ltb, leb}
-use borrow.Author.Tests.{lt-ltb, le-leb, leb-true, ltb-true}
-use Rattle.words.proofs.Tests.{and-left, and-right, and-both, fails, not-of-false}
 use Rattle.records.specs.Bytes.{AreBytes}
 use Rattle.plan.specs.Meaning.{Readable, fileKinds}
 use Rattle.plan.specs.Records.{activityCount}
 use Rattle.plan.specs.declared.Cause.{Cause as Unread}
 use Rattle.plan.specs.declared.Answer.the-variants as answer
-use Rattle.planner.specs.Faults.{isFine, orCause, orShort}
 use Rattle.planner.specs.Open.{planIn, faultOf, Opens}
 use Rattle.planner.specs.Numbers.{numbersOf}
 use Rattle.planner.specs.Answers.{verdictNumbers, outputNumbers}
 use Rattle.planner.specs.Output.{outputOf}
 use Rattle.planner.specs.Need.{isOverloaded, overCause}
-use Rattle.planner.specs.Verdict.{verdictFault, verdictOf}
+use Rattle.planner.specs.Verdict.{verdictFault, verdictOf, verdictAnswer}
 use Rattle.planner.specs.Needs.{needsFault}
 use Rattle.planner.specs.Starts.{needed, startsFault}
 use Rattle.planner.specs.Overload.{overloadFault, overCount}
-use Rattle.planner.specs.Flow.{isKind, flowFault, flowCount}
+use Rattle.planner.specs.Flow.{isKind, kindFault, flowFault, flowCount, flowAnswer}
 use Rattle.planner.specs.File.{flowLength}
 use Rattle.planner.specs.declared.Cause.{Cause}
 use Rattle.planner.specs.declared.Cause.the-variants.{Unreadable, NoKind, Short}
 use Rattle.planner.specs.declared.Fault.{Fault}
 use Rattle.planner.specs.declared.Fault.the-variants.{Fine, Refused}
-use Rattle.planner.proofs.FaultLaws.{cause-before, cause-next, cause-none, short-next, short-none, Every}
+use Rattle.planner.proofs.FaultLaws.{cause-next, short-next, short-none, Every}
 use Rattle.planner.proofs.OpenLaws.{opens-readable, every-open}
 use Rattle.planner.proofs.QuotedNeeds.{count-in, kinds-in}
+use Rattle.planner.proofs.SheetFaults.{is-kind, not-kind, kind-none, kind-short, kind-over}
 use Rattle.promises.specs.Ours.{ours}
 use Rattle.promises.specs.PriceList.{Exceeds, Enough}
 use Rattle.promises.specs.Refusals.{Unreadables, Refusals, RefusalSentence}
@@ -59,13 +56,13 @@ unreadables s =
 
 -- ---- the other causes, of a plan that opens
 
-given : (f : Fault) (v : ℕ) (c : Cause) → f ≡ Refused c → outputNumbers (outputOf f v) ≡ numbersOf c
+pub given : (f : Fault) (v : ℕ) (c : Cause) → f ≡ Refused c → outputNumbers (outputOf f v) ≡ numbersOf c
 given f v c e = ap (λ (x : Fault). outputNumbers (outputOf x v)) e
 
 done : (f : Fault) (v : ℕ) → f ≡ Fine → outputNumbers (outputOf f v) ≡ 0 ∷ v ∷ []
 done f v e = ap (λ (x : Fault). outputNumbers (outputOf x v)) e
 
-two : (x : ℕ) {a b : ℕ} → a ≡ b → _≡_ {A = List ℕ} (x ∷ a ∷ []) (x ∷ b ∷ [])
+pub two : (x : ℕ) {a b : ℕ} → a ≡ b → _≡_ {A = List ℕ} (x ∷ a ∷ []) (x ∷ b ∷ [])
 two x e = ap (λ (y : ℕ). x ∷ y ∷ []) e
 
 module _ (s : List ℕ) (small : AreBytes s) (o : Opens s) where
@@ -88,22 +85,21 @@ module _ (s : List ℕ) (small : AreBytes s) (o : Opens s) where
 
   -- ---- Flow
 
-  module _ (kind : ℕ) where
-    no-kind : ((1 ≤ kind) × (kind ≤ fileKinds s) → ⊥) → not (isKind kind (planIn s .kinds)) ≡ true
-    no-kind never =
-        not-of-false (isKind kind (planIn s .kinds))
-        (fails (isKind kind (planIn s .kinds))
-        (λ e. never (
-          omega (arith, ltb-true 0 kind (and-left (ltb 0 kind) (leb kind (planIn s .kinds)) e)),
-          omega (arith, leb-true kind (planIn s .kinds) (and-right (ltb 0 kind) (leb kind (planIn s .kinds)) e), K),
-        )))
+  pub there : (kind : ℕ) → 1 ≤ kind → kind ≤ fileKinds s → isKind kind (planIn s .kinds) ≡ true
+  there kind p q = is-kind kind (planIn s .kinds) p (omega (arith, q, K))
 
-    a-kind : 1 ≤ kind → kind ≤ fileKinds s → not (isKind kind (planIn s .kinds)) ≡ false
-    a-kind p q =
-        ap not (and-both (ltb 0 kind) (leb kind (planIn s .kinds)) (lt-ltb 0 kind p) (le-leb kind (planIn s .kinds) (omega (arith, q, K))))
+  -- 8, 9 and 7 in their turn
+  flow-gives : (kind n : ℕ) (c : Cause) → kindFault s kind n (flowLength (planIn s .count)) ≡ Refused c → outputNumbers (flowAnswer s kind n) ≡ numbersOf c
+  unfolding flowFault
+  flow-gives kind n c e = given (flowFault s kind n) (flowCount (planIn s) (kind - 1)) c e
+
+  -- Verdict's 7
+  pub seven : isOverloaded (planIn s) ≡ true → verdictNumbers (verdictAnswer s) ≡ numbersOf (overCause (planIn s))
+  unfolding verdictFault
+  seven t = ap (λ (f : Fault). verdictNumbers (verdictOf f (planIn s .count) (planIn s .kinds))) (cause-next (faultOf s) (isOverloaded (planIn s)) (overCause (planIn s)) o t)
 
   pub refusals-open : Refusals ours s
-  unfolding needsFault startsFault overloadFault flowFault verdictFault
+  unfolding needsFault startsFault overloadFault
   refusals-open =
       record {
         needs-short = λ n h.
@@ -116,33 +112,14 @@ module _ (s : List ℕ) (small : AreBytes s) (o : Opens s) where
         overload = λ n h k x. done (overloadFault s n) (overCount (planIn s)) (short-none (faultOf s) n 24 o h) ∙ two 0 (overloads k x);
         overload-none = λ n h en. done (overloadFault s n) (overCount (planIn s)) (short-none (faultOf s) n 24 o h) ∙ two 0 (overloads-none en);
         flow-no-kind = λ kind n never.
-            let q = planIn s in
-            let C = NoKind (q .kinds) in
-            given (flowFault s kind n) (flowCount q (kind - 1)) C
-            (cause-before _ _ _ C
-            (cause-before _ _ _ C
-            (cause-next (faultOf s) (not (isKind kind (q .kinds))) C o (no-kind kind never))))
+            flow-gives kind n (NoKind (planIn s .kinds))
+            (kind-none s kind n (flowLength (planIn s .count)) o (not-kind kind (planIn s .kinds) (λ w. never (w .0, omega (arith, w .1, K)))))
             ∙ two 8 K;
         flow-short = λ kind n p r h.
-            let q = planIn s in
-            let C = Short (flowLength (q .count)) in
-            let l : n < flowLength (q .count) = rw m h in
-            given (flowFault s kind n) (flowCount q (kind - 1)) C
-            (cause-before _ _ _ C
-            (short-next (orCause (faultOf s) (not (isKind kind (q .kinds))) (NoKind (q .kinds))) n (flowLength (q .count))
-            (ap isFine (cause-none (faultOf s) (not (isKind kind (q .kinds))) (NoKind (q .kinds)) o (a-kind kind p r))) l))
-            ∙ two 9 (ap flowLength m);
+            flow-gives kind n (Short (flowLength (planIn s .count))) (kind-short s kind n (flowLength (planIn s .count)) o (there kind p r) (rw m h)) ∙ two 9 (ap flowLength m);
         flow-overloaded = λ kind n p r h k x.
-            let q = planIn s in
-            let C = overCause q in
-            let l : flowLength (q .count) ≤ n = rw m h in
             let t = over-when s small o k x in
-            let known = orCause (faultOf s) (not (isKind kind (q .kinds))) (NoKind (q .kinds)) in
-            let known-fine = ap isFine (cause-none (faultOf s) (not (isKind kind (q .kinds))) (NoKind (q .kinds)) o (a-kind kind p r)) in
-            let room = orShort known n (flowLength (q .count)) in
-            let room-fine = ap isFine (short-none known n (flowLength (q .count)) known-fine l) in
-            given (flowFault s kind n) (flowCount q (kind - 1)) C (cause-next room (isOverloaded q) C room-fine t)
-            ∙ sym (ap (λ (f : Fault). verdictNumbers (verdictOf f (q .count) (q .kinds))) (cause-next (faultOf s) (isOverloaded q) C o t));
+            flow-gives kind n (overCause (planIn s)) (kind-over s kind n (flowLength (planIn s .count)) o (there kind p r) (rw m h) t) ∙ sym (seven t);
       }
 
 pub refusals : RefusalSentence ours

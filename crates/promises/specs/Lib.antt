@@ -9,6 +9,7 @@ pub mod PriceList
 pub mod Refusals
 pub mod Same
 pub mod Demands
+pub mod Sheet
 pub mod Cases
 pub mod Ours
 pub mod Hollow

@@ -6,7 +6,9 @@ use Rattle.planner.specs.Starts.{startsAnswer, startsOut}
 use Rattle.planner.specs.Overload.{overloadAnswer, overloadOut}
 use Rattle.planner.specs.Flow.{flowAnswer, flowOut}
 use Rattle.planner.specs.CrewCheck.{crewCheckAnswer}
+use Rattle.planner.specs.Sheet.{sheetAnswer, sheetOut}
 use Rattle.promises.specs.Planner.{Planner}
+use Rattle.promises.specs.Sheet.{SheetOperation}
 
 abbrev pub ours : Planner
 ours =
@@ -18,3 +20,7 @@ ours =
       flow = λ kind. record { answer = λ s n. flowAnswer s kind n; left = λ s out. flowOut s kind out };
       crew-check = crewCheckAnswer;
     }
+
+-- and its Sheet (document 02, change 1)
+abbrev pub ourSheet : SheetOperation
+ourSheet kind page = record { answer = λ s n. sheetAnswer s kind page n; left = λ s out. sheetOut s kind page out }

@@ -68,6 +68,14 @@ field-take m l i (suc n) h =
     let f : field (take m l) (i + 1) n ≡ field l (i + 1) n = field-take m l (i + 1) n (omega arith) in
     rw (b, f)
 
+-- it is given by its bytes
+pub field-same : (r s : List ℕ) (i n : ℕ) → ((k : ℕ) → k < n → byte r (i + k) ≡ byte s (i + k)) → field r i n ≡ field s i n
+unfolding field
+field-same r s i zero e = refl
+field-same r s i (suc n) e =
+    let here : i + 0 ≡ i = omega arith in
+    rw (rw here at (e 0 (omega arith)), field-same r s (i + 1) n (λ k h. let on : i + suc k ≡ i + 1 + k = omega arith in rw on at (e (suc k) (omega arith))))
+
 -- the field that the bytes of a number are is the number
 pub field-bytes : (n x : ℕ) (l : List ℕ) → x < 256 ^ n → field (bytes n x ++ l) 0 n ≡ x
 unfolding field bytes

@@ -7,7 +7,7 @@ use native.Mathlib.Numerals.{add-one}
 use lib.ListN.{length, take, drop, length-append}
 use lib.Seq.{take-at, drop-at}
 use Rattle.words.specs.Sums.{sum}
-use Rattle.words.proofs.Sums.{sum-zero, sum-ones, sum-last}
+use Rattle.words.proofs.Sums.{sum-zero, sum-last}
 use Rattle.words.proofs.Tests.{below-suc}
 use Rattle.records.specs.Records.{startingWith, joined}
 use Rattle.records.specs.Bytes.{AreBytes}
@@ -60,17 +60,21 @@ unfolding joined
 joined-below f zero h = λ i. omega arith
 joined-below f (suc n) h = bytes-append (joined f n) (f n) (joined-below f n (λ k l. h k (omega arith))) (h n (omega arith))
 
--- ---- parts of one record
+-- ---- parts of w bytes each
 
-module _ (f : ℕ → List ℕ) (each : (k : ℕ) → length (f k) ≡ 24) where
-  pub length-joined : (n : ℕ) → length (joined f n) ≡ 24 * n
-  length-joined n = omega (arith, joined-length f (λ k. 1) each n, sum-ones n)
+module _ (w : ℕ) (f : ℕ → List ℕ) (each : (k : ℕ) → length (f k) ≡ w) where
+  pub length-joined : (n : ℕ) → length (joined f n) ≡ w * n
+  unfolding joined
+  length-joined zero = omega arith
+  length-joined (suc n) =
+      let e : w * suc n ≡ w * n + w = omega arith in
+      length-append (joined f n) (f n) ∙ omega (arith, length-joined n, each n)
 
-  -- record i is read back, whatever follows
-  pub joined-at : (n : ℕ) (l : List ℕ) (i : ℕ) → i < n → take 24 (drop (24 * i) (joined f n ++ l)) ≡ f i
+  -- part i is read back, whatever follows
+  pub joined-at : (n : ℕ) (l : List ℕ) (i : ℕ) → i < n → take w (drop (w * i) (joined f n ++ l)) ≡ f i
   unfolding joined
   joined-at zero l i h = absurd (omega arith)
   joined-at (suc n) l i h =
       rw append-assoc
-      (below-suc (λ k. take 24 (drop (24 * k) (joined f n ++ (f n ++ l))) ≡ f k) n (λ k less. joined-at n (f n ++ l) k less)
-      (ap (λ t. take 24 t) (drop-at (joined f n) (f n ++ l) (24 * n) (length-joined n)) ∙ take-at (f n) l 24 (each n)) i h)
+      (below-suc (λ k. take w (drop (w * k) (joined f n ++ (f n ++ l))) ≡ f k) n (λ k less. joined-at n (f n ++ l) k less)
+      (ap (λ t. take w t) (drop-at (joined f n) (f n ++ l) (w * n) (length-joined n)) ∙ take-at (f n) l w (each n)) i h)

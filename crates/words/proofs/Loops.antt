@@ -93,8 +93,8 @@ unfolding upto
 upto-cong f g zero s h = refl
 upto-cong f g (suc n) s h = h n (upto f n s) (omega arith) ∙ ap (g n) (upto-cong f g n s (λ k t l. h k t (omega arith)))
 
--- a loop over the members of w is one over all places that does nothing at the others
-fold-append : {S : Type 0} (f : S → ℕ → S) (s : S) (xs ys : List ℕ) → fold f s (xs ++ ys) ≡ fold f (fold f s xs) ys
+-- a loop over one list and then another
+pub fold-append : {S : Type 0} (f : S → ℕ → S) (s : S) (xs ys : List ℕ) → fold f s (xs ++ ys) ≡ fold f (fold f s xs) ys
 fold-append f s [] ys = refl
 fold-append f s (x ∷ xs) ys = fold-append f (f s x) xs ys
 
@@ -102,6 +102,7 @@ fold-only : {S : Type 0} (f : S → ℕ → S) (s : S) (b : Bool) (x : ℕ) → 
 fold-only f s true x = refl
 fold-only f s false x = refl
 
+-- a loop over the members of w is one over all places that does nothing at the others
 pub each-upto : {S : Type 0} (k : ℕ) (f : S → ℕ → S) (s : S) (w : ℕ) → each k f s w ≡ upto (λ i t. cond (bit w i) (f t i) t) k s
 unfolding each upto members
 each-upto zero f s w = refl

@@ -1,6 +1,6 @@
 -- Every answer's code is a number of 64 bits, and so is the set that Verdict shows: of every plan's bytes, and whatever is lent. Assumes nothing.
 --
---   verdict-small, needs-small, starts-small, overload-small, flow-small, crew-small    the six operations
+--   verdict-small, needs-small, starts-small, overload-small, flow-small, sheet-small, crew-small    the operations
 use mathlib.Core.Path.{_≡_, refl, sym, subst}
 use mathlib.Core.Bool.{true, cond}
 use mathlib.Core.List.{List}
@@ -31,18 +31,19 @@ use Rattle.planner.specs.Verdict.{verdictFault, verdictOf, verdictAnswer}
 use Rattle.planner.specs.Needs.{needsFault, needsAnswer}
 use Rattle.planner.specs.Starts.{needed, startsFault, startsAnswer}
 use Rattle.planner.specs.Flow.{flowFault, flowCount, flowAnswer}
+use Rattle.planner.specs.Sheet.{sheetPages, sheetFault, sheetAnswer}
 use Rattle.planner.specs.Overload.{overloadFault, overCount, overloadAnswer}
 use Rattle.planner.specs.CrewCheck.{crewCheckFault, crewWork, crewFound, checkedOf, crewCheckAnswer}
 use Rattle.planner.specs.declared.Fault.{Fault}
 use Rattle.planner.specs.declared.Output.{Output}
 use Rattle.planner.specs.declared.Refusal.{Refusal}
 use Rattle.planner.specs.declared.Fault.the-variants.{Fine, Refused}
-use Rattle.planner.proofs.OpenLaws.{count-few, count-within}
+use Rattle.planner.proofs.OpenLaws.{count-few}
 use Rattle.planner.proofs.QuotedNeeds.{kinds-few}
-use Rattle.planner.proofs.FlowUnits.{count-room, length-few}
-use Rattle.planner.proofs.FlowLaws.{kind-within, flow-fine, not-over}
+use Rattle.planner.proofs.FlowLaws.{flow-few}
+use Rattle.planner.proofs.SheetLaws.{sheet-few}
 use Rattle.planner.proofs.CrewCheckLaws.{crew-fine}
-use Rattle.planner.proofs.RefusalBounds.{Small, SmallFault, verdict-refuses, needs-refuses, starts-refuses, overload-refuses, flow-refuses, crew-refuses}
+use Rattle.planner.proofs.RefusalBounds.{Small, SmallFault, verdict-refuses, needs-refuses, starts-refuses, overload-refuses, flow-refuses, sheet-refuses, crew-refuses}
 use Rattle.yaffledesk.specs.Codes.{refusalCode, verdictCode, outputCode, foundCode, crewCheckCode, shownWord}
 
 -- ---- a refusal, by what it tells: a set has at most all members
@@ -68,7 +69,7 @@ shown-by (Refused c) m n small = small c refl .members
 pub shown-small : (s : List ℕ) → AreBytes s → shownWord (verdictAnswer s) < 2 ^ activities
 shown-small s small = shown-by (verdictFault s) (planIn s .count) (planIn s .kinds) (verdict-refuses s small)
 
--- ---- Needs, Starts, Overload, Flow
+-- ---- Needs, Starts, Overload, Flow, Sheet
 
 output-small : (f : Fault) (n : ℕ) → SmallFault f → (isFine f ≡ true → n ≤ 1048576) → outputCode (outputOf f n) < 2 ^ 64
 unfolding outputCode
@@ -88,16 +89,11 @@ overload-small s n =
 
 pub flow-small : (s : List ℕ) → AreBytes s → (kind n : ℕ) → outputCode (flowAnswer s kind n) < 2 ^ 64
 flow-small s small kind n =
-    output-small (flowFault s kind n) (flowCount (planIn s) (kind - 1)) (flow-refuses s small kind n)
-    (λ e.
-    let w = flow-fine s kind n e in
-    let k = kind-within kind (planIn s .kinds) (w .1) in
-    let h : kind - 1 < planIn s .kinds = omega (arith, k .0, k .1) in
-    omega (
-      arith,
-      length-few (planIn s .count) (count-within s),
-      count-room s small (w .0) (kind - 1) (omega (arith, kinds-few s)) (not-over s (w .3) (kind - 1) h),
-    ))
+    output-small (flowFault s kind n) (flowCount (planIn s) (kind - 1)) (flow-refuses s small kind n) (λ e. omega (arith, flow-few s small kind n e))
+
+pub sheet-small : (s : List ℕ) → AreBytes s → (kind page n : ℕ) → outputCode (sheetAnswer s kind page n) < 2 ^ 64
+sheet-small s small kind page n =
+    output-small (sheetFault s kind page n) (sheetPages s kind) (sheet-refuses s small kind page n) (λ e. omega (arith, sheet-few s small kind page n e))
 
 -- ---- Crew check
 

@@ -17,7 +17,7 @@ use Rattle.planner.specs.declared.CrewChecked.the-variants as crew
 abbrev pub packed : ℕ → ℕ → ℕ
 packed number rest = number + 256 * rest
 
--- A refusal, whatever its cause: first + 256 * second + 2^40 * size of the set. What a cause does not return is 0; so 1 has 0 above it, 2 to 6 and 8 to 10 have their
+-- A refusal, whatever its cause: first + 256 * second + 2^40 * size of the set. What a cause does not return is 0; so 1 has 0 above it, 2 to 6 and 8 to 11 have their
 -- one value (`plain-code` of proofs/Numbers.antt), and 7 has kind + 256 * need + 2^40 * size.
 abbrev pub refusalCode : Refusal → ℕ
 refusalCode r = packed (r .number) (r .first + 256 * r .second + 1099511627776 * sizeOf (r .set))
@@ -30,7 +30,7 @@ abbrev pub verdictCode : Decision → ℕ
 verdictCode (verdict.Accepted m n) = packed 0 (m + 256 * n)
 verdictCode (verdict.Refused c) = causeCode c
 
--- so many numbers or records are written
+-- so many numbers or records are written, or pages there are
 unfoldable pub outputCode : Output → ℕ
 outputCode (output.Written n) = packed 0 n
 outputCode (output.Refused c) = causeCode c

@@ -6,6 +6,7 @@ ghost use Rattle.planner.specs.Verdict.{verdictAnswer};
 ghost use Rattle.planner.specs.Needs.{needsAnswer, needsOut};
 ghost use Rattle.planner.specs.Starts.{startsAnswer, startsOut};
 ghost use Rattle.planner.specs.Flow.{flowAnswer, flowOut};
+ghost use Rattle.planner.specs.Sheet.{sheetAnswer, sheetOut};
 ghost use Rattle.planner.specs.Overload.{overloadAnswer, overloadOut};
 ghost use Rattle.planner.specs.CrewCheck.{crewCheckAnswer};
 ghost use Rattle.yaffledesk.specs.Codes.{verdictCode, outputCode, crewCheckCode, shownWord};
@@ -57,6 +58,15 @@ pub extern "C" fn yaffledesk_flow(plan: &[u8], kind: u64, out: &mut [u8]) -> u64
     ensures { λ _. ⌜ now (out .exit) ≡ flowOut (now (plan .entry)) kind (now (out .entry)) ⌝ }
 {
     output_code(planner::flow(plan, kind as usize, out))
+}
+
+// A page of the sheet of a kind: how many pages there are, where it is written to the front of `out`.
+#[no_mangle]
+pub extern "C" fn yaffledesk_sheet(plan: &[u8], kind: u64, page: u64, out: &mut [u8]) -> u64
+    ensures { λ r. ⌜ r ≡ outputCode (sheetAnswer (now (plan .entry)) kind page (length (now (out .entry)))) ⌝ }
+    ensures { λ _. ⌜ now (out .exit) ≡ sheetOut (now (plan .entry)) kind page (now (out .entry)) ⌝ }
+{
+    output_code(planner::sheet(plan, kind as usize, page as usize, out))
 }
 
 // Overload: 1 where its record is written to the front of `out`, 0 where the plan is accepted.

@@ -31,9 +31,9 @@ pub fn overloaded(kind: u64, need: u64, size: u64) -> u64 {
 }
 
 /// What an operation must return and leave in the lent memory.
-struct Due<T> {
-    answer: u64,
-    after: Vec<T>,
+pub struct Due<T> {
+    pub answer: u64,
+    pub after: Vec<T>,
 }
 
 impl Bench {
@@ -58,6 +58,7 @@ impl Bench {
                 self.flow(case, kind, length);
             }
         }
+        self.sheets(case);
         for _ in 0..3 {
             let (starts, durations) = crew::lists(&mut self.random, case);
             self.crew_check(case, &starts, &durations);
@@ -65,7 +66,7 @@ impl Bench {
     }
 
     /// The length needed, and another one. A refused plan needs none, so any two will do.
-    fn lengths(&mut self, case: &Case, needed: impl FnOnce(&Facts) -> usize) -> [usize; 2] {
+    pub fn lengths(&mut self, case: &Case, needed: impl FnOnce(&Facts) -> usize) -> [usize; 2] {
         match &case.facts {
             Err(_) => [self.random.index(100), self.random.index(4)],
             Ok(facts) => {
@@ -77,9 +78,9 @@ impl Bench {
         }
     }
 
-    /// The kinds to ask a flow of: all of the plan, and one that is none of them. Some of those
+    /// The kinds to ask a flow or a sheet of: all of the plan, and one that is none of them. Some of those
     /// would become 1 if only their low bits were looked at.
-    fn kinds(&mut self, case: &Case) -> Vec<u64> {
+    pub fn kinds(&mut self, case: &Case) -> Vec<u64> {
         let most = case.facts.as_ref().map_or(1, |facts| facts.plan.kinds as u64);
         let none = self.random.pick(&[0, most + 1, 9, 256, 257, (1 << 32) + 1, 1 << 63 | 1, u64::MAX]);
         (1..=most).chain([none]).collect()
@@ -132,11 +133,12 @@ impl Bench {
         self.settle(case, "Overload", &reply, due);
     }
 
-    pub fn flow(&mut self, case: &Case, kind: u64, length: usize) {
+    pub fn flow(&mut self, case: &Case, kind: u64, length: usize) -> Reply<u8> {
         let lent = self.random.bytes(length);
         let reply = self.planner.flow(&case.bytes, kind, &lent);
         let due = flow_due(case, kind, lent, &reply).map_err(|why| format!("kind {kind}: {why}"));
         self.settle(case, "Flow", &reply, due);
+        reply
     }
 
     pub fn crew_check(&mut self, case: &Case, starts: &[u32], durations: &[u32]) {
@@ -156,7 +158,7 @@ impl Bench {
         self.tally.count(&case.bytes, "Crew check", outcome);
     }
 
-    fn settle<T: PartialEq + Debug>(
+    pub fn settle<T: PartialEq + Debug>(
         &mut self,
         case: &Case,
         operation: &str,
@@ -191,7 +193,7 @@ pub fn spelled(answer: u64) -> String {
     format!("number {} with {} ({:#x})", answer & 255, answer >> 8, answer >> 8)
 }
 
-fn unchanged<T>(refusal: u64, lent: Vec<T>) -> Due<T> {
+pub fn unchanged<T>(refusal: u64, lent: Vec<T>) -> Due<T> {
     Due { answer: refusal, after: lent }
 }
 
@@ -228,18 +230,24 @@ fn overload_due(case: &Case, lent: Vec<u8>, reply: &Reply<u8>) -> Result<Due<u8>
     Ok(Due { answer: answer(0, 1), after: front_written(lent, reply, RECORD) })
 }
 
+/// Causes 1 to 6, then 8, then 9: what Flow and Sheet refuse before they look at the needs.
+pub fn asked(case: &Case, kind: u64, length: usize, needed: impl FnOnce(&Facts) -> usize) -> Result<&Facts, u64> {
+    let facts = case.facts.as_ref().map_err(refused)?;
+    let (kinds, needed) = (facts.plan.kinds as u64, needed(facts));
+    if !(1..=kinds).contains(&kind) {
+        return Err(answer(8, kinds));
+    }
+    if length < needed {
+        return Err(too_short(needed));
+    }
+    Ok(facts)
+}
+
 fn flow_due(case: &Case, kind: u64, lent: Vec<u8>, reply: &Reply<u8>) -> Result<Due<u8>, String> {
-    let facts = match &case.facts {
-        Err(refusal) => return Ok(unchanged(refused(refusal), lent)),
+    let facts = match asked(case, kind, lent.len(), Facts::flow_bytes_needed) {
+        Err(refusal) => return Ok(unchanged(refusal, lent)),
         Ok(facts) => facts,
     };
-    let kinds = facts.plan.kinds as u64;
-    if !(1..=kinds).contains(&kind) {
-        return Ok(unchanged(answer(8, kinds), lent));
-    }
-    if lent.len() < facts.flow_bytes_needed() {
-        return Ok(unchanged(too_short(facts.flow_bytes_needed()), lent));
-    }
     if let Some((lowest, need)) = facts.overloaded() {
         // The set is free and need not be the verdict's; its size must be that of some such set.
         let size = (1..=64).find(|&size| size == reply.answer >> 48 && need.sizes >> size & 1 == 1);

@@ -3,10 +3,10 @@
 //! that it is enough, with one less the set shown proves that it is not.
 
 use crate::bench::Bench;
-use crate::bytes::{arc_record, Activity, Sheet, EXTRA, RECORD};
+use crate::bytes::{arc_record, Activity, Draft, EXTRA, RECORD};
 use crate::model::{ordered, Case, MOST_TRIED};
 use crate::read::{read, MOST_ACTIVITIES, MOST_BYTES};
-use crate::sweep::{add_circle, around, equal_flows, random_sheet};
+use crate::sweep::{add_circle, around, equal_flows, random_draft};
 
 /// So that a need of 64 activities is still an availability that a file can name.
 const MOST_DEMAND: u16 = 1_000;
@@ -15,23 +15,23 @@ pub fn big_plans(bench: &mut Bench, count: usize) {
     for turn in 0..count {
         let random = bench.random.between(MOST_TRIED as u64 + 1, MOST_ACTIVITIES as u64) as usize;
         let size = if turn % 4 == 0 { MOST_ACTIVITIES } else { random };
-        let sheet = random_sheet(&mut bench.random, size, MOST_DEMAND);
-        prove_needs(bench, &sheet);
-        let mut round = sheet;
+        let draft = random_draft(&mut bench.random, size, MOST_DEMAND);
+        prove_needs(bench, &draft);
+        let mut round = draft;
         add_circle(&mut bench.random, &mut round);
         bench.all(&Case::claimed(round.bytes(), &[]));
     }
 }
 
-fn prove_needs(bench: &mut Bench, sheet: &Sheet) {
-    let kinds = sheet.kinds as usize;
-    assert!(read(&sheet.bytes()).and_then(|plan| ordered(&plan)).is_ok(), "nothing to prove of a refused plan");
-    let reply = bench.planner.needs(&sheet.bytes(), &[0; 8]);
+pub fn prove_needs(bench: &mut Bench, draft: &Draft) {
+    let kinds = draft.kinds as usize;
+    assert!(read(&draft.bytes()).and_then(|plan| ordered(&plan)).is_ok(), "nothing to prove of a refused plan");
+    let reply = bench.planner.needs(&draft.bytes(), &[0; 8]);
     let needs = &reply.after[..kinds];
     let Some(enough) = as_available(needs) else {
-        return bench.tally.count(&sheet.bytes(), "Needs", Err(format!("needs {needs:?} above any sum of demands")));
+        return bench.tally.count(&draft.bytes(), "Needs", Err(format!("needs {needs:?} above any sum of demands")));
     };
-    let mut claim = |available| bench.all(&Case::claimed(sheet.with_available(available).bytes(), needs));
+    let mut claim = |available| bench.all(&Case::claimed(draft.with_available(available).bytes(), needs));
     claim(enough);
     for kind in (0..kinds).filter(|&kind| needs[kind] > 0) {
         let mut short = enough;
@@ -39,8 +39,8 @@ fn prove_needs(bench: &mut Bench, sheet: &Sheet) {
         claim(short);
     }
     let other = around(&mut bench.random, needs);
-    bench.all(&Case::claimed(sheet.with_available(other).bytes(), needs));
-    equal_flows(bench, &sheet.with_available(enough));
+    bench.all(&Case::claimed(draft.with_available(other).bytes(), needs));
+    equal_flows(bench, &draft.with_available(enough));
 }
 
 fn as_available(needs: &[u32]) -> Option<[u16; 8]> {
@@ -66,31 +66,31 @@ pub fn bounds(bench: &mut Bench) {
 }
 
 /// Every field of every activity at its greatest and no arcs: all activities are the one set.
-fn greatest(size: usize) -> Sheet {
+fn greatest(size: usize) -> Draft {
     let activity = Activity { duration: 65_535, demands: [65_535; 8] };
-    Sheet { activities: vec![activity; size], kinds: 8, available: [65_535; 8], job: vec![], extra: vec![] }
+    Draft { activities: vec![activity; size], kinds: 8, available: [65_535; 8], job: vec![], extra: vec![] }
 }
 
 /// In a chain each activity is its own greatest set, and the starts are as late as can be.
-fn chain(bench: &mut Bench, full: &Sheet) {
-    let mut sheet = full.clone();
-    sheet.job = (1..MOST_ACTIVITIES as u8).map(|from| (from + 1, from)).collect();
-    bench.all(&Case::claimed(sheet.bytes(), &[65_535; 8]));
-    sheet.extra.push((1, 64));
-    bench.all(&Case::claimed(sheet.bytes(), &[65_535; 8]));
+fn chain(bench: &mut Bench, full: &Draft) {
+    let mut draft = full.clone();
+    draft.job = (1..MOST_ACTIVITIES as u8).map(|from| (from + 1, from)).collect();
+    bench.all(&Case::claimed(draft.bytes(), &[65_535; 8]));
+    draft.extra.push((1, 64));
+    bench.all(&Case::claimed(draft.bytes(), &[65_535; 8]));
 }
 
 /// 2,048 records are read, to the last byte of the last; one record more is not.
 fn most_records(bench: &mut Bench) {
     let arcs = MOST_BYTES / RECORD - MOST_ACTIVITIES - 1;
-    let mut sheet = greatest(MOST_ACTIVITIES);
+    let mut draft = greatest(MOST_ACTIVITIES);
     // All pairs upwards but the last 33, which leaves 64 unrelated to 31 and above.
     let pairs = (1..=64).flat_map(|to| (1..to).map(move |from| (from, to)));
-    sheet.extra = pairs.take(arcs).collect();
-    bench.all(&Case::claimed(sheet.bytes(), &[2 * 65_535; 8]));
+    draft.extra = pairs.take(arcs).collect();
+    bench.all(&Case::claimed(draft.bytes(), &[2 * 65_535; 8]));
     // One chain, repeated until the file is full.
-    sheet.extra = (1..64).map(|from| (from, from + 1)).cycle().take(arcs).collect();
-    let mut file = sheet.bytes();
+    draft.extra = (1..64).map(|from| (from, from + 1)).cycle().take(arcs).collect();
+    let mut file = draft.bytes();
     assert!(file.len() == MOST_BYTES);
     bench.all(&Case::claimed(file.clone(), &[65_535; 8]));
     for value in [1, 255] {

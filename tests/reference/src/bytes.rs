@@ -1,4 +1,4 @@
-//! Building plan files: a sheet holds what a file says, `bytes` writes it down.
+//! Building plan files: a draft holds what a file is to say, `bytes` writes it down.
 
 pub const RECORD: usize = 24;
 pub const ACTIVITY: u8 = 1;
@@ -15,7 +15,7 @@ pub struct Activity {
 }
 
 #[derive(Clone)]
-pub struct Sheet {
+pub struct Draft {
     pub activities: Vec<Activity>,
     pub kinds: u8,
     pub available: [u16; 8],
@@ -23,11 +23,11 @@ pub struct Sheet {
     pub extra: Vec<Arc>,
 }
 
-impl Sheet {
+impl Draft {
     /// A plan of one kind from (duration, demand) pairs: most written-out cases are of this form.
-    pub fn of_one_kind(activities: &[(u16, u16)], available: u16, job: &[Arc], extra: &[Arc]) -> Sheet {
+    pub fn of_one_kind(activities: &[(u16, u16)], available: u16, job: &[Arc], extra: &[Arc]) -> Draft {
         let activity = |&(duration, demand): &(u16, u16)| Activity { duration, demands: first(demand) };
-        Sheet {
+        Draft {
             activities: activities.iter().map(activity).collect(),
             kinds: 1,
             available: first(available),
@@ -36,8 +36,8 @@ impl Sheet {
         }
     }
 
-    pub fn with_available(&self, available: [u16; 8]) -> Sheet {
-        Sheet { available, ..self.clone() }
+    pub fn with_available(&self, available: [u16; 8]) -> Draft {
+        Draft { available, ..self.clone() }
     }
 
     pub fn bytes(&self) -> Vec<u8> {

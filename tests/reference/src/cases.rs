@@ -2,7 +2,7 @@
 //! the library and the independent operations to the same letter.
 
 use crate::bench::{answer, overloaded, spelled, Bench};
-use crate::bytes::{Arc, Sheet};
+use crate::bytes::{Arc, Draft};
 use crate::model::Case;
 use crate::tally::{BROKEN, OVERLOAD};
 
@@ -10,16 +10,16 @@ const FOUR: [(u16, u16); 4] = [(1, 2), (2, 2), (3, 2), (1, 2)];
 const NO_ARCS: &[Arc] = &[];
 
 /// Plan A with other extra arcs.
-pub fn four(extra: &[Arc]) -> Sheet {
-    Sheet::of_one_kind(&FOUR, 4, NO_ARCS, extra)
+pub fn four(extra: &[Arc]) -> Draft {
+    Draft::of_one_kind(&FOUR, 4, NO_ARCS, extra)
 }
 
-pub fn plan_a() -> Sheet {
+pub fn plan_a() -> Draft {
     four(&[(1, 2), (2, 4)])
 }
 
-fn plan_f(demand: u16) -> Sheet {
-    Sheet::of_one_kind(&[(1, demand)], 4, NO_ARCS, NO_ARCS)
+fn plan_f(demand: u16) -> Draft {
+    Draft::of_one_kind(&[(1, demand)], 4, NO_ARCS, NO_ARCS)
 }
 
 pub fn accepted(size: u64, kinds: u64) -> u64 {
@@ -31,8 +31,8 @@ pub fn plans_a_to_f(bench: &mut Bench) {
     let c = four(NO_ARCS);
     let d = four(&[(1, 3), (1, 4), (2, 3), (2, 4)]);
     let e = four(&[(1, 2), (2, 1)]);
-    let e_as_job = Sheet::of_one_kind(&FOUR, 4, &[(1, 2), (2, 1)], NO_ARCS);
-    let empty = Sheet::of_one_kind(&[], 0, NO_ARCS, NO_ARCS);
+    let e_as_job = Draft::of_one_kind(&FOUR, 4, &[(1, 2), (2, 1)], NO_ARCS);
+    let empty = Draft::of_one_kind(&[], 0, NO_ARCS, NO_ARCS);
     judged(bench, &plan_a(), accepted(4, 1), 0, Some(4));
     judged(bench, &b, overloaded(1, 6, 3), 0b1110, Some(6));
     judged(bench, &c, overloaded(1, 8, 4), 0b1111, Some(8));
@@ -47,8 +47,8 @@ pub fn plans_a_to_f(bench: &mut Bench) {
 }
 
 /// The verdict, the set and the need as written out, then every operation against the model.
-fn judged(bench: &mut Bench, sheet: &Sheet, verdict: u64, set: u64, need: Option<u32>) {
-    let file = sheet.bytes();
+fn judged(bench: &mut Bench, draft: &Draft, verdict: u64, set: u64, need: Option<u32>) {
+    let file = draft.bytes();
     expect(bench, &file, "Verdict", |bench| bench.planner.verdict(&file).answer, verdict);
     expect(bench, &file, "Set", |bench| bench.planner.set(&file).answer, set);
     if let Some(need) = need {
@@ -118,12 +118,12 @@ fn crews(bench: &mut Bench) {
     crew(bench, &a, &[0; 4], &[1, 1, 0, 1], answer(10, 4));
     crew(bench, &a, &[0; 4], &[1; 4], broken(1, 2));
     crew(bench, &four(&[(2, 4), (2, 3), (1, 4), (2, 3)]), &[0, 9, 9, 9], &[1; 4], broken(2, 3));
-    crew(bench, &Sheet::of_one_kind(&FOUR, 4, &[(3, 4)], &[(1, 2)]), &[0; 4], &[1; 4], broken(1, 2));
-    crew(bench, &Sheet::of_one_kind(&[], 0, NO_ARCS, NO_ARCS), &[], &[], 0);
+    crew(bench, &Draft::of_one_kind(&FOUR, 4, &[(3, 4)], &[(1, 2)]), &[0; 4], &[1; 4], broken(1, 2));
+    crew(bench, &Draft::of_one_kind(&[], 0, NO_ARCS, NO_ARCS), &[], &[], 0);
 }
 
-fn crew(bench: &mut Bench, sheet: &Sheet, starts: &[u32], durations: &[u32], due: u64) {
-    let file = sheet.bytes();
+fn crew(bench: &mut Bench, draft: &Draft, starts: &[u32], durations: &[u32], due: u64) {
+    let file = draft.bytes();
     expect(bench, &file, "Crew check", |bench| bench.planner.crew_check(&file, starts, durations).answer, due);
     bench.crew_check(&Case::new(file), starts, durations);
 }

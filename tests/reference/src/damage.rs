@@ -4,7 +4,7 @@ use crate::bench::Bench;
 use crate::bytes::RECORD;
 use crate::model::Case;
 use crate::random::Random;
-use crate::sweep::{around, random_sheet};
+use crate::sweep::{around, random_draft};
 
 /// Damages `count` random files of at most 7 activities in every way below.
 pub fn damaged_plans(bench: &mut Bench, count: usize) {
@@ -22,13 +22,13 @@ pub fn damaged_plans(bench: &mut Bench, count: usize) {
 
 fn some_file(random: &mut Random) -> Vec<u8> {
     let size = random.between(2, 7) as usize;
-    let mut sheet = random_sheet(random, size, 9);
-    sheet.job.truncate(4);
-    sheet.extra.truncate(4);
+    let mut draft = random_draft(random, size, 9);
+    draft.job.truncate(4);
+    draft.extra.truncate(4);
     // The availabilities need no exact relation to the needs here, only some of both verdicts.
-    let guess: Vec<u32> = (0..sheet.kinds).map(|_| random.below(20) as u32).collect();
-    sheet.available = around(random, &guess);
-    sheet.bytes()
+    let guess: Vec<u32> = (0..draft.kinds).map(|_| random.below(20) as u32).collect();
+    draft.available = around(random, &guess);
+    draft.bytes()
 }
 
 fn every_byte(bench: &mut Bench, file: &[u8]) {

@@ -15,9 +15,12 @@ mod planner;
 #[allow(unsafe_code)]
 mod guard;
 mod model;
+mod paging;
 mod random;
 mod read;
 mod readings;
+mod sheet;
+mod sheets;
 mod sweep;
 mod tally;
 #[allow(unsafe_code)]
@@ -49,6 +52,7 @@ fn main() -> ExitCode {
     part("plans A to F", &cases::plans_a_to_f);
     part("open points", &readings::readings);
     part("bounds", &big::bounds);
+    part("crew sheets", &sheets::sheets);
     part("random plans", &|bench| sweep::random_plans(bench, RANDOM_PLANS));
     part("damaged plans", &|bench| damage::damaged_plans(bench, DAMAGED_PLANS));
     part("big plans", &|bench| big::big_plans(bench, BIG_PLANS));

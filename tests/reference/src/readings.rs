@@ -2,7 +2,7 @@
 //! written out by hand.
 
 use crate::bench::{answer, overloaded, Bench};
-use crate::bytes::{activity_record, arc_record, crew_record, first, Activity, Sheet, EXTRA, JOB, RECORD};
+use crate::bytes::{activity_record, arc_record, crew_record, first, Activity, Draft, EXTRA, JOB, RECORD};
 use crate::cases::{accepted, expect, four, plan_a};
 use crate::model::Case;
 
@@ -107,7 +107,7 @@ fn spare_bytes(bench: &mut Bench) {
 }
 
 fn circles(bench: &mut Bench) {
-    let of = |job: &[(u8, u8)], extra: &[(u8, u8)]| Sheet::of_one_kind(&[(1, 0); 5], 0, job, extra).bytes();
+    let of = |job: &[(u8, u8)], extra: &[(u8, u8)]| Draft::of_one_kind(&[(1, 0); 5], 0, job, extra).bytes();
     let mut circle = |job, extra, due| {
         let file = of(job, extra);
         expect(bench, &file, "Verdict", |bench| bench.planner.verdict(&file).answer, due);
@@ -129,25 +129,29 @@ fn lowest_kind(bench: &mut Bench) {
         duration: 1,
         demands: std::array::from_fn(|kind| demands.get(kind).copied().unwrap_or(0)),
     });
-    let mut sheet = Sheet { activities: activities.to_vec(), kinds: 3, available: [0; 8], job: vec![], extra: vec![] };
+    let mut draft = Draft { activities: activities.to_vec(), kinds: 3, available: [0; 8], job: vec![], extra: vec![] };
     for (available, due) in [
         ([1, 5, 0], overloaded(2, 6, 2)),
         ([0, 5, 0], overloaded(1, 1, 1)),
         ([1, 6, 149], overloaded(3, 150, 3)),
         ([1, 6, 150], accepted(3, 3)),
     ] {
-        sheet.available[..3].copy_from_slice(&available);
-        let file = sheet.bytes();
+        draft.available[..3].copy_from_slice(&available);
+        let file = draft.bytes();
         expect(bench, &file, "Verdict", |bench| bench.planner.verdict(&file).answer, due);
         // Flow gives the same refusal whatever kind is asked, but 8 and 9 come before it.
         for kind in 1..=3 {
             let flow = |bench: &mut Bench, length| bench.planner.flow(&file, kind, &vec![0; length]).answer;
             expect(bench, &file, "Flow", |bench| flow(bench, 239), answer(9, 240));
+            let sheet = |bench: &mut Bench, length| bench.planner.sheet(&file, kind, 0, &vec![0; length]).answer;
+            expect(bench, &file, "Sheet", |bench| sheet(bench, 2_459), answer(9, 2_460));
             if due & 255 == 7 {
                 expect(bench, &file, "Flow", |bench| flow(bench, 240), due);
+                expect(bench, &file, "Sheet", |bench| sheet(bench, 2_460), due);
             }
         }
         expect(bench, &file, "Flow", |bench| bench.planner.flow(&file, 4, &[]).answer, answer(8, 3));
+        expect(bench, &file, "Sheet", |bench| bench.planner.sheet(&file, 4, 1, &[]).answer, answer(8, 3));
         bench.all(&Case::new(file));
     }
 }

@@ -1,7 +1,7 @@
 //! Random plans small enough to try all subsets of.
 
 use crate::bench::Bench;
-use crate::bytes::{Activity, Arc, Sheet};
+use crate::bytes::{Activity, Arc, Draft};
 use crate::model::{needs_by_subsets, ordered, Case, MOST_TRIED};
 use crate::random::Random;
 use crate::read::read;
@@ -13,20 +13,20 @@ pub fn random_plans(bench: &mut Bench, count: usize) {
     for turn in 0..count {
         let most = if turn % 8 == 0 { MOST_TRIED } else { 9 };
         let size = bench.random.index(most + 1);
-        let mut sheet = random_sheet(&mut bench.random, size, u16::MAX);
+        let mut draft = random_draft(&mut bench.random, size, u16::MAX);
         if bench.random.percent(15) {
-            add_circle(&mut bench.random, &mut sheet);
+            add_circle(&mut bench.random, &mut draft);
         }
-        crowd(&mut bench.random, &mut sheet);
-        let case = Case::new(sheet.bytes());
+        crowd(&mut bench.random, &mut draft);
+        let case = Case::new(draft.bytes());
         bench.all(&case);
-        equal_flows(bench, &sheet);
+        equal_flows(bench, &draft);
     }
 }
 
 /// Demands go up to `most`; arcs run forward in a random order of the activities, so that their
 /// numbers say nothing, and some are repeated, in the same type or in the other.
-pub fn random_sheet(random: &mut Random, size: usize, most: u16) -> Sheet {
+pub fn random_draft(random: &mut Random, size: usize, most: u16) -> Draft {
     let kinds = random.between(1, 8) as u8;
     let highest = random.pick(&[1, 3, 10, most]);
     let idle = random.pick(&[0, 20, 60]);
@@ -36,7 +36,7 @@ pub fn random_sheet(random: &mut Random, size: usize, most: u16) -> Sheet {
     let mut job = random_arcs(random, &line);
     let mut extra = random_arcs(random, &line);
     repeat_some(random, &mut job, &mut extra);
-    Sheet { activities, kinds, available: [0; 8], job, extra }
+    Draft { activities, kinds, available: [0; 8], job, extra }
 }
 
 fn random_activity(random: &mut Random, kinds: u8, highest: u16, idle: u64) -> Activity {
@@ -77,8 +77,8 @@ fn repeat_some(random: &mut Random, job: &mut Vec<Arc>, extra: &mut Vec<Arc>) {
 }
 
 /// Closes a circle round some activities, through job arcs alone or through both types.
-pub fn add_circle(random: &mut Random, sheet: &mut Sheet) {
-    let mut round: Vec<u8> = (1..=sheet.activities.len() as u8).collect();
+pub fn add_circle(random: &mut Random, draft: &mut Draft) {
+    let mut round: Vec<u8> = (1..=draft.activities.len() as u8).collect();
     random.shuffle(&mut round);
     round.truncate(random.between(2, 4) as usize);
     if round.len() < 2 {
@@ -88,21 +88,21 @@ pub fn add_circle(random: &mut Random, sheet: &mut Sheet) {
     for place in 0..round.len() {
         let arc = (round[place], round[(place + 1) % round.len()]);
         if in_job || random.percent(30) {
-            sheet.job.push(arc)
+            draft.job.push(arc)
         } else {
-            sheet.extra.push(arc)
+            draft.extra.push(arc)
         }
     }
 }
 
 /// Availabilities at the needs, one less and one more, and at both ends of what a file can say.
-fn crowd(random: &mut Random, sheet: &mut Sheet) {
-    let plan = read(&sheet.bytes()).unwrap_or_else(|refusal| panic!("a built plan is refused: {refusal:?}"));
+fn crowd(random: &mut Random, draft: &mut Draft) {
+    let plan = read(&draft.bytes()).unwrap_or_else(|refusal| panic!("a built plan is refused: {refusal:?}"));
     let needs = match ordered(&plan) {
         Ok(order) => needs_by_subsets(&plan, &order).iter().map(|need| need.units).collect(),
         Err(_) => vec![1; plan.kinds],
     };
-    sheet.available = around(random, &needs);
+    draft.available = around(random, &needs);
 }
 
 pub fn around(random: &mut Random, needs: &[u32]) -> [u16; 8] {
@@ -118,8 +118,8 @@ pub fn around(random: &mut Random, needs: &[u32]) -> [u16; 8] {
 }
 
 /// The same arcs in another order and number, job and extra arcs apart, must give the same flows.
-pub fn equal_flows(bench: &mut Bench, sheet: &Sheet) {
-    let mut other = sheet.clone();
+pub fn equal_flows(bench: &mut Bench, draft: &Draft) {
+    let mut other = draft.clone();
     for arcs in [&mut other.job, &mut other.extra] {
         if !arcs.is_empty() && bench.random.percent(70) {
             arcs.push(bench.random.pick(arcs));
@@ -127,8 +127,8 @@ pub fn equal_flows(bench: &mut Bench, sheet: &Sheet) {
         bench.random.shuffle(arcs);
     }
     let lent = vec![0xA7; 24 * 2145];
-    let (file, twin) = (sheet.bytes(), other.bytes());
-    for kind in 1..=sheet.kinds as u64 {
+    let (file, twin) = (draft.bytes(), other.bytes());
+    for kind in 1..=draft.kinds as u64 {
         let (one, two) = (bench.planner.flow(&file, kind, &lent), bench.planner.flow(&twin, kind, &lent));
         // Only accepted plans have flows; the rest is compared elsewhere.
         let equal = one.answer & 255 != 0 || (one.answer, one.after) == (two.answer, two.after);

@@ -11,9 +11,11 @@ pub const OVERLOAD: u64 = 255;
 pub struct Tally {
     passed: u64,
     failed: u64,
-    refusals: [u64; 11],
+    refusals: [u64; 12],
     accepted: u64,
     overload_none: u64,
+    sheet_of_one: u64,
+    sheet_of_more: u64,
     crew_fits: u64,
     crew_broken: u64,
     crew_overload: u64,
@@ -44,9 +46,11 @@ impl Tally {
     pub fn see(&mut self, operation: &str, answer: u64) {
         let (number, rest) = (answer & 255, answer >> 8);
         match number {
-            1..=10 => self.refusals[number as usize] += 1,
+            1..=11 => self.refusals[number as usize] += 1,
             0 if operation == "Verdict" => self.accepted += 1,
             0 if operation == "Overload" && rest == 0 => self.overload_none += 1,
+            0 if operation == "Sheet" && rest == 1 => self.sheet_of_one += 1,
+            0 if operation == "Sheet" => self.sheet_of_more += 1,
             0 if operation == "Crew check" => self.crew_fits += 1,
             BROKEN => self.crew_broken += 1,
             OVERLOAD => self.crew_overload += 1,
@@ -55,10 +59,12 @@ impl Tally {
     }
 
     fn seen(&self) -> Vec<(String, u64)> {
-        let refusals = (1..=10).map(|number| (format!("refusal {number}"), self.refusals[number]));
+        let refusals = (1..=11).map(|number| (format!("refusal {number}"), self.refusals[number]));
         let others = [
             ("accepted", self.accepted),
             ("no overload", self.overload_none),
+            ("sheet of one page", self.sheet_of_one),
+            ("sheet of more pages", self.sheet_of_more),
             ("crew fits", self.crew_fits),
             ("broken arc", self.crew_broken),
             ("crew overload", self.crew_overload),

@@ -20,7 +20,7 @@ use crate::open::open_plan;
 use order::Order;
 
 // Whether a kind is one of 1 to n.
-fn is_kind(kind: usize, n: usize) -> bool
+pub fn is_kind(kind: usize, n: usize) -> bool
     ensures { λ r. ⌜ r ≡ isKind kind n ⌝ }
 {
     if kind == 0 {
@@ -59,7 +59,7 @@ pub fn kind_fault(
 }
 
 // Writes the records of a plan's flow of kind k + 1 to the front of the lent bytes. Gives their number.
-fn write_records(out: &mut [u8], order: Order, q: plan::Plan, k: usize) -> usize
+pub fn write_records(out: &mut [u8], order: Order, q: plan::Plan, k: usize) -> usize
     requires { ⌜ FlowAsked order q k (now out) ⌝ }
     ensures { λ r. ⌜ lent r (now (out .exit)) ≡ flowPut order q k (now (out .entry)) ⌝ }
 {

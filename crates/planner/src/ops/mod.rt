@@ -3,5 +3,6 @@ pub mod crew_check;
 pub mod flow;
 pub mod needs;
 pub mod overload;
+pub mod sheet;
 pub mod starts;
 pub mod verdict;

@@ -13,7 +13,7 @@ use crate::open::open_plan;
 use order::ELEMENTS;
 
 // Writes m starts and the start of the end to the front of the lent numbers.
-fn put_starts(out: &mut [u32], starts: &[u32; ELEMENTS], m: usize, end: u32)
+pub fn put_starts(out: &mut [u32], starts: &[u32; ELEMENTS], m: usize, end: u32)
     requires { ⌜ (m ≤ elements) × (m + 1 ≤ length (now out)) ⌝ }
     ensures { λ _. ⌜ now (out .exit) ≡ over (m + 1) (withEnd m (now (starts .entry)) end) (now (out .entry)) ⌝ }
 {

@@ -1,0 +1,26 @@
+-- `planner::ops::sheet::starts_of` meets its contract, from what the schedule gave. Assumes nothing.
+use mathlib.Core.Path.{refl, sym, _∙_, subst}
+use mathlib.Core.List.{List}
+use Prim.Native.Nat.{ℕ}
+use borrow.Author.Needs.{needs}
+use Rattle.schedule.specs.model.Arrays.{byDuration, FinishesFit}
+use Rattle.schedule.proofs.Arrays.{starts-fit}
+use Rattle.planner.proofs.ops.sheet.starts_of.Statement.{statement}
+use Rattle.planner.proofs.ops.sheet.starts_of.Tie as tie
+
+end-start-requires : tie.Need-end-start-requires
+end-start-requires c κs =
+    let e = c .before .before in
+    let start = e .before .before .before in
+    let d = byDuration (start .args .q .duration) in
+    (start .pre .0, subst (λ (xs : List ℕ). FinishesFit xs d) (sym (e .earliest .ensures)) (starts-fit (start .args .rows .now) d (λ i j. start .pre .2 i)))
+
+returns : tie.Need-returns
+returns c =
+    let put = c .before in
+    let end = put .before .before .before in
+    put .put-starts .ensures ∙ rw (end .end-start .ensures, end .before .before .before .earliest .ensures) refl
+
+pub starts-of-spec : {M : Type 1} → statement M
+starts-of-spec =
+    tie.close (tie.spec (λ c κs. search needs) end-start-requires (λ c. search needs) (λ c κs. search needs) returns)
