@@ -2,7 +2,7 @@
 use mathlib.Core.Path.{_≡_, refl, ap, _∙_, subst}
 use mathlib.Core.Bool.{Bool, true, false, true≢false, false≢true}
 use mathlib.Core.Logic.{_⊎_, inl, inr}
-use Prim.Native.Nat.{ℕ, _≤_, _<_}
+use Prim.Native.Nat.{ℕ, _+_, _≤_, _<_}
 use native.Mathlib.Omega.{arith}
 use lib.Dec.{ltb}
 use borrow.Author.Tests.{lt-ltb, le-ltb, ltb-false}
@@ -10,7 +10,7 @@ use Rattle.kinds.specs.declared.Overload.{Overload}
 use Rattle.planner.specs.Faults.{isFine, orCause, orShort}
 use Rattle.planner.specs.model.Opening.{orFound}
 use Rattle.planner.specs.declared.Cause.{Cause}
-use Rattle.planner.specs.declared.Cause.the-variants.{Short}
+use Rattle.planner.specs.declared.Cause.the-variants.{Overloaded, Short}
 use Rattle.planner.specs.declared.Fault.{Fault}
 use Rattle.planner.specs.declared.Fault.the-variants.{Fine, Refused}
 
@@ -44,6 +44,11 @@ cause-from Fine true c d e = inr (refl, refl, cc)
 cause-from Fine false c d e = inl e
 cause-from (Refused x) b c d e = inl e
 
+-- where there is a fault already, no other cause has a turn
+pub cause-kept : (f : Fault) (b : Bool) (c : Cause) → isFine f ≡ false → f ≡ orCause f b c
+cause-kept Fine b c e = absurd (true≢false e)
+cause-kept (Refused d) b c e = refl
+
 -- ---- 9 in its turn
 
 module _ (f : Fault) (lent needed : ℕ) where
@@ -59,8 +64,7 @@ module _ (f : Fault) (lent needed : ℕ) where
 -- ---- 7 in its turn: nothing is weighed where there is a fault already
 
 pub not-weighed : (f : Fault) (v : Overload) (n : ℕ) → isFine f ≡ false → f ≡ orFound f v n
-not-weighed Fine v n e = absurd (true≢false e)
-not-weighed (Refused c) v n e = refl
+not-weighed f v n = cause-kept f (ltb (v .kind) n) (Overloaded (v .kind + 1) (v .need) (v .set))
 
 -- ---- what holds of whatever cause a fault has
 

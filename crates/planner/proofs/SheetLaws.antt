@@ -6,7 +6,6 @@ use Prim.Native.Nat.{ℕ, zero, suc, _+_, _*_, _-_, _≤_}
 use native.Mathlib.Omega.{arith}
 use lib.ListN.{length, drop, replicate, length-replicate, length-append}
 use borrow.Author.Tests.{not-false}
-use Rattle.words.proofs.Tests.{clash}
 use Rattle.words.proofs.Tables.{over-all}
 use Rattle.order.specs.Stored.{elements}
 use Rattle.order.specs.Before.{Acyclic}
@@ -28,13 +27,12 @@ use Rattle.planner.specs.Sheet.{isPage, pageFault, sheetPages, sheetFaul
 use Rattle.planner.specs.model.Opening.{openedOf}
 use Rattle.planner.specs.model.Records.{FlowAsked, flowPut}
 use Rattle.planner.specs.model.Sheets.{startsIn}
-use Rattle.planner.specs.declared.Cause.{Cause}
 use Rattle.planner.specs.declared.Cause.the-variants.{NoPage}
 use Rattle.planner.specs.declared.Fault.{Fault}
-use Rattle.planner.specs.declared.Fault.the-variants.{Fine, Refused}
+use Rattle.planner.specs.declared.Fault.the-variants.{Fine}
 use Rattle.planner.specs.declared.Output.{Output}
 use Rattle.planner.specs.declared.open.Opened.{Opened}
-use Rattle.planner.proofs.FaultLaws.{fine-is, cause-fine}
+use Rattle.planner.proofs.FaultLaws.{fine-is, cause-fine, cause-kept}
 use Rattle.planner.proofs.OutputLaws.{Ends, stops}
 use Rattle.planner.proofs.OpenLaws.{count-few, count-within, opens-plan, opens-small}
 use Rattle.planner.proofs.StartsLaws.{length-numbers}
@@ -70,24 +68,20 @@ zeros-left k zero = ap (λ (x : ℕ). replicate x 0) (let e : k ≡ k - 0 = omeg
 zeros-left zero (suc n) = ap (λ (x : ℕ). replicate x 0) (let e : 0 ≡ 0 - suc n = omega arith in e)
 zeros-left (suc k) (suc n) = zeros-left k n ∙ ap (λ (x : ℕ). replicate x 0) (let e : k - n ≡ suc k - suc n = omega arith in e)
 
-pub starts-padded : (s : List ℕ) → startsIn (rowsOf s) (planIn s) ≡ startNumbers s ++ replicate (elements + 1 - needed s) 0
+pub starts-room : (s : List ℕ) → startsIn (rowsOf s) (planIn s) ≡ startNumbers s ++ replicate (elements + 1 - needed s) 0
 unfolding startNumbers
-starts-padded s =
+starts-room s =
     over-all (needed s) (startNumbers s) (replicate (elements + 1) 0) (length-numbers s)
     ∙ ap (λ (n : ℕ). startNumbers s ++ drop n (replicate (elements + 1) 0)) (length-numbers s)
     ∙ ap (λ (l : List ℕ). startNumbers s ++ l) (zeros-left (elements + 1) (needed s))
 
 -- ---- what the code holds: `o` is the plan that was opened
 
-kept : (f : Fault) (t : Bool) (c : Cause) → isFine f ≡ false → f ≡ orCause f t c
-kept Fine t c e = clash refl e
-kept (Refused d) t c e = refl
-
 module _ (s : List ℕ) (kind page : ℕ) (out : List ℕ) where
   -- 8, 9 or 7 it was: 11 has no turn
   pub stopped : {f : Fault} {b : Bool} → (e : Ends (kindFault s kind (length out) pageBytes) f b) → not b ≡ true → Ends (sheetFault s kind page (length out)) f b
   unfolding sheetFault
-  stopped e h = record { fault = e .fault ∙ kept (kindFault s kind (length out) pageBytes) (not (isPage page (sheetPages s kind))) (NoPage (sheetPages s kind)) (stops e h); test = e .test }
+  stopped e h = record { fault = e .fault ∙ cause-kept (kindFault s kind (length out) pageBytes) (not (isPage page (sheetPages s kind))) (NoPage (sheetPages s kind)) (stops e h); test = e .test }
 
   module _ (bytes : AreBytes s) {o : Opened} (held : o ≡ openedOf s) (e : isFine (kindFault s kind (length out) pageBytes) ≡ true) where
     goes : Opens s × (isKind kind (planIn s .kinds) ≡ true) × (pageBytes ≤ length out) × (isOverloaded (planIn s) ≡ false)
@@ -127,7 +121,7 @@ module _ (s : List ℕ) (kind page : ℕ) (out : List ℕ) where
       -- the page is that of Flow's records and Starts' numbers: what stands behind them does not matter
       same : sheetPage records starts n kind page ≡ sheetPage (recordBytes (planIn s) (kind - 1)) (startNumbers s) (flowCount (planIn s) (kind - 1)) kind page
       same =
-          rw (has .0, has .1, begin, held, starts-padded s)
+          rw (has .0, has .1, begin, held, starts-room s)
           (page-front (recordBytes (planIn s) (kind - 1)) (drop (length (recordBytes (planIn s) (kind - 1))) room) (startNumbers s) (elements + 1 - needed s) (flowCount (planIn s) (kind - 1)) kind page
           (omega (arith, records-length (planIn s) (kind - 1))))
 

@@ -9,7 +9,7 @@ use Rattle.planner.specs.declared.Fault.the-variants as fault
 use Rattle.planner.specs.declared.Output.{Output}
 use Rattle.planner.specs.declared.Output.the-variants.{Written, Refused}
 
--- so many numbers or records are written, or the cause of the refusal
+-- so many numbers or records are written (of a sheet: so many pages there are), or the cause of the refusal
 abbrev pub outputOf : Fault → ℕ → Output
 outputOf fault.Fine n = Written n
 outputOf (fault.Refused c) n = Refused c

@@ -60,8 +60,8 @@ pub enum Decision {
     Refused(Cause),
 }
 
-// What Needs, Starts, Flow and Overload answer: so many numbers or records are written, or nothing is. (Overload writes one record, or none
-// where the plan is accepted.)
+// What the operations that write answer: so many numbers or records are written, or nothing is. (Overload writes one record, or none where the plan is
+// accepted; Sheet writes a page, and answers how many there are.)
 pub enum Output {
     Written(usize),
     Refused(Cause),

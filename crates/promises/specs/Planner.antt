@@ -1,4 +1,4 @@
--- A PLANNER: what its six operations answer, and what they leave of what they are lent, for every list of bytes. The demands of document 00 are said of any planner
+-- A PLANNER: what the six operations of document 01 answer, and what they leave of what they are lent, for every list of bytes. The demands of document 00 are said of any planner
 -- (EveryInput, Paper, PriceList, Refusals), and name no definition of what our operations do. Ours is `ours` of Ours. Assumes nothing.
 use mathlib.Core.List.{List}
 use Prim.Native.Nat.{ℕ}

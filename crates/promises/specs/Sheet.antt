@@ -1,9 +1,8 @@
 -- CHANGE 1 of document 02, "A crew sheet for the van", about a planner P and its operation S, by a kind and a page: `SheetSentence P S`. Ours keeps it: `sheet-keeps` of
--- proofs/SheetHolds.antt. What is printed on a line is read back column by column (sheet's Printed), and compared with the records that Flow writes and the starts that
+-- proofs/SheetHolds.antt. What is printed on a line is read back column by column (crew_sheet's Printed), and compared with the records that Flow writes and the starts that
 -- Starts writes, whatever made them. Quotations are from document 02, change 1. Assumes nothing.
 use mathlib.Core.Path.{_≡_}
 use mathlib.Core.List.{List, [], _∷_, _++_}
-use mathlib.Core.Logic.{_⊎_}
 use Prim.Native.Nat.{ℕ, _+_, _*_, _-_, _≤_, _<_}
 use lib.ListN.{length, drop, replicate}
 use Rattle.order.specs.Before.{Acyclic}
