@@ -1,10 +1,9 @@
 -- Which refusal when, of the operations on one kind: 8, 9 and 7 of Flow and Sheet, and Sheet's 11 behind them. Assumes nothing.
-use mathlib.Core.Path.{_≡_, ap}
+use mathlib.Core.Path.{_≡_, sym, ap}
 use mathlib.Core.Bool.{Bool, true, false, not}
 use mathlib.Core.List.{List}
-use mathlib.Core.Logic.{⊎-elim}
+use mathlib.Core.Logic.{⊎-elim, _≢_}
 use Prim.Native.Nat.{ℕ, _≤_, _<_}
-use native.Mathlib.Omega.{arith}
 use lib.Dec.{ltb, leb}
 use borrow.Author.Tests.{lt-ltb, le-leb}
 use Rattle.words.proofs.Tests.{fails, and-both}
@@ -66,11 +65,11 @@ module _ (s : List ℕ) (kind page n : ℕ) where
   unfolding sheetFault
   fine-page f e = cause-none (kindFault s kind n pageBytes) (not (isPage page (sheetPages s kind))) (NoPage (sheetPages s kind)) (ap isFine f) (ap not e)
 
--- ---- 1 to 6 are the file's, whatever the operation, the kind and the page
+-- ---- a cause of the opening is the file's, whatever the operation, the kind and the page
 
--- a cause with a small number is none of those with a larger one
-from-before : (f : Fault) (b : Bool) (c d : Cause) → causeNumber d ≤ 6 → 6 < causeNumber c → orCause f b c ≡ Refused d → f ≡ Refused d
-from-before f b c d low high e = ⊎-elim (λ p. p) (λ w. absurd (omega (arith, low, high, ap causeNumber (w .2)))) (cause-from f b c d e)
+-- a refusal by another number than the next cause's is one from before
+from-before : (f : Fault) (b : Bool) (c d : Cause) → causeNumber d ≢ causeNumber c → orCause f b c ≡ Refused d → f ≡ Refused d
+from-before f b c d other e = ⊎-elim (λ p. p) (λ w. absurd (other (sym (ap causeNumber (w .2))))) (cause-from f b c d e)
 
 module _ (s : List ℕ) (c : Cause) where
   kind-before : (kind n needed : ℕ) → faultOf s ≡ Refused c → kindFault s kind n needed ≡ Refused c
@@ -86,20 +85,20 @@ module _ (s : List ℕ) (c : Cause) where
   pub sheet-before : (kind page n : ℕ) → faultOf s ≡ Refused c → sheetFault s kind page n ≡ Refused c
   sheet-before kind page n e = sheet-kind s kind page n c (kind-before kind n pageBytes e)
 
-  module _ (low : causeNumber c ≤ 6) where
+  module _ (seven : causeNumber c ≢ 7) (eight : causeNumber c ≢ 8) (nine : causeNumber c ≢ 9) where
     kind-from : (kind n needed : ℕ) → kindFault s kind n needed ≡ Refused c → faultOf s ≡ Refused c
     unfolding overCause
     kind-from kind n needed e =
-        from-before (faultOf s) (not (isKind kind (planIn s .kinds))) (NoKind (planIn s .kinds)) c low (omega arith)
-        (from-before (known s kind n needed) (ltb n needed) (Short needed) c low (omega arith)
-        (from-before (roomy s kind n needed) (isOverloaded (planIn s)) (overCause (planIn s)) c low (omega arith) e))
+        from-before (faultOf s) (not (isKind kind (planIn s .kinds))) (NoKind (planIn s .kinds)) c eight
+        (from-before (known s kind n needed) (ltb n needed) (Short needed) c nine
+        (from-before (roomy s kind n needed) (isOverloaded (planIn s)) (overCause (planIn s)) c seven e))
 
     pub flow-from : (kind n : ℕ) → flowFault s kind n ≡ Refused c → faultOf s ≡ Refused c
     unfolding flowFault
     flow-from kind n = kind-from kind n (flowLength (planIn s .count))
 
-    pub sheet-from : (kind page n : ℕ) → sheetFault s kind page n ≡ Refused c → faultOf s ≡ Refused c
+    pub sheet-from : causeNumber c ≢ 11 → (kind page n : ℕ) → sheetFault s kind page n ≡ Refused c → faultOf s ≡ Refused c
     unfolding sheetFault
-    sheet-from kind page n e =
+    sheet-from eleven kind page n e =
         kind-from kind n pageBytes
-        (from-before (kindFault s kind n pageBytes) (not (isPage page (sheetPages s kind))) (NoPage (sheetPages s kind)) c low (omega arith) e)
+        (from-before (kindFault s kind n pageBytes) (not (isPage page (sheetPages s kind))) (NoPage (sheetPages s kind)) c eleven e)

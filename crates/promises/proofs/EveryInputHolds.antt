@@ -1,11 +1,13 @@
 -- DEMAND 1 HOLDS OF OURS: every answer is a result or a refusal by a number that document 01 gives the operation, and a refusal changes nothing. Assumes nothing.
-use mathlib.Core.Path.{_≡_, refl}
-use mathlib.Core.Bool.{Bool}
+use mathlib.Core.Path.{_≡_, refl, sym, ap, _∙_}
+use mathlib.Core.Bool.{Bool, true, false, _||_, true≢false}
 use mathlib.Core.List.{List, [], _∷_, _++_}
-use mathlib.Core.Logic.{_⊎_, inl, inr}
+use mathlib.Core.Logic.{_⊎_, inl, inr, _≢_}
 use Prim.Native.Nat.{ℕ, _-_}
-use lib.Dec.{ltb}
+use lib.Dec.{eqb, ltb}
 use lib.ListN.{length}
+use borrow.Author.Tests.{eq-eqb}
+use Rattle.words.proofs.Tests.{or-left, or-right}
 use Rattle.plan.specs.declared.Cause.{Cause as Unread}
 use Rattle.plan.specs.declared.Answer.the-variants as answer
 use Rattle.schedule.specs.declared.Checked.{Checked}
@@ -32,18 +34,34 @@ use Rattle.planner.proofs.OpenLaws.{every-open, unread-number}
 use Rattle.planner.proofs.OutputLaws.{output-is-refused, lent-refused}
 use Rattle.planner.specs.Answers.{causeNumber}
 use Rattle.promises.specs.Ours.{ours}
-use Rattle.promises.specs.EveryInput.{OneOf, opening, EveryInput}
+use Rattle.promises.specs.EveryInput.{OneOf, reading, opening, EveryInput}
 
 -- ---- one of more numbers
 
-one-more : (xs ys : List ℕ) (n : ℕ) → OneOf xs n → OneOf (xs ++ ys) n
+pub one-more : (xs ys : List ℕ) (n : ℕ) → OneOf xs n → OneOf (xs ++ ys) n
 one-more [] ys n h = absurd h
 one-more (x ∷ xs) ys n (inl e) = inl e
 one-more (x ∷ xs) ys n (inr h) = inr (one-more xs ys n h)
 
+pub one-after : (xs ys : List ℕ) (n : ℕ) → OneOf ys n → OneOf (xs ++ ys) n
+one-after [] ys n h = h
+one-after (x ∷ xs) ys n h = inr (one-after xs ys n h)
+
 pub one-last : (xs : List ℕ) (n : ℕ) → OneOf (xs ++ n ∷ []) n
-one-last [] n = inl refl
-one-last (x ∷ xs) n = inr (one-last xs n)
+one-last xs n = one-after xs (n ∷ []) n (inl refl)
+
+-- the test of it, and that a number which is none of these is another than one of these
+abbrev pub isOne : List ℕ → ℕ → Bool
+isOne [] n = false
+isOne (x ∷ xs) n = eqb n x || isOne xs n
+
+one-tested : (xs : List ℕ) (n : ℕ) → OneOf xs n → isOne xs n ≡ true
+one-tested [] n h = absurd h
+one-tested (x ∷ xs) n (inl e) = or-left (eqb n x) (isOne xs n) (eq-eqb n x e)
+one-tested (x ∷ xs) n (inr h) = or-right (eqb n x) (isOne xs n) (one-tested xs n h)
+
+pub one-not : (xs : List ℕ) (n m : ℕ) → OneOf xs n → isOne xs m ≡ false → n ≢ m
+one-not xs n m h e q = true≢false (sym (one-tested xs n h) ∙ ap (isOne xs) q ∙ e)
 
 -- ---- a fault has one of these numbers
 
@@ -58,12 +76,17 @@ only-more xs ys f h c e = one-more xs ys (causeNumber c) (h c e)
 
 -- ---- the causes 1 to 6
 
-unread-one : (u : Unread) → OneOf opening (causeNumber (Unreadable u))
-unread-one = unread-number (OneOf opening) (inl refl) (inr (inl refl)) (inr (inr (inl refl))) (inr (inr (inr (inl refl))))
+pub unread-one : (u : Unread) → OneOf reading (causeNumber (Unreadable u))
+unread-one = unread-number (OneOf reading) (inl refl) (inr (inl refl)) (inr (inr (inl refl))) (inr (inr (inr (inl refl))))
 
 fault-only : (s : List ℕ) → Only opening (faultOf s)
 fault-only s =
-    every-open (λ (c : Cause). OneOf opening (causeNumber c)) s (λ u _. unread-one u) (λ i _. inr (inr (inr (inr (inl refl))))) (λ i _. inr (inr (inr (inr (inr (inl refl))))))
+    every-open (λ (c : Cause). OneOf opening (causeNumber c)) s (λ u _. one-more reading circles (causeNumber (Unreadable u)) (unread-one u))
+    (λ i _. one-after reading circles 5 (inl refl))
+    (λ i _. one-after reading circles 6 (inr (inl refl)))
+  where
+    circles : List ℕ
+    circles = 5 ∷ 6 ∷ []
 
 -- and one cause more
 then-only : (s : List ℕ) (b : Bool) (d : Cause) → Only (opening ++ causeNumber d ∷ []) (orCause (faultOf s) b d)
@@ -111,13 +134,13 @@ overload-only s n = then-only s (ltb n 24) (Short 24)
 pub kind-only : (s : List ℕ) (kind n needed : ℕ) → Only (opening ++ 8 ∷ 9 ∷ 7 ∷ []) (kindFault s kind n needed)
 unfolding overCause
 kind-only s kind n needed =
-    let L = opening ++ 8 ∷ 9 ∷ 7 ∷ [] in
+    let M : List ℕ = 8 ∷ 9 ∷ 7 ∷ [] in
+    let L : List ℕ = opening ++ M in
     only-cause L _ _ _
     (only-cause L _ _ _
-    (only-cause L _ _ _ (only-more opening (8 ∷ 9 ∷ 7 ∷ []) (faultOf s) (fault-only s))
-    (inr (inr (inr (inr (inr (inr (inl refl))))))))
-    (inr (inr (inr (inr (inr (inr (inr (inl refl)))))))))
-    (inr (inr (inr (inr (inr (inr (inr (inr (inl refl)))))))))
+    (only-cause L _ _ _ (only-more opening M (faultOf s) (fault-only s)) (one-after opening M 8 (inl refl)))
+    (one-after opening M 9 (inr (inl refl))))
+    (one-after opening M 7 (inr (inr (inl refl))))
 
 flow-only : (s : List ℕ) (kind n : ℕ) → Only (opening ++ 8 ∷ 9 ∷ 7 ∷ []) (flowFault s kind n)
 unfolding flowFault

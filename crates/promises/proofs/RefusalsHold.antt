@@ -29,28 +29,30 @@ use Rattle.planner.proofs.OpenLaws.{opens-readable, every-open}
 use Rattle.planner.proofs.QuotedNeeds.{count-in, kinds-in}
 use Rattle.planner.proofs.SheetFaults.{is-kind, not-kind, kind-none, kind-short, kind-over}
 use Rattle.promises.specs.Ours.{ours}
+use Rattle.promises.specs.EveryInput.{OneOf, reading}
 use Rattle.promises.specs.PriceList.{Exceeds, Enough}
 use Rattle.promises.specs.Refusals.{Unreadables, Refusals, RefusalSentence}
+use Rattle.promises.proofs.EveryInputHolds.{one-more, one-not}
 use Rattle.promises.proofs.CircleFaults.{opens-when, unreadable-means, means-unreadable}
 use Rattle.promises.proofs.OverloadShown.{over-when, enough-not}
 use Rattle.promises.proofs.CircleCauses.{every-gives, fault-gives, heads}
 
--- ---- causes 1 to 4
+-- ---- the reader's causes
 
 -- a fault of the file with such a number is the reader's
-is-unread : (s : List ℕ) (n : ℕ) (values : List ℕ) → n ≤ 4 → Every (λ (c : Cause). numbersOf c ≡ n ∷ values → (u : Unread) × (c ≡ Unreadable u)) (faultOf s)
+is-unread : (s : List ℕ) (n : ℕ) (values : List ℕ) → OneOf reading n → Every (λ (c : Cause). numbersOf c ≡ n ∷ values → (u : Unread) × (c ≡ Unreadable u)) (faultOf s)
 is-unread s n values h =
     every-open (λ (c : Cause). numbersOf c ≡ n ∷ values → (u : Unread) × (c ≡ Unreadable u)) s (λ u _ e. (u, refl))
-    (λ i _ e. absurd (omega (arith, h, heads e)))
-    (λ i _ e. absurd (omega (arith, h, heads e)))
+    (λ i _ e. absurd (one-not reading n 5 h refl (sym (heads e))))
+    (λ i _ e. absurd (one-not reading n 6 h refl (sym (heads e))))
 
 unreadables : (s : List ℕ) → Unreadables ours s
 unreadables s =
     record {
       every = λ u e. every-gives s (Unreadable u) (means-unreadable s u e);
-      some = λ n values p q g.
-          let w = fault-gives n values p (omega (arith, q)) s g in
-          let v = is-unread s n values q (w .0) (w .1) (w .2) in
+      some = λ n values one g.
+          let w = fault-gives n values (one-more reading (5 ∷ 6 ∷ []) n one) s g in
+          let v = is-unread s n values one (w .0) (w .1) (w .2) in
           (v .0, unreadable-means s (v .0) (w .1 ∙ ap Refused (v .1)), sym (ap numbersOf (v .1)) ∙ w .2);
     }
 

@@ -1,7 +1,8 @@
 -- CHANGE 1 OF DOCUMENT 02 HOLDS OF OURS: `sheet-keeps`. Assumes nothing.
-use mathlib.Core.Path.{_≡_, sym, subst, _∙_}
+use mathlib.Core.Path.{_≡_, refl, sym, subst, _∙_}
+use mathlib.Core.Bool.{false}
 use mathlib.Core.List.{List, [], _∷_, _++_}
-use mathlib.Core.Logic.{inl, inr}
+use mathlib.Core.Logic.{_≢_}
 use Prim.Native.Nat.{ℕ, _+_, _-_, _≤_, _<_}
 use native.Mathlib.Omega.{arith}
 use lib.ListN.{length, drop}
@@ -27,13 +28,13 @@ use Rattle.planner.proofs.OutputLaws.{output-refused, output-is-refused}
 use Rattle.planner.proofs.QuotedNeeds.{count-in, kinds-in}
 use Rattle.planner.proofs.SheetFaults.{not-kind, kind-none, kind-short, kind-over, sheet-kind, flow-before, flow-from, sheet-before, sheet-from}
 use Rattle.promises.specs.Ours.{ours, ourSheet}
-use Rattle.promises.specs.EveryInput.{OneOf, opening}
+use Rattle.promises.specs.EveryInput.{opening}
 use Rattle.promises.specs.PriceList.{Enough}
 use Rattle.promises.specs.Sheet.{Printed, Sheets, SheetSentence}
 use Rattle.promises.proofs.CircleFaults.{opens-when}
 use Rattle.promises.proofs.OverloadShown.{over-when, enough-not}
 use Rattle.promises.proofs.AnswersWhen.{out-numbers, flow-left}
-use Rattle.promises.proofs.EveryInputHolds.{one-last, Only, only-cause, only-more, kind-only, output-by, kept}
+use Rattle.promises.proofs.EveryInputHolds.{isOne, one-last, one-not, Only, only-cause, only-more, kind-only, output-by, kept}
 use Rattle.promises.proofs.RefusalsHold.{given, two, there, seven}
 use Rattle.promises.proofs.EqualFlowsHold.{equal-sheets}
 use Rattle.promises.proofs.SheetPrinted.{printed-front}
@@ -45,17 +46,6 @@ unfolding sheetFault
 sheet-only s kind page n =
     let L = opening ++ 8 ∷ 9 ∷ 7 ∷ [] in
     only-cause (L ++ 11 ∷ []) (kindFault s kind n pageBytes) _ _ (only-more L (11 ∷ []) (kindFault s kind n pageBytes) (kind-only s kind n pageBytes)) (one-last L 11)
-
--- ---- 1 to 6
-
-opening-low : (n : ℕ) → OneOf opening n → n ≤ 6
-opening-low n (inl e) = omega arith
-opening-low n (inr (inl e)) = omega arith
-opening-low n (inr (inr (inl e))) = omega arith
-opening-low n (inr (inr (inr (inl e)))) = omega arith
-opening-low n (inr (inr (inr (inr (inl e))))) = omega arith
-opening-low n (inr (inr (inr (inr (inr (inl e)))))) = omega arith
-opening-low n (inr (inr (inr (inr (inr (inr e)))))) = absurd e
 
 -- ---- a plan that opens
 
@@ -102,11 +92,11 @@ sheet-keeps =
           kept (sheetFault s kind page (length out)) (sheetPages s kind)
           (sheetPage (recordBytes (planIn s) (kind - 1)) (startNumbers s) (flowCount (planIn s) (kind - 1)) kind page) out;
       opens = λ s kind page n lent c one.
-          let low = opening-low (causeNumber c) one in (
+          let other : (n : ℕ) → isOne opening n ≡ false → causeNumber c ≢ n = λ n. one-not opening (causeNumber c) n one in (
             (λ e. output-refused (sheetFault s kind page n) c (sheetPages s kind)
-                (sheet-before s c kind page n (flow-from s c low kind lent (output-is-refused (flowFault s kind lent) (flowCount (planIn s) (kind - 1)) c e)))),
+                (sheet-before s c kind page n (flow-from s c (other 7 refl) (other 8 refl) (other 9 refl) kind lent (output-is-refused (flowFault s kind lent) (flowCount (planIn s) (kind - 1)) c e)))),
             (λ e. output-refused (flowFault s kind lent) c (flowCount (planIn s) (kind - 1))
-                (flow-before s c kind lent (sheet-from s c low kind page n (output-is-refused (sheetFault s kind page n) (sheetPages s kind) c e)))),
+                (flow-before s c kind lent (sheet-from s c (other 7 refl) (other 8 refl) (other 9 refl) (other 11 refl) kind page n (output-is-refused (sheetFault s kind page n) (sheetPages s kind) c e)))),
           );
       sheets = λ s small r free. sheets-open s small (opens-when s .1 (r, free));
       same = λ s t r q e. equal-sheets s t r q e;

@@ -18,9 +18,13 @@ abbrev pub OneOf : List ℕ → ℕ → Type 0
 OneOf [] n = ⊥
 OneOf (x ∷ xs) n = (n ≡ x) ⊎ OneOf xs n
 
--- "Check order: 1; then records in file order, 2, 3, 4 within each; then 5, 6.": the numbers that every operation can give
+-- "Check order: 1; then records in file order, 2, 3, 4 within each": the reader's numbers
+abbrev pub reading : List ℕ
+reading = 1 ∷ 2 ∷ 3 ∷ 4 ∷ []
+
+-- "then 5, 6.": the numbers that every operation can give
 abbrev pub opening : List ℕ
-opening = 1 ∷ 2 ∷ 3 ∷ 4 ∷ 5 ∷ 6 ∷ []
+opening = reading ++ 5 ∷ 6 ∷ []
 
 -- an operation that writes gives "a result or a numbered refusal", by one of these numbers, whatever the bytes and however much is lent
 abbrev pub AnswersBy : List ℕ → Writing → Type 0

@@ -13,6 +13,7 @@ use Rattle.plan.specs.declared.Answer.the-variants as answer
 use Rattle.planner.specs.Answers.{unreadNumbers, verdictNumbers, outputNumbers}
 use Rattle.planner.specs.File.{flowLength}
 use Rattle.promises.specs.Planner.{Planner}
+use Rattle.promises.specs.EveryInput.{OneOf, reading}
 use Rattle.promises.specs.Paper.{EveryGives, SomeGives}
 use Rattle.promises.specs.PriceList.{Exceeds, Enough}
 
@@ -20,7 +21,7 @@ use Rattle.promises.specs.PriceList.{Exceeds, Enough}
 -- operation gives, and none gives one of these numbers otherwise
 pub record Unreadables (P : Planner) (s : List ℕ) : Type 0 where
   pub every : (u : Unread) → answerOf s ≡ answer.Refused u → EveryGives P s (unreadNumbers u)
-  pub some : (n : ℕ) (values : List ℕ) → 1 ≤ n → n ≤ 4 → SomeGives P s (n ∷ values) → (u : Unread) × (answerOf s ≡ answer.Refused u) × (unreadNumbers u ≡ n ∷ values)
+  pub some : (n : ℕ) (values : List ℕ) → OneOf reading n → SomeGives P s (n ∷ values) → (u : Unread) × (answerOf s ≡ answer.Refused u) × (unreadNumbers u ≡ n ∷ values)
 
 -- of a readable plan without a circle
 pub record Refusals (P : Planner) (s : List ℕ) : Type 0 where
