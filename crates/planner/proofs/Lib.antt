@@ -1,6 +1,6 @@
 -- Laws of the definitions of `specs/`, which the proofs of the code and the crate `promises` go by.
 --
--- FaultLaws (causes in turn), OutputLaws (answers, lent memory, and how an operation ends), OpenLaws (the causes 1 to 6), FileOrders (arcs, orders and
+-- FaultLaws (causes in turn), OutputLaws (answers, lent memory, and how an operation ends), OpenLaws (the causes of the opening), FileOrders (arcs, orders and
 -- starts, in the file's own terms), QuotedNeeds (needs and overload), FlowUnits (flows), and for each operation one: VerdictLaws (Verdict), NeedsLaws (Needs),
 -- StartsLaws, FlowLaws (Flow, and the causes of the operations on one kind), SheetLaws (Sheet), SheetFaults (which refusal when, of Flow and Sheet), OverloadLaws (Overload),
 -- CrewCheckLaws (Crew check); RefusalBounds (what a refusal tells is small).

@@ -1,4 +1,4 @@
--- What a plan that meets none of the causes 1 to 6 is, and what the code holds of it. Assumes nothing.
+-- What a plan that opens is, with no cause of the reader's and no circle, and what the code holds of it. Assumes nothing.
 use mathlib.Core.Path.{_≡_, refl, sym, ap, _∙_}
 use mathlib.Core.Bool.{true, false}
 use mathlib.Core.List.{List}
@@ -113,7 +113,7 @@ opens-small s small e i =
     let q : getD (planIn s .duration) i 0 ≡ getD (planOf s .duration) i 0 = ap (λ (x : Plan). getD (x .duration) i 0) (plan-in s (opens-readable s e)) in
     omega (arith, durations-small s small i)
 
--- what holds of each of the causes 1 to 6
+-- what holds of each cause of the opening
 pub every-open : (P : Cause → Type 0) (s : List ℕ) → ((u : Unread) → answerOf s ≡ answer.Refused u → P (Unreadable u)) → ((i : ℕ) → i < elements → P (JobCircle (i + 1)))
     → ((i : ℕ) → i < elements → P (PlanCircle (i + 1))) → Every P (faultOf s)
 unfolding faultOf readFault
@@ -127,7 +127,7 @@ every-open P s unread job whole =
     round : (f : Fault) (o : Order) (cause : ℕ → Cause) → Every P f → ((i : ℕ) → i < elements → P (cause (i + 1))) → Every P (orCircle f o cause)
     round f o cause h each = every-turn P f (ltb (circleOf o) elements) (cause (circleOf o + 1)) h (λ _ e. each (circleOf o) (ltb-true (circleOf o) elements e))
 
--- what holds of the numbers 1 to 4 holds of the number of whatever the reader found
+-- what holds of the reader's numbers holds of the number of whatever it found
 pub unread-number : (P : ℕ → Type 0) → P 1 → P 2 → P 3 → P 4 → (u : Unread) → P (causeNumber (Unreadable u))
 unread-number P one two three four Length = one
 unread-number P one two three four (RecordType p) = two

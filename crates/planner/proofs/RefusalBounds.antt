@@ -57,7 +57,7 @@ SmallFault f = Every (λ (c : Cause). Small (refusalOf c)) f
 small-turn : (f : Fault) (t : Bool) (c : Cause) → SmallFault f → (isFine f ≡ true → t ≡ true → Small (refusalOf c)) → SmallFault (orCause f t c)
 small-turn = every-turn (λ (c : Cause). Small (refusalOf c))
 
--- ---- the causes 1 to 6
+-- ---- the causes of the opening
 
 pub open-refuses : (s : List ℕ) → SmallFault (faultOf s)
 open-refuses s =

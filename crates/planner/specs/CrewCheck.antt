@@ -24,7 +24,7 @@ someZero xs = ltb (first (length xs) (λ i. eqb (getD xs i 0) 0)) (length xs)
 unfoldable pub badLists : ℕ → List ℕ → List ℕ → Bool
 badLists m starts worked = not (eqb (length starts) m) || (not (eqb (length worked) m) || someZero worked)
 
--- "Crew check: 10.": the causes 1 to 6, then 10, which returns m
+-- "Crew check: 10.": the causes of the opening, then 10, which returns m
 unfoldable pub crewCheckFault : List ℕ → List ℕ → List ℕ → Fault
 crewCheckFault s starts worked = orCause (faultOf s) (badLists (planIn s .count) starts worked) (Lists (planIn s .count))
 

@@ -1,4 +1,4 @@
--- What every operation does first, in two steps: the reading of the file, with its causes 1 to 4, and the two orders, with their causes 5 and 6. Assumes nothing.
+-- What every operation does first, in two steps: the reading of the file, with the reader's causes, and the two orders, with their causes 5 and 6. Assumes nothing.
 use mathlib.Core.Path.{_≡_}
 use mathlib.Core.Bool.{true}
 use mathlib.Core.List.{List}
@@ -48,7 +48,7 @@ abbrev pub unreadFault : Answer → Fault
 unreadFault answer.Readable = Fine
 unreadFault (answer.Refused c) = Refused (Unreadable c)
 
--- the first step: 1 to 4
+-- the first step: the reader's cause
 unfoldable pub readFault : List ℕ → Fault
 readFault s = unreadFault (answerOf s)
 

@@ -17,7 +17,7 @@ pub use ops::verdict::verdict;
 
 // Why an operation refuses, with the cause's own data. Activities and kinds count from 1.
 pub enum Cause {
-    // The file is not readable, 1 to 4: the reader's cause.
+    // The file is not readable: the reader's cause.
     Unreadable(plan::Cause),
     // A circle in the job order, 5: the lowest activity before itself there.
     JobCircle(usize),

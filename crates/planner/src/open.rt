@@ -8,7 +8,7 @@ use crate::faults::or_cause;
 use order::ELEMENTS;
 use order::Order;
 
-// A plan that was read, and the first of the causes 1 to 4.
+// A plan that was read, and the reader's cause.
 pub struct Read {
     pub plan: plan::Plan,
     pub fault: Fault,

@@ -37,7 +37,7 @@ module _ (s : List ℕ) where
   unfolding startsFault
   fault-none n o l = short-none (faultOf s) n (needed s) o l
 
-  -- the causes 1 to 6
+  -- the causes of the opening
   pub starts-refused : (n : ℕ) (c : Cause) → faultOf s ≡ Refused c → startsAnswer s n ≡ output.Refused c
   starts-refused n c e = output-refused (startsFault s n) c (needed s) (fault-before n c e)
 
@@ -73,7 +73,7 @@ module _ (s starts worked : List ℕ) where
   unfolding crewCheckFault
   by-fault e = ap (λ (f : Fault). checkedOf f (crewFound s starts worked)) e
 
-  -- the causes 1 to 6
+  -- the causes of the opening
   pub crew-refused : (c : Cause) → faultOf s ≡ Refused c → crewCheckAnswer s starts worked ≡ crew.Refused c
   crew-refused c e = by-fault (cause-before (faultOf s) (badLists (planIn s .count) starts worked) (Lists (planIn s .count)) c e)
 

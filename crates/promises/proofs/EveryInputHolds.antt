@@ -74,7 +74,7 @@ only-cause xs f b d h o = every-turn (λ (c : Cause). OneOf xs (causeNumber c)) 
 pub only-more : (xs ys : List ℕ) (f : Fault) → Only xs f → Only (xs ++ ys) f
 only-more xs ys f h c e = one-more xs ys (causeNumber c) (h c e)
 
--- ---- the causes 1 to 6
+-- ---- the causes of the opening
 
 pub unread-one : (u : Unread) → OneOf reading (causeNumber (Unreadable u))
 unread-one = unread-number (OneOf reading) (inl refl) (inr (inl refl)) (inr (inr (inl refl))) (inr (inr (inr (inl refl))))

@@ -5,7 +5,7 @@
 -- file's own terms), FileFlows (flows) and OverloadShown (overload).
 -- CHANGE 1 of document 02, Sheet, is SheetHolds; it rests on SheetAnswers (what Sheet answers and leaves) and SheetPrinted (what is on the page).
 -- EqualFlowsHold: plans that say the same get equal flows and sheets. CasesHold: the starred cases, of the plans that CasePlans opens. HollowFail: the hollow planners keep no price list.
--- What the other answers mean, in the file's own terms: CircleFaults (causes 1 to 6), CrewCheckMeaning (the crew check), AnswersWhen (which case has which answer).
+-- What the other answers mean, in the file's own terms: CircleFaults (the opening's causes), CrewCheckMeaning (the crew check), AnswersWhen (which case has which answer).
 pub mod FileNeeds
 pub mod FileFlows
 pub mod OverloadShown

@@ -31,7 +31,7 @@ abbrev pub oursBut : (List ℕ → Decision) → Writing → (ℕ → Writing) �
 oursBut verdict needs flow =
     record { verdict = verdict; needs = needs; starts = ours .starts; overload = ours .overload; flow = flow; crew-check = ours .crew-check }
 
--- the verdict on a plan without the causes 1 to 6 by a test of its bytes: 7, whatever it shows, or accepted
+-- the verdict on a plan that opens by a test of its bytes: 7, whatever it shows, or accepted
 abbrev pub verdictBy : (List ℕ → Bool) → (List ℕ → Cause) → List ℕ → Decision
 verdictBy test seven s = verdictOf (orCause (faultOf s) (test s) (seven s)) (planIn s .count) (planIn s .kinds)
 

@@ -79,7 +79,7 @@ pub record SheetSentence (P : Planner) (S : SheetOperation) : Type 0 where
   -- demand 1 of document 00, of this operation: a result or a numbered refusal, and a refusal leaves every lent byte as before
   pub one : (kind page : ℕ) → AnswersBy (opening ++ 8 ∷ 9 ∷ 7 ∷ 11 ∷ []) (S kind page)
   pub kept : (kind page : ℕ) → KeepsLent (S kind page)
-  -- 1 to 6 it gives exactly where Flow gives them, with the same values
+  -- the numbers of the opening it gives exactly where Flow gives them, with the same values
   pub opens : (s : List ℕ) (kind page n lent : ℕ) (c : Cause) → OneOf opening (causeNumber c)
       → ((P .flow kind .answer s lent ≡ Refused c) → (S kind page .answer s n ≡ Refused c)) × ((S kind page .answer s n ≡ Refused c) → (P .flow kind .answer s lent ≡ Refused c))
   pub sheets : (s : List ℕ) → AreBytes s → Readable s → Acyclic (FileArc s) → Sheets P S s
