@@ -1,36 +1,25 @@
-// What the cases of counter.c stand on: counting checks, plans to be tried, and lent memory that shows where it was written.
+// What the cases stand on: counting checks, plans to be tried, lent memory that shows where it was written, and what a whole plan is expected to give.
 #ifndef CHECKS_H
 #define CHECKS_H
 
 #include "yaffledesk.h"
 
 #include <inttypes.h>
-#include <stdarg.h>
 #include <stdio.h>
-#include <stdlib.h>
 #include <string.h>
 
-static unsigned passed, failed;
+enum { RECORD = YAFFLEDESK_RECORD_BYTES, PAGE = YAFFLEDESK_SHEET_BYTES };
+// Places in plan A: activities are records 0 to 3, the crew is record 4, the extra arcs are records 5 and 6.
+enum { CREW = 4 * RECORD, ARC_1_2 = 5 * RECORD, ARC_2_4 = 6 * RECORD };
+
+// The cases, each a file of its own.
+void refusals(void);
+void results(void);
 
 // Counts one check, and prints a line where it fails.
-static void check(int holds, const char *format, ...) {
-    if (holds) {
-        passed++;
-        return;
-    }
-    failed++;
-    va_list values;
-    va_start(values, format);
-    printf("FAIL: ");
-    vprintf(format, values);
-    printf("\n");
-    va_end(values);
-}
-
-static void check_answer(const char *name, const char *what, uint64_t got, unsigned number, uint64_t rest) {
-    check(YAFFLEDESK_NUMBER(got) == number && YAFFLEDESK_REST(got) == rest,
-          "%s, %s: number %u with rest %" PRIu64 ", not %u with %" PRIu64, name, what, YAFFLEDESK_NUMBER(got), YAFFLEDESK_REST(got), number, rest);
-}
+extern unsigned passed, failed;
+void check(int holds, const char *format, ...);
+void check_answer(const char *name, const char *what, uint64_t got, unsigned number, uint64_t rest);
 
 // A plan, with room for one byte and one record more than the longest.
 typedef struct {
@@ -40,95 +29,40 @@ typedef struct {
 } plan_file;
 
 // The plan examples/NAME.plan. The tests mean nothing without it, so a missing file ends them.
-static plan_file example(const char *name) {
-    plan_file plan = {name, 0, {0}};
-    char path[64];
-    snprintf(path, sizeof path, "examples/%s.plan", name);
-    FILE *file = fopen(path, "rb");
-    if (file == NULL) {
-        printf("%s: no such file\n%u passed, %u failed\n", path, passed, failed + 1);
-        exit(1);
-    }
-    plan.len = fread(plan.bytes, 1, sizeof plan.bytes, file);
-    fclose(file);
-    return plan;
-}
-
-static plan_file renamed(plan_file plan, const char *name) {
-    plan.name = name;
-    return plan;
-}
-
-static plan_file with_byte(plan_file plan, size_t at, uint8_t value) {
-    plan.bytes[at] = value;
-    return plan;
-}
-
-static plan_file with_length(plan_file plan, size_t len) {
-    plan.len = len;
-    return plan;
-}
-
-static void append(plan_file *plan, uint8_t type, uint8_t first, uint8_t second) {
-    uint8_t *record = plan->bytes + plan->len;
-    memset(record, 0, YAFFLEDESK_RECORD_BYTES);
-    record[0] = type, record[1] = first, record[2] = second;
-    plan->len += YAFFLEDESK_RECORD_BYTES;
-}
+plan_file example(const char *name);
+plan_file renamed(plan_file plan, const char *name);
+plan_file with_byte(plan_file plan, size_t at, uint8_t value);
+plan_file with_length(plan_file plan, size_t len);
+void append(plan_file *plan, uint8_t type, uint8_t first, uint8_t second);
+// A plan of so many activities of duration 1 without demands, and a crew of one kind.
+plan_file idle_plan(unsigned activities);
 
 // Lent memory: longer than any operation needs, filled with a pattern before each call, and never lent whole.
-enum { PATTERN = 0xA5, LENT_NUMBERS = YAFFLEDESK_MOST_ACTIVITIES + 8, LENT_BYTES = 51480 + 64 };
-static uint32_t lent_numbers[LENT_NUMBERS];
-static uint8_t lent_bytes[LENT_BYTES];
-
-static void fresh_memory(void) {
-    memset(lent_numbers, PATTERN, sizeof lent_numbers);
-    memset(lent_bytes, PATTERN, sizeof lent_bytes);
-}
-
-// Nothing was written but for the first so many numbers and bytes.
-static void check_unchanged(const char *name, const char *what, size_t numbers, size_t bytes) {
-    const uint8_t *as_bytes = (const uint8_t *)lent_numbers;
-    size_t wrong = 0;
-    for (size_t i = numbers * sizeof *lent_numbers; i < sizeof lent_numbers; i++) wrong += as_bytes[i] != PATTERN;
-    for (size_t i = bytes; i < sizeof lent_bytes; i++) wrong += lent_bytes[i] != PATTERN;
-    check(wrong == 0, "%s, %s: %zu bytes of lent memory were changed", name, what, wrong);
-}
+enum { LENT_NUMBERS = YAFFLEDESK_MOST_ACTIVITIES + 8, LENT_BYTES = 51480 + 64 };
+extern uint32_t lent_numbers[LENT_NUMBERS];
+extern uint8_t lent_bytes[LENT_BYTES];
 
 // The operations that write, on fresh memory, each with what it may not have changed: everything where it did not answer 0.
-static uint64_t needs(const plan_file *plan, size_t lent) {
-    fresh_memory();
-    uint64_t answer = yaffledesk_needs(plan->bytes, plan->len, lent_numbers, lent);
-    check_unchanged(plan->name, "Needs", YAFFLEDESK_NUMBER(answer) ? 0 : YAFFLEDESK_REST(answer), 0);
-    return answer;
-}
+uint64_t needs(const plan_file *plan, size_t lent);
+uint64_t starts(const plan_file *plan, size_t lent);
+uint64_t flow(const plan_file *plan, uint64_t kind, size_t lent);
+uint64_t sheet(const plan_file *plan, uint64_t kind, uint64_t page, size_t lent);
+uint64_t overload(const plan_file *plan, size_t lent);
 
-static uint64_t starts(const plan_file *plan, size_t lent) {
-    fresh_memory();
-    uint64_t answer = yaffledesk_starts(plan->bytes, plan->len, lent_numbers, lent);
-    check_unchanged(plan->name, "Starts", YAFFLEDESK_NUMBER(answer) ? 0 : YAFFLEDESK_REST(answer), 0);
-    return answer;
-}
+// The crew check with lists as long as the plan has activities.
+uint64_t crew(const plan_file *plan, const uint32_t *from, const uint32_t *worked);
+#define LIST(...) ((const uint32_t[]){__VA_ARGS__})
 
-static uint64_t flow(const plan_file *plan, uint64_t kind, size_t lent) {
-    fresh_memory();
-    uint64_t answer = yaffledesk_flow(plan->bytes, plan->len, kind, lent_bytes, lent);
-    check_unchanged(plan->name, "Flow", 0, YAFFLEDESK_NUMBER(answer) ? 0 : YAFFLEDESK_RECORD_BYTES * YAFFLEDESK_REST(answer));
-    return answer;
-}
-
-static uint64_t sheet(const plan_file *plan, uint64_t kind, uint64_t page, size_t lent) {
-    fresh_memory();
-    uint64_t answer = yaffledesk_sheet(plan->bytes, plan->len, kind, page, lent_bytes, lent);
-    check_unchanged(plan->name, "Sheet", 0, YAFFLEDESK_NUMBER(answer) ? 0 : YAFFLEDESK_SHEET_BYTES);
-    return answer;
-}
-
-static uint64_t overload(const plan_file *plan, size_t lent) {
-    fresh_memory();
-    uint64_t answer = yaffledesk_overload(plan->bytes, plan->len, lent_bytes, lent);
-    check_unchanged(plan->name, "Overload", 0, YAFFLEDESK_NUMBER(answer) ? 0 : YAFFLEDESK_RECORD_BYTES * YAFFLEDESK_REST(answer));
-    return answer;
-}
+// Every operation refuses the plan alike, whatever it is lent and whichever kind it is asked for.
+void check_refused(plan_file plan, unsigned number, uint64_t rest);
+void check_accepted(const plan_file *plan, unsigned m);
+// An overloaded plan: the 7 of Verdict and Flow, the set, and the overload record byte by byte.
+void check_overloaded(const plan_file *plan, size_t m, uint8_t kind, uint8_t need, uint8_t size, uint8_t set);
+// Needs and Starts of a plan of one kind, lent exactly what they need and one number less.
+void check_numbers(const plan_file *plan, uint32_t need, const uint32_t *expected, size_t count);
+// A flow of kind 1 that is the only one: each record's kind, from, to, units and added mark, as the report prints them.
+void check_flow(const plan_file *plan, size_t lent, const uint8_t expected[][5], size_t count);
+// Page 1 of the sheet of kind 1, which has no other: its lines without the blanks behind them, and further ones that are blank.
+void check_page(const plan_file *plan, size_t lent, const char *const *lines, size_t count);
 
 #endif
