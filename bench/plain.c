@@ -12,7 +12,8 @@ static int spare(const uint8_t *r, int from, int to) {
 }
 
 static int read_activity(const uint8_t *r, size_t place, plain_plan *p) {
-    if (place >= 64 || r[1] != place + 1 || half(r + 2) == 0) return 3;
+    if (place >= 64 || r[1] != place + 1) return 3;
+    if (half(r + 2) == 0 && spare(r, 4, 20)) return 12; // a milestone that demands something
     if (spare(r, 20, 24)) return 4;
     p->duration[place] = half(r + 2);
     for (int k = 0; k < 8; k++) p->demand[64 * k + place] = half(r + 4 + 2 * k);

@@ -111,17 +111,18 @@ template <class NeedOf> PlanFile file_of(const Family &family, uint64_t seed, in
     return file;
 }
 
-// A damaged copy: one byte of any value, an arc turned around, or the end cut off.
+// A damaged copy: one byte of any value, an arc turned around, the end cut off, or an activity's duration 0.
 inline std::vector<uint8_t> damaged(const PlanFile &file, Random &random) {
     std::vector<uint8_t> bytes = file.bytes;
     const uint32_t length = uint32_t(bytes.size()), arcs = length / RECORD - file.count - 1;
-    const uint32_t how = random.below(3);
+    const uint32_t how = random.below(4);
     if (how == 0) bytes[random.below(length)] = uint8_t(random.below(256));
     if (how == 1 && arcs > 0) {
         uint8_t *record = &bytes[(file.count + 1 + random.below(arcs)) * RECORD];
         std::swap(record[1], record[2]);
     }
     if (how == 2) bytes.resize(random.below(2) == 0 ? random.below(length) : random.below(length / RECORD) * RECORD);
+    if (how == 3) put_half(&bytes[random.below(uint32_t(file.count)) * RECORD + 2], 0);
     return bytes;
 }
 #endif

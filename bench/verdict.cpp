@@ -150,8 +150,8 @@ void stop_at(const std::string &fault, int family, uint64_t seed) {
     std::exit(1);
 }
 
-// How many files got each number, 0 to 7.
-using Tally = std::array<int, 8>;
+// How many files got each number.
+using Tally = std::array<int, 256>;
 
 // The pipeline is to refuse what the proved function refuses: a damaged copy of each file gets the same answer from both. Counts the numbers given.
 void compare_damaged(int family, const PlanFile &file, Tally &given) {
@@ -233,8 +233,9 @@ int bench(bool full) {
     const Tally &given = outcome.given, &given_damaged = outcome.given_damaged;
     std::printf("\nspread: of the median ratios of the tenths of the files, largest over least; *: measured again for being above %.2f\n", SILLY);
     std::printf("%d files accepted, %d overloaded: the answers of all repetitions, all needs and all sets as they should be\n", given[0], given[7]);
-    std::printf("damaged copies, answered alike: %d accepted; refused for causes 1 to 7:", given_damaged[0]);
-    for (int cause = 1; cause < 8; cause++) std::printf(" %d", given_damaged[cause]);
+    std::printf("damaged copies, answered alike, number:count:");
+    for (size_t number = 0; number < given_damaged.size(); number++)
+        if (given_damaged[number] > 0) std::printf(" %zu:%d", number, given_damaged[number]);
     std::printf("\n%d families, least ratio to LEMON made anew %.2f, to LEMON kept %.2f", COUNT, outcome.least, outcome.least_kept);
     if (full) return std::printf("\n"), 0;
     const bool met = outcome.least >= WANTED && outcome.least_kept >= WANTED_KEPT;

@@ -23,6 +23,7 @@ static unsigned print_verdict(const uint8_t *plan, size_t len) {
     case YAFFLEDESK_BAD_LENGTH: printf("no plan file: not 1 to 2,048 records of 24 bytes\n"); break;
     case YAFFLEDESK_BAD_TYPE: printf("record %lu: its type is unknown or out of order, or the crew is missing\n", rest); break;
     case YAFFLEDESK_BAD_FIELD: printf("record %lu: a field is outside its rule\n", rest); break;
+    case YAFFLEDESK_MILESTONE_DEMAND: printf("record %lu: an activity that takes no time demands workers\n", rest); break;
     case YAFFLEDESK_BAD_SPARE: printf("record %lu: a spare byte is not zero\n", rest); break;
     case YAFFLEDESK_JOB_CIRCLE: printf("the job arcs lead activity %lu back to itself\n", rest); break;
     case YAFFLEDESK_PLAN_CIRCLE: printf("job and extra arcs lead activity %lu back to itself\n", rest); break;

@@ -10,6 +10,9 @@
  *     if (YAFFLEDESK_NUMBER(answer) == YAFFLEDESK_DONE)
  *         printf("accepted, %u activities\n", YAFFLEDESK_ACTIVITIES(answer));
  *
+ * Milestones. An activity of duration 0 in the file is a milestone, and has no demands. It is never at work, so that no flow and no
+ * set names it, and it passes order on as any activity does.
+ *
  * Lent memory. An operation that writes is lent memory as a pointer and a length, and the length counts elements: bytes where
  * the pointer is to uint8_t, numbers where it is to uint32_t. More than needed may be lent. What is written stands at the
  * front, and the rest is left unchanged. Every answer other than 0 leaves all lent memory as it was. The plan, the
@@ -30,27 +33,28 @@ extern "C" {
 /* ---- Numbers of answers ---- */
 
 enum {
-    YAFFLEDESK_DONE = 0,            /* done; each operation says what its rest is */
+    YAFFLEDESK_DONE = 0,              /* done; each operation says what its rest is */
 
-    /* The file itself. Every operation tests these first, in this order; 2 to 4 record by record. */
-    YAFFLEDESK_BAD_LENGTH = 1,      /* length 0, not a multiple of 24, or over 49,152; rest 0 */
-    YAFFLEDESK_BAD_TYPE = 2,        /* type unknown or out of order, or crew record missing; rest: the record's place, from 0; */
-                                    /* where the crew record is missing, the count of records */
-    YAFFLEDESK_BAD_FIELD = 3,       /* a field outside its rule; rest: the record's place */
-    YAFFLEDESK_BAD_SPARE = 4,       /* a spare byte that is not zero; rest: the record's place */
-    YAFFLEDESK_JOB_CIRCLE = 5,      /* a circle in the job order; rest: the lowest activity before itself there */
-    YAFFLEDESK_PLAN_CIRCLE = 6,     /* a circle in the plan order only; rest: the lowest activity before itself there */
+    /* The file's numbers. Every operation tests these first, in this order, and those with a record's place record by record. */
+    YAFFLEDESK_BAD_LENGTH = 1,        /* length 0, not a multiple of 24, or over 49,152; rest 0 */
+    YAFFLEDESK_BAD_TYPE = 2,          /* type unknown or out of order, or crew record missing; rest: the record's place, from 0; */
+                                      /* where the crew record is missing, the count of records */
+    YAFFLEDESK_BAD_FIELD = 3,         /* a field outside its rule; rest: the record's place */
+    YAFFLEDESK_MILESTONE_DEMAND = 12, /* an activity of duration 0 with a demand, of whatever kind; rest: the record's place */
+    YAFFLEDESK_BAD_SPARE = 4,         /* a spare byte that is not zero; rest: the record's place */
+    YAFFLEDESK_JOB_CIRCLE = 5,        /* a circle in the job order; rest: the lowest activity before itself there */
+    YAFFLEDESK_PLAN_CIRCLE = 6,       /* a circle in the plan order only; rest: the lowest activity before itself there */
 
     /* What is asked of the file. Each operation says which of these it gives, and in which order. */
-    YAFFLEDESK_OVERLOADED = 7,      /* the need of a kind exceeds what is available; YAFFLEDESK_OVERLOAD_KIND, _NEED, _SIZE */
-    YAFFLEDESK_NO_SUCH_KIND = 8,    /* kind not 1 to K; rest: K */
-    YAFFLEDESK_TOO_SHORT = 9,       /* lent memory too short; rest: the length needed, in elements */
-    YAFFLEDESK_BAD_LISTS = 10,      /* lists not m long, or a worked duration 0; rest: m */
-    YAFFLEDESK_NO_PAGE = 11,        /* page not 1 to the count of pages; rest: that count */
+    YAFFLEDESK_OVERLOADED = 7,        /* the need of a kind exceeds what is available; YAFFLEDESK_OVERLOAD_KIND, _NEED, _SIZE */
+    YAFFLEDESK_NO_SUCH_KIND = 8,      /* kind not 1 to K; rest: K */
+    YAFFLEDESK_TOO_SHORT = 9,         /* lent memory too short; rest: the length needed, in elements */
+    YAFFLEDESK_BAD_LISTS = 10,        /* lists not m long, a worked duration above 0 of a milestone, or 0 of another activity; rest: m */
+    YAFFLEDESK_NO_PAGE = 11,          /* page not 1 to the count of pages; rest: that count */
 
     /* The two findings of the crew check. */
-    YAFFLEDESK_BROKEN_ARC = 254,    /* a broken arc; YAFFLEDESK_BROKEN_FROM, _TO */
-    YAFFLEDESK_CREW_OVERLOAD = 255  /* more at work than available; YAFFLEDESK_CREW_KIND, _PERIOD */
+    YAFFLEDESK_BROKEN_ARC = 254,      /* a broken arc; YAFFLEDESK_BROKEN_FROM, _TO */
+    YAFFLEDESK_CREW_OVERLOAD = 255    /* more at work than available; YAFFLEDESK_CREW_KIND, _PERIOD */
 };
 
 #define YAFFLEDESK_NUMBER(answer) ((unsigned)((answer) & 255))
@@ -90,36 +94,39 @@ enum {
 
 /* ---- Operations ---- */
 
-/* Is the plan accepted? 0: m + 256 * K. Else 1 to 6, then 7. */
+/* Is the plan accepted? 0: m + 256 * K. Else the file's numbers, then 7. */
 uint64_t yaffledesk_verdict(const uint8_t *plan, size_t len);
 
 /* The set that belongs to the answer 7 of the verdict: bit i - 1 for activity i. No two of its members are ordered, and together
  * they demand exactly the need. 0 where the verdict is not 7; the set of a 7 is never empty. */
 uint64_t yaffledesk_set(const uint8_t *plan, size_t len);
 
-/* Writes the need of each kind from 1 to K. 0: how many numbers were written, K. Else 1 to 6, then 9 (needs K numbers). Never 7. */
+/* Writes the need of each kind from 1 to K. 0: how many numbers were written, K. Else the file's numbers, then 9 (needs K numbers).
+ * Never 7. */
 uint64_t yaffledesk_needs(const uint8_t *plan, size_t len, uint32_t *out, size_t out_len);
 
-/* Writes the earliest starts of activities 1 to m and then of the end. 0: how many numbers were written, m + 1. Else 1 to 6, then
- * 9 (needs m + 1 numbers). Never 7. */
+/* Writes the earliest starts of activities 1 to m and then of the end. 0: how many numbers were written, m + 1. Else the file's
+ * numbers, then 9 (needs m + 1 numbers). Never 7. */
 uint64_t yaffledesk_starts(const uint8_t *plan, size_t len, uint32_t *out, size_t out_len);
 
-/* Writes the flow of a kind as flow records, ascending by from, then to. 0: how many records were written, possibly none. Else 1 to
- * 6, then 8, then 9 (needs YAFFLEDESK_FLOW_BYTES(m) bytes), then 7, for the lowest overloaded kind even if the one asked for fits. */
+/* Writes the flow of a kind as flow records, ascending by from, then to. 0: how many records were written, possibly none. Else the
+ * file's numbers, then 8, then 9 (needs YAFFLEDESK_FLOW_BYTES(m) bytes), then 7, for the lowest overloaded kind even if the one asked
+ * for fits. */
 uint64_t yaffledesk_flow(const uint8_t *plan, size_t len, uint64_t kind, uint8_t *out, size_t out_len);
 
 /* Writes a page of the crew sheet of a kind as text: the records that yaffledesk_flow gives of it, a line each ("Sheets" below says
- * how). Pages count from 1. 0: how many pages the sheet has, 1 or more. Else 1 to 6, then 8, then 9 (needs YAFFLEDESK_SHEET_BYTES
- * bytes), then 7, as yaffledesk_flow gives it, then 11. Kind and page may be any numbers of 64 bits. */
+ * how). Pages count from 1. 0: how many pages the sheet has, 1 or more. Else the file's numbers, then 8, then 9 (needs
+ * YAFFLEDESK_SHEET_BYTES bytes), then 7, as yaffledesk_flow gives it, then 11. Kind and page may be any numbers of 64 bits. */
 uint64_t yaffledesk_sheet(const uint8_t *plan, size_t len, uint64_t kind, uint64_t page, uint8_t *out, size_t out_len);
 
 /* Writes the overload record of an overloaded plan. 0: how many records were written, 1, or 0 where no kind is overloaded. Else
- * 1 to 6, then 9 (needs 24 bytes, whether the plan is overloaded or not). Never 7. */
+ * the file's numbers, then 9 (needs 24 bytes, whether the plan is overloaded or not). Never 7. */
 uint64_t yaffledesk_overload(const uint8_t *plan, size_t len, uint8_t *out, size_t out_len);
 
 /* Does a crew that works these starts and durations keep every arc, and fit what is available? Entry i - 1 of each list is activity
- * i's; the durations are those worked, not the file's. 0: it fits, rest 0. Else 1 to 6, then 10, then 254 with the first broken
- * arc by from, then to, then 255 with the first overloaded period and its lowest overloaded kind. Never 7. Nothing is written. */
+ * i's; the durations are those worked, not the file's: 0 of a milestone, 1 or more of every other activity. 0: it fits, rest 0. Else
+ * the file's numbers, then 10, then 254 with the first broken arc by from, then to, then 255 with the first overloaded period and its
+ * lowest overloaded kind. Never 7. Nothing is written. */
 uint64_t yaffledesk_crew_check(const uint8_t *plan, size_t len, const uint32_t *starts, size_t starts_len,
                                const uint32_t *durations, size_t durations_len);
 

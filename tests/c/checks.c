@@ -20,9 +20,17 @@ void check(int holds, const char *format, ...) {
     va_end(values);
 }
 
+static unsigned seen[256]; // how often each number was an answer
+
 void check_answer(const char *name, const char *what, uint64_t got, unsigned number, uint64_t rest) {
+    seen[YAFFLEDESK_NUMBER(got)]++;
     check(YAFFLEDESK_NUMBER(got) == number && YAFFLEDESK_REST(got) == rest,
           "%s, %s: number %u with rest %" PRIu64 ", not %u with %" PRIu64, name, what, YAFFLEDESK_NUMBER(got), YAFFLEDESK_REST(got), number, rest);
+}
+
+void check_all_seen(void) {
+    for (unsigned number = YAFFLEDESK_DONE; number <= YAFFLEDESK_MILESTONE_DEMAND; number++) check(seen[number] > 0, "number %u was never given", number);
+    check(seen[YAFFLEDESK_BROKEN_ARC] > 0 && seen[YAFFLEDESK_CREW_OVERLOAD] > 0, "a finding of the crew check was never given");
 }
 
 // ---- Plans ----
@@ -149,6 +157,11 @@ void check_refused(plan_file plan, unsigned number, uint64_t rest) {
         check_answer(plan.name, "Sheet of kind 1, page 1", sheet(&plan, 1, 1, lent ? PAGE : 0), number, rest);
         check_answer(plan.name, "Crew check", yaffledesk_crew_check(plan.bytes, plan.len, list, lent, list, lent), number, rest);
     }
+}
+
+void check_faults(plan_file plan, const byte_fault *faults, size_t count) {
+    for (const byte_fault *fault = faults; fault < faults + count; fault++)
+        check_refused(renamed(with_byte(plan, fault->at, fault->value), fault->name), fault->number, fault->place);
 }
 
 void check_accepted(const plan_file *plan, unsigned m) {

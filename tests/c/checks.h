@@ -15,10 +15,13 @@ enum { CREW = 4 * RECORD, ARC_1_2 = 5 * RECORD, ARC_2_4 = 6 * RECORD };
 // The cases, each a file of its own.
 void refusals(void);
 void results(void);
+void milestones(void);
 
 // Counts one check, and prints a line where it fails.
 extern unsigned passed, failed;
 void check(int holds, const char *format, ...);
+// Every number of the header has been an answer.
+void check_all_seen(void);
 void check_answer(const char *name, const char *what, uint64_t got, unsigned number, uint64_t rest);
 
 // A plan, with room for one byte and one record more than the longest.
@@ -55,6 +58,14 @@ uint64_t crew(const plan_file *plan, const uint32_t *from, const uint32_t *worke
 
 // Every operation refuses the plan alike, whatever it is lent and whichever kind it is asked for.
 void check_refused(plan_file plan, unsigned number, uint64_t rest);
+// One byte that is changed in a plan, and what the plan is then refused with, one after another.
+typedef struct {
+    const char *name;
+    size_t at;
+    uint8_t value;
+    unsigned number, place;
+} byte_fault;
+void check_faults(plan_file plan, const byte_fault *faults, size_t count);
 void check_accepted(const plan_file *plan, unsigned m);
 // An overloaded plan: the 7 of Verdict and Flow, the set, and the overload record byte by byte.
 void check_overloaded(const plan_file *plan, size_t m, uint8_t kind, uint8_t need, uint8_t size, uint8_t set);

@@ -1,10 +1,12 @@
-// The planner through its C interface, as a counter screen calls it: every refusal of a file, results of every operation, and crew sheets.
+// The planner through its C interface, as a counter screen calls it: every refusal of a file, results of every operation, crew sheets, milestones.
 // It runs in the project's root, prints a line for each check that fails, and ends with 'N passed, M failed'.
 #include "checks.h"
 
 int main(void) {
     refusals();
     results();
+    milestones();
+    check_all_seen();
     printf("%u passed, %u failed\n", passed, failed);
     return failed == 0 ? 0 : 1;
 }

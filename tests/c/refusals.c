@@ -17,14 +17,9 @@ static void lengths(void) {
     check_refused(renamed(full, "2,049 records"), YAFFLEDESK_BAD_LENGTH, 0);
 }
 
-// Causes 2 to 4: plan A with one byte changed, refused at a record's place.
+// Causes 2, 3, 12 and 4: plan A with one byte changed, refused at a record's place.
 static void records(void) {
-    static const struct {
-        const char *name;
-        size_t at;
-        uint8_t value;
-        unsigned number, place;
-    } faults[] = {
+    static const byte_fault faults[] = {
         {"type 0", 0, 0, YAFFLEDESK_BAD_TYPE, 0},
         {"unknown type", ARC_2_4, 255, YAFFLEDESK_BAD_TYPE, 6},
         {"job arc after an extra arc", ARC_2_4, 3, YAFFLEDESK_BAD_TYPE, 6},
@@ -32,7 +27,7 @@ static void records(void) {
         {"activity after the crew record", ARC_1_2, 1, YAFFLEDESK_BAD_TYPE, 5},
         {"arc before the crew record", 3 * RECORD, 4, YAFFLEDESK_BAD_TYPE, 3},
         {"number not in file order", 1 * RECORD + 1, 1, YAFFLEDESK_BAD_FIELD, 1},
-        {"duration 0", 2, 0, YAFFLEDESK_BAD_FIELD, 0},
+        {"duration 0", 2, 0, YAFFLEDESK_MILESTONE_DEMAND, 0},
         {"demand beyond K", 6, 1, YAFFLEDESK_BAD_FIELD, 4},
         {"no kinds", CREW + 1, 0, YAFFLEDESK_BAD_FIELD, 4},
         {"nine kinds", CREW + 1, 9, YAFFLEDESK_BAD_FIELD, 4},
@@ -46,8 +41,7 @@ static void records(void) {
         {"spare byte 3 of an arc", ARC_1_2 + 3, 1, YAFFLEDESK_BAD_SPARE, 5},
         {"spare byte 23 of an arc", ARC_2_4 + 23, 1, YAFFLEDESK_BAD_SPARE, 6},
     };
-    for (size_t i = 0; i < sizeof faults / sizeof *faults; i++)
-        check_refused(renamed(with_byte(a, faults[i].at, faults[i].value), faults[i].name), faults[i].number, faults[i].place);
+    check_faults(a, faults, sizeof faults / sizeof *faults);
     check_refused(renamed(with_length(a, CREW), "no crew record"), YAFFLEDESK_BAD_TYPE, 4);
     check_refused(renamed(idle_plan(65), "65 activities"), YAFFLEDESK_BAD_FIELD, 64);
 }

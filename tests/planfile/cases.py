@@ -56,10 +56,11 @@ def random_plan(chance):
     """The lines of a plan and its bytes. Nothing but the fields' sizes is kept, as in the text form."""
     lines, content = [], b""
     for _ in range(chance.randrange(12)):
-        i, duration = chance.randrange(256), chance.randrange(65536)
+        i, duration = chance.randrange(256), chance.choice([0, chance.randrange(65536)])
         demands = [chance.choice([0, 1, chance.randrange(65536)]) for _ in range(chance.randrange(9))]
         listed = " demands " + " ".join(map(str, demands)) if demands else ""
-        lines.append(f"activity {i} duration {duration}{listed}")
+        milestone = not duration and not any(demands) and chance.random() < 0.5
+        lines.append(f"milestone {i}" if milestone else f"activity {i} duration {duration}{listed}")
         content += activity(i, duration, demands)
     available = [chance.choice([0, 65535, chance.randrange(65536)]) for _ in range(chance.randrange(9))]
     lines.append(" ".join(map(str, ["crew", *available])))
@@ -88,11 +89,12 @@ def round_trips(tool, chance):
         check(tool.pack("\n".join(lines), "x") == content, f"packing {lines}")
         check(tool.pack(dressed, "x") == content, f"packing with comments and blanks {lines}")
         check("record" not in same(tool, content, "a random plan"), f"a plain plan is shown as records: {lines}")
+    check(tool.pack("milestone 3", "x") == tool.pack("activity 3 duration 0", "x") == activity(3, 0, []), "a milestone is an activity of duration 0")
     for _ in range(300):
         same(tool, chance.randbytes(24 * chance.randrange(5)), "random records")
         same(tool, chance.randbytes(chance.randrange(100)), "random bytes")
         same(tool, bytes([chance.randrange(6)]) + chance.randbytes(23), "a random record of a known type")
-    plain = [activity(1, 3, [2]), crew([4, 0]), arc(3, 1, 2), arc(4, 2, 1), bytes(24), bytes([255]) * 24]
+    plain = [activity(1, 3, [2]), activity(1, 0, []), crew([4, 0]), arc(3, 1, 2), arc(4, 2, 1), bytes(24), bytes([255]) * 24]
     for record in plain:
         for place in range(24):
             for value in (0, 1, 9, 255):
@@ -103,7 +105,11 @@ def shown(tool):
     """The plain form wherever a record fits it, and the raw form wherever it does not."""
     for content, text in [
         (b"", ""),
-        (activity(0, 0, []), "activity 0 duration 0\n"),
+        (activity(0, 0, []), "milestone 0\n"),
+        (activity(255, 0, []) + activity(1, 256, []), "milestone 255\nactivity 1 duration 256\n"),
+        (activity(3, 0, [0, 1]), "activity 3 duration 0 demands 0 1\n"),
+        (activity(3, 0, [0] * 7 + [256]), "activity 3 duration 0 demands 0 0 0 0 0 0 0 256\n"),
+        (b"\x01\x03" + bytes(18) + b"\x01\0\0\0", "record 0103" + "00" * 18 + "01000000\n"),
         (activity(255, 65535, [0, 65535]), "activity 255 duration 65535 demands 0 65535\n"),
         (activity(1, 1, [1] * 8), "activity 1 duration 1 demands 1 1 1 1 1 1 1 1\n"),
         (crew([]), "crew\n"),
@@ -119,7 +125,7 @@ def shown(tool):
 
 
 LINE_FAULTS = [
-    ("plan 1", "a line begins with activity, crew, job, extra, record, rest, not 'plan'"),
+    ("plan 1", "a line begins with activity, milestone, crew, job, extra, record, rest, not 'plan'"),
     ("activity 1", "an activity is written 'activity NUMBER duration PERIODS demands NUMBER ..'"),
     ("activity 1 lasts 3", "an activity is written 'activity NUMBER duration PERIODS demands NUMBER ..'"),
     ("activity 1 duration 3 2", "an activity is written 'activity NUMBER duration PERIODS demands NUMBER ..'"),
@@ -130,6 +136,11 @@ LINE_FAULTS = [
     ("activity 1 duration 3 demands 1_0", "each of the demands is a number, not '1_0'"),
     ("activity 1 duration 3 demands 65536", "each of the demands is 0 to 65535, not 65536"),
     ("activity 1 duration 3 demands 1 1 1 1 1 1 1 1 1", "at most 8 demands, not 9"),
+    ("milestone", "a milestone is written 'milestone NUMBER'"),
+    ("milestone 1 2", "a milestone is written 'milestone NUMBER'"),
+    ("milestone 1 duration 0", "a milestone is written 'milestone NUMBER'"),
+    ("milestone 256", "an activity's number is 0 to 255, not 256"),
+    ("milestone x", "an activity's number is a number, not 'x'"),
     ("crew -1", "each of the availabilities is a number, not '-1'"),
     ("crew 65536", "each of the availabilities is 0 to 65535, not 65536"),
     ("crew " + "9" * 5000, "each of the availabilities is 0 to 65535, not " + "9" * 5000),
@@ -190,7 +201,7 @@ def lengths(folder):
 def examples(folder):
     texts, plans = sorted(EXAMPLES.glob("*.txt")), sorted(EXAMPLES.glob("*.plan"))
     names = {path.stem for path in texts}
-    check(names >= {"a", "b", "c", "d", "e", "e_job", "f", "f5"}, f"examples are missing: {sorted(names)}")
+    check(names >= {"a", "b", "c", "d", "e", "e_job", "f", "f5", "handed_back"}, f"examples are missing: {sorted(names)}")
     check(names == {path.stem for path in plans}, "each text in examples/ has its plan, and each plan its text")
     for text in texts:
         plan, made = text.with_suffix(".plan"), folder / "made.plan"

@@ -6,7 +6,7 @@ use Prim.Native.Nat.{ℕ, suc, _+_, _*_, _-_, _≤_, _<_}
 use native.Mathlib.Nat.{mul-le-mul-left, mul-suc}
 use native.Mathlib.Omega.{arith}
 use lib.Dec.{ltb, leb}
-use borrow.Author.Tests.{ltb-true, leb-true, lt-ltb, le-leb}
+use borrow.Author.Tests.{ltb-true, ltb-false, leb-true, lt-ltb, le-leb}
 use Rattle.words.specs.Sums.{sum}
 use Rattle.words.proofs.Tests
 use Rattle.words.proofs.Firsts
@@ -58,12 +58,15 @@ pub occupied-at-most : (n : ℕ) (b : ℕ → ℕ → Bool) (d : ℕ → ℕ) (x
     Need n b d x → Keeps (Drawn n b) s (λ i j. w i) → occupied n d s w t ≤ x
 occupied-at-most n b d x s w t N k = omega (arith, occupied-weight n d s w t, N .most (active s w t) (active-antichain n b s w t k))
 
--- a larger set weighs no less
-pub weight-mono : (n : ℕ) (d : ℕ → ℕ) (S T : ℕ → Bool) → ((i : ℕ) → i < n → S i ≡ true → T i ≡ true) → weight n d S ≤ weight n d T
+-- a set with all the members of another that demand something weighs no less
+pub weight-mono : (n : ℕ) (d : ℕ → ℕ) (S T : ℕ → Bool) → ((i : ℕ) → i < n → S i ≡ true → 0 < d i → T i ≡ true) → weight n d S ≤ weight n d T
 unfolding weight
 weight-mono n d S T h =
     Sums.sum-le n (λ i. cond (S i) (d i) 0) (λ i. cond (T i) (d i) 0)
-    (λ i l. Tests.cond-least (S i) (d i) (cond (T i) (d i) 0) (λ e. Tests.cond-at (T i) (d i) (h i l e)))
+    (λ i l. Tests.cond-least (S i) (d i) (cond (T i) (d i) 0)
+    (λ e. Tests.by-test (ltb 0 (d i))
+    (λ t. Tests.cond-at (T i) (d i) (h i l e (ltb-true 0 (d i) t)))
+    (λ t. omega (arith, ltb-false 0 (d i) t))))
 
 module _ (n : ℕ) (b : ℕ → ℕ → Bool) (o : StrictOrder n b) where
   -- the rank rises along the order, and is below n
@@ -145,7 +148,7 @@ module _ (n : ℕ) (b : ℕ → ℕ → Bool) (o : StrictOrder n b) where
 
 -- The crew of a heaviest unrelated set occupies exactly the need in the period that follows `gap * n`.
 peak : (n : ℕ) (b : ℕ → ℕ → Bool) (d : ℕ → ℕ) (x : ℕ) → StrictOrder n b → (N : Need n b d x) → (gap : ℕ) (w : ℕ → ℕ) →
-    ((i : ℕ) → i < n → (1 ≤ w i) × (w i ≤ gap)) → occupied n d (startsAt n b (N .set) gap) w (suc (gap * n)) ≡ x
+    ((i : ℕ) → i < n → (0 < d i → 1 ≤ w i) × (w i ≤ gap)) → occupied n d (startsAt n b (N .set) gap) w (suc (gap * n)) ≡ x
 peak n b d x o N gap w h =
     let s = startsAt n b (N .set) gap in
     let t = suc (gap * n) in
@@ -154,14 +157,14 @@ peak n b d x o N gap w h =
       occupied-at-most n b d x s w t N (λ i j a. omega (arith, starts-apart n b o (N .set) gap i j a, h i (a .from) .1)),
       occupied-weight n d s w t,
       weight-mono n d (N .set) (active s w t)
-          (λ i l e. let p = starts-member n b o (N .set) (N .unrelated) gap i l e in
-          active-says s w t i .1 (omega (arith, p), omega (arith, p, h i l .0))),
+          (λ i l e q. let p = starts-member n b o (N .set) (N .unrelated) gap i l e in
+          active-says s w t i .1 (omega (arith, p), omega (arith, p, h i l .0 q))),
       N .weighs,
     )
 
--- There is a crew at the peak, for all durations from 1 to `gap`.
+-- There is a crew at the peak, for all durations up to `gap` that are 1 or more where there is a demand.
 pub crew-peak : (n : ℕ) (b : ℕ → ℕ → Bool) (d w : ℕ → ℕ) (gap : ℕ) → StrictOrder n b →
-    ((i : ℕ) → i < n → (1 ≤ w i) × (w i ≤ gap)) → Peak n b d w gap
+    ((i : ℕ) → i < n → (0 < d i → 1 ≤ w i) × (w i ≤ gap)) → Peak n b d w gap
 crew-peak n b d w gap o h =
     let N = Needs.needOf-need n b d o in
     record {

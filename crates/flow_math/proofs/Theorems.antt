@@ -7,8 +7,8 @@
 --                       exactly a - needOf of them go straight from the start to the end
 --   no-flow-frees-more  no resource flow of a units sends more than that straight from the start to the end
 --   crew-bound          no crew that keeps the order occupies more than the need, in any period, whatever its durations are
---   crew-peak           for all durations from 1 to `gap` some crew occupies all of the need in one period; its ordered elements start
---                       at least `gap` periods apart
+--   crew-peak           for all durations up to `gap`, of 1 or more where there is a demand, some crew occupies all of the need in one
+--                       period; its ordered elements start at least `gap` periods apart
 use mathlib.Core.Path.{_≡_}
 use mathlib.Core.Bool.{Bool}
 use Prim.Native.Nat.{ℕ, suc, _+_, _-_, _≤_, _<_}
@@ -52,5 +52,5 @@ pub crew-bound : (n : ℕ) (b : ℕ → ℕ → Bool) (d : ℕ → ℕ) (s w : �
 crew-bound n b d s w t o k = Crews.occupied-at-most n b d (needOf n b d) s w t (Needs.needOf-need n b d o) k
 
 pub crew-peak : (n : ℕ) (b : ℕ → ℕ → Bool) (d : ℕ → ℕ) (w : ℕ → ℕ) (gap : ℕ) →
-    StrictOrder n b → ((i : ℕ) → i < n → (1 ≤ w i) × (w i ≤ gap)) → Peak n b d w gap
+    StrictOrder n b → ((i : ℕ) → i < n → (0 < d i → 1 ≤ w i) × (w i ≤ gap)) → Peak n b d w gap
 crew-peak n b d w gap o h = Crews.crew-peak n b d w gap o h

@@ -11,10 +11,11 @@ use Rattle.words.proofs.Tests.{by-test, cond-has}
 use Rattle.plan.specs.declared.Answer.{Answer}
 use Rattle.plan.specs.declared.Answer.the-variants.{Readable, Refused}
 use Rattle.plan.specs.declared.Cause.{Cause}
-use Rattle.plan.specs.declared.Cause.the-variants.{Length, RecordType, Field, Spare}
+use Rattle.plan.specs.declared.Cause.the-variants.{Length, RecordType, Field, MilestoneDemand, Spare}
 use Rattle.plan.specs.Records.{recordAt, activityCount, dueType, demandsOf}
 use Rattle.plan.specs.Causes.{rule, activityCause, crewCause, arcCause, causeAt, isLength, answerOf}
 use Rattle.plan.specs.Numbers.{toldBy}
+use Rattle.plan.proofs.RecordRules.{Holds, rule-holds}
 use Rattle.plan.proofs.Refused.{length-says, refused-length, refused-means}
 
 -- the number has 8 bits, and the place is at most p
@@ -29,17 +30,12 @@ within-of {p} e w = subst (Within p) (sym e) w
 -- ---- a refusal at a record tells that record's place
 
 module _ (p : ℕ) where
-  -- the cause of an answer, if it has one, is so
-  abbrev Placed : Answer → Type 0
-  Placed Readable = Unit {0}
-  Placed (Refused c) = Within p c
-
   -- a chain of rules each of whose causes is so
+  abbrev Placed : Answer → Type 0
+  Placed = Holds (Within p)
+
   rule-placed : (answer : Answer) (kept : Bool) (cause : Cause) → Placed answer → Within p cause → Placed (rule answer kept cause)
-  unfolding rule
-  rule-placed Readable true cause h k = tt
-  rule-placed Readable false cause h k = k
-  rule-placed (Refused c) kept cause h k = h
+  rule-placed = rule-holds (Within p)
 
   typed-placed : Within p (RecordType p)
   typed-placed = record { number = omega arith; place = omega arith }
@@ -47,12 +43,16 @@ module _ (p : ℕ) where
   field-placed : Within p (Field p)
   field-placed = record { number = omega arith; place = omega arith }
 
+  milestone-placed : Within p (MilestoneDemand p)
+  milestone-placed = record { number = omega arith; place = omega arith }
+
   spare-placed : Within p (Spare p)
   spare-placed = record { number = omega arith; place = omega arith }
 
   activity-placed : (r : List ℕ) → Placed (activityCause p r)
   unfolding activityCause
-  activity-placed r = rule-placed _ _ (Spare p) (rule-placed _ _ (Field p) tt field-placed) spare-placed
+  activity-placed r =
+      rule-placed _ _ (Spare p) (rule-placed _ _ (MilestoneDemand p) (rule-placed _ _ (Field p) tt field-placed) milestone-placed) spare-placed
 
   crew-placed : (demand r : List ℕ) → Placed (crewCause p demand r)
   unfolding crewCause

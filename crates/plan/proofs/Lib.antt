@@ -1,4 +1,4 @@
--- Laws of the definitions of `specs/`. Callers cite Said and Refused, and `readable-is` of Refusals; the proofs of the code cite ReaderLoops and `file-read` of
+-- Laws of the definitions of `specs/`. Callers cite Said, Refused and Milestones, and `readable-is` of Refusals; the proofs of the code cite ReaderLoops and `file-read` of
 -- Phases; the others lead up to these.
 pub mod Refusals
 pub mod Places
@@ -12,3 +12,4 @@ pub mod NamedArcs
 pub mod Said
 pub mod Refused
 pub mod CausePlaces
+pub mod Milestones

@@ -42,13 +42,24 @@ unfolding rule
 rule-before Readable kept cause e = refl
 rule-before (Refused c) kept cause e = e
 
+-- what holds of the cause of an answer, if it has one, and of the cause of the next rule holds after it
+abbrev pub Holds : (Cause → Type 0) → Answer → Type 0
+Holds P Readable = Unit {0}
+Holds P (Refused c) = P c
+
+pub rule-holds : (P : Cause → Type 0) (answer : Answer) (kept : Bool) (cause : Cause) → Holds P answer → P cause → Holds P (rule answer kept cause)
+unfolding rule
+rule-holds P Readable true cause h k = tt
+rule-holds P Readable false cause h k = k
+rule-holds P (Refused c) kept cause h k = h
+
 -- m activities with no cause: each stands at one of the places that a file has for activities
 pub few-activities : (m : ℕ) (s : List ℕ) → ((p : ℕ) → p < m → isReadable (activityCause p (recordAt s p)) ≡ true) → m ≤ activities
 unfolding activityCause activityFields
 few-activities zero s h = omega arith
 few-activities (suc m) s h =
     let r = recordAt s m in
-    ltb-true m activities (and-left (ltb m activities) (eqb (byte r 1) (m + 1) && ltb 0 (field r 2 2)) (rule-kept _ _ _ (rule-before _ _ _ (h m (omega arith)))))
+    ltb-true m activities (and-left (ltb m activities) (eqb (byte r 1) (m + 1)) (rule-kept _ _ _ (rule-before _ _ _ (rule-before _ _ _ (h m (omega arith))))))
 
 -- the crew record with no cause
 pub record CrewKept (demand r : List ℕ) : Type 0 where

@@ -1,6 +1,6 @@
 -- What a refusal means in plain words, and which files are refused and read. Assumes nothing.
 use mathlib.Core.Path.{_≡_, refl, sym, ap, _∙_}
-use mathlib.Core.Bool.{Bool, true, false, _&&_, false≢true}
+use mathlib.Core.Bool.{Bool, true, false, not, _&&_, false≢true}
 use mathlib.Core.List.{List}
 use mathlib.Core.Logic.{_⊎_, inl, inr, ⊎-elim, _↔_, _≢_}
 use Prim.Native.Nat.{ℕ, _%_, _≤_, _<_}
@@ -8,6 +8,8 @@ use native.Mathlib.Omega.{arith}
 use lib.ListN.{length}
 use lib.Dec.{eqb, leb, ltb}
 use borrow.Author.Tests.{ltb-true, leb-true, eqb-true, lt-ltb, le-leb, eq-eqb}
+use Rattle.words.specs.Members.{first}
+use Rattle.words.proofs.Firsts.{first-stop}
 use Rattle.words.proofs.Tests.{by-test, and-left, and-right, and-both, cond-true, cond-false}
 use Rattle.plan.specs.declared.Answer.{Answer}
 use Rattle.plan.specs.declared.Answer.the-variants.{Readable, Refused}
@@ -76,3 +78,13 @@ refused-means s c e =
     by-test (isLength (length s))
     (λ t. inr (records-refused s c t (sym (answer-records s t) ∙ e)))
     (λ t. let h = sym (refused-length s t) ∙ e in inl (record { wrong = t; cause = cc h }))
+
+-- and the other way round, at a record
+pub fault-refused : (s : List ℕ) (p : ℕ) (c : Cause) → isLength (length s) ≡ true → FirstFault s p (Refused c) → answerOf s ≡ Refused c
+unfolding recordsCause firstRefusal
+fault-refused s p c legal F =
+    let f : ℕ → Bool = λ i. not (isReadable (causeAt s i)) in
+    let at = first-stop (recordCount s) f p (λ x l. ap not (F .before x l)) (F .there) (ap (λ (a : Answer). not (isReadable a)) (F .fault)) in
+    answer-records s legal
+    ∙ ap (λ (a : Answer). followedBy a (crewThere s))
+    (cond-true (causeAt s (first (recordCount s) f)) Readable (lt-ltb (first (recordCount s) f) (recordCount s) (omega (arith, F .there))) ∙ ap (causeAt s) (sym at) ∙ F .fault)

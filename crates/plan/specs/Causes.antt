@@ -1,4 +1,4 @@
--- The causes of a refusal, 1 to 4, each with its place, and the answer: the first of them, or readable. Assumes nothing.
+-- The causes of a refusal, 1 to 4 and 12, each with its place, and the answer: the first of them, or readable. Assumes nothing.
 use mathlib.Core.Bool.{Bool, true, false, not, cond, _&&_}
 use mathlib.Core.List.{List}
 use Prim.Native.Nat.{ℕ, _%_}
@@ -9,10 +9,11 @@ use Rattle.records.specs.Bytes.{byte}
 use Rattle.plan.specs.declared.Answer.{Answer}
 use Rattle.plan.specs.declared.Answer.the-variants.{Readable, Refused}
 use Rattle.plan.specs.declared.Cause.{Cause}
-use Rattle.plan.specs.declared.Cause.the-variants.{Length, RecordType, Field, Spare}
-use Rattle.plan.specs.Records.{recordAt, recordCount, activityCount, activityFields, activitySpare, crewFields, crewSpare, arcFields, arcSpare, dueType, demandsOf}
+use Rattle.plan.specs.declared.Cause.the-variants.{Length, RecordType, Field, MilestoneDemand, Spare}
+use Rattle.plan.specs.Records.{recordAt, recordCount, activityCount, activityFields, activityTimed, activitySpare, crewFields, crewSpare, arcFields, arcSpare, dueType, demandsOf}
 
--- "records in file order, 2, 3, 4 within each": the rules of a record are tested in turn. Where none before it was broken, a broken rule gives its cause.
+-- "records in file order, 2, 3, 4 within each", and 12 "in each record after 3 and before 4" (02, change 2): the rules of a record are tested in turn. Where none before
+-- it was broken, a broken rule gives its cause.
 unfoldable pub rule : Answer → Bool → Cause → Answer
 rule Readable true cause = Readable
 rule Readable false cause = Refused cause
@@ -26,7 +27,8 @@ isReadable (Refused c) = false
 unfoldable pub activityCause : ℕ → List ℕ → Answer
 activityCause place r =
     let fields = rule Readable (activityFields place r) (Field place) in
-    rule fields (activitySpare r) (Spare place)
+    let timed = rule fields (activityTimed r) (MilestoneDemand place) in
+    rule timed (activitySpare r) (Spare place)
 
 -- the record after them, which has to be the crew record
 unfoldable pub crewCause : ℕ → List ℕ → List ℕ → Answer

@@ -10,7 +10,7 @@ use Rattle.records.specs.Bytes.{byte}
 use Rattle.plan.specs.Records.{recordAt, recordCount, typeAt, activityCount, durationIn, demandIn, availableIn}
 use Rattle.plan.specs.Causes.{isReadable, answerOf}
 
--- "It is readable when it meets none of causes 1 to 4"
+-- "It is readable when it meets none of causes 1 to 4", nor 12 of document 02
 abbrev pub Readable : List ℕ → Type 0
 Readable s = isReadable (answerOf s) ≡ true
 
@@ -27,6 +27,11 @@ crewRecord s = recordAt s (activityCount s)
 -- "2–3 duration": that of element i
 unfoldable pub fileDuration : List ℕ → ℕ → ℕ
 fileDuration s i = durationIn (activityRecord s i)
+
+-- A MILESTONE: "takes no time" (02, change 2). It is one by its duration in the file, not by its demands: that it has none, is what 12 sees to (`milestone-idle` of
+-- proofs/Milestones.antt), and an activity without demands that takes time is none.
+abbrev pub Milestone : List ℕ → ℕ → Type 0
+Milestone s i = fileDuration s i ≡ 0
 
 -- "4–19 eight demands of two bytes, kinds 1 to 8": what element i demands of kind k
 unfoldable pub fileDemand : List ℕ → ℕ → ℕ → ℕ

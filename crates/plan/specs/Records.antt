@@ -1,10 +1,11 @@
 -- The records of a file, and the rules of each type. Element i is activity i + 1; kind k + 1 stands at k. Assumes nothing.
-use mathlib.Core.Bool.{Bool, not, cond, _&&_}
+use mathlib.Core.Bool.{Bool, not, cond, _&&_, _||_}
 use mathlib.Core.List.{List}
 use Prim.Native.Nat.{ℕ, zero, suc, _+_, _-_, _*_, _/_, _%_}
 use lib.Dec.{eqb, leb, ltb}
 use lib.ListN.{length, drop}
 use lib.Seq.{slice}
+use Rattle.words.specs.Members.{some}
 use Rattle.words.specs.Tables.{table}
 use Rattle.records.specs.Bytes.{byte, field, zeros}
 use Rattle.order.specs.Stored.{elements}
@@ -33,15 +34,23 @@ activityCount s = leading 1 (recordCount s) s
 abbrev pub activities : ℕ
 activities = 64
 
--- "Type 1, activity: byte 1 its number; 2–3 duration, 1 to 65,535; 4–19 eight demands of two bytes, kinds 1 to 8"
+-- "Type 1, activity: byte 1 its number; 2–3 duration, ..; 4–19 eight demands of two bytes, kinds 1 to 8, each 0 to 65,535"
 unfoldable pub activityFields : ℕ → List ℕ → Bool
-activityFields place r = ltb place activities && (eqb (byte r 1) (place + 1) && ltb 0 (field r 2 2))
+activityFields place r = ltb place activities && eqb (byte r 1) (place + 1)
 
 abbrev pub durationIn : List ℕ → ℕ
 durationIn r = field r 2 2
 
 abbrev pub demandIn : List ℕ → ℕ → ℕ
 demandIn r k = field r (4 + 2 * k) 2
+
+-- of one of the eight kinds something is demanded
+unfoldable pub demandsSome : List ℕ → Bool
+demandsSome r = some 8 (λ k. ltb 0 (demandIn r k))
+
+-- "Duration 0 becomes legal in the file for an activity without demands, which is then a milestone" (02, change 2): what is demanded is demanded for some time
+abbrev pub activityTimed : List ℕ → Bool
+activityTimed r = ltb 0 (durationIn r) || not (demandsSome r)
 
 -- the demands of all activities as one list: that of element i for kind k + 1 stands at elements * k + i
 unfoldable pub demandsOf : List ℕ → List ℕ

@@ -1,4 +1,4 @@
--- What a refusal says, in plain words: which of these it is, is `refused-means` of proofs/Refused.antt. Assumes nothing.
+-- What a refusal says, in plain words: which of these it is, is `refused-means` of proofs/Refused.antt; and 12, in `refused-demanding` of proofs/Milestones.antt. Assumes nothing.
 use mathlib.Core.Path.{_≡_}
 use mathlib.Core.Bool.{true, false}
 use mathlib.Core.List.{List}
@@ -7,8 +7,9 @@ use lib.ListN.{length}
 use Rattle.plan.specs.declared.Answer.{Answer}
 use Rattle.plan.specs.declared.Cause.{Cause}
 use Rattle.plan.specs.declared.Cause.the-variants.{Length, RecordType}
-use Rattle.plan.specs.Records.{recordCount, typeAt}
+use Rattle.plan.specs.Records.{recordAt, recordCount, typeAt, activityCount, activityFields}
 use Rattle.plan.specs.Causes.{isReadable, causeAt, isLength}
+use Rattle.plan.specs.Meaning.{Milestone, fileDemand}
 
 -- "length 0, not a multiple of 24, or over 49,152"
 pub record WrongLength (s : List ℕ) (c : Cause) : Type 0 where
@@ -21,6 +22,18 @@ pub record FirstFault (s : List ℕ) (p : ℕ) (a : Answer) : Type 0 where
   pub fault : causeAt s p ≡ a
   pub refused : isReadable a ≡ false
   pub before : (x : ℕ) → x < p → isReadable (causeAt s x) ≡ true
+
+-- 12, "duration 0 with a demand, with the place, in each record after 3 and before 4" (02, change 2): no record before place p has a fault, the one there is an activity's
+-- whose fields keep their rules, it takes no time, and it demands something of one of the eight kinds
+pub record DemandingMilestone (s : List ℕ) (p : ℕ) : Type 0 where
+  pub legal : isLength (length s) ≡ true
+  pub before : (x : ℕ) → x < p → isReadable (causeAt s x) ≡ true
+  pub activity : p < activityCount s
+  pub fields : activityFields p (recordAt s p) ≡ true
+  pub timeless : Milestone s p
+  pub kind : ℕ
+  pub one-of-eight : kind < 8
+  pub demands : 0 < fileDemand s kind p
 
 -- "crew record missing (place: record count)": no record has a fault, and each is an activity
 pub record CrewMissing (s : List ℕ) (c : Cause) : Type 0 where

@@ -4,7 +4,7 @@ ghost use Prim.Native.Nat.{_*_, _≤_, _<_};
 ghost use lib.ListN.{length};
 ghost use Rattle.words.specs.model.Loops.{upto};
 ghost use Rattle.order.specs.Stored.{elements};
-ghost use Rattle.plan.specs.Records.{activityFields, recordAt};
+ghost use Rattle.plan.specs.Records.{activityFields, demandsSome, activityTimed, recordAt};
 ghost use Rattle.plan.specs.Causes.{activityCause, firstRefusal};
 ghost use Rattle.plan.specs.model.Phases.{putDuration, putDemand, putDemands};
 use crate::ACTIVITIES;
@@ -25,10 +25,31 @@ fn activity_fields(r: &[u8], place: usize) -> bool
         return false;
     }
     let number = r[1] as usize;
-    if number != place + 1 {
-        return false;
+    number == place + 1
+}
+
+// Whether an activity record demands something of one of the eight kinds.
+fn demands_some(r: &[u8]) -> bool
+    requires { ⌜ 24 ≤ length (now r) ⌝ }
+    ensures { λ b. ⌜ b ≡ demandsSome (now (r .entry)) ⌝ }
+{
+    for k in 0..8usize {
+        if half(r, 4 + 2 * k) != 0 {
+            return true;
+        }
     }
-    0 < half(r, 2)
+    false
+}
+
+// Whether an activity record demands something only if it takes time. (A milestone takes none.)
+fn activity_timed(r: &[u8]) -> bool
+    requires { ⌜ 24 ≤ length (now r) ⌝ }
+    ensures { λ b. ⌜ b ≡ activityTimed (now (r .entry)) ⌝ }
+{
+    if half(r, 2) != 0 {
+        return true;
+    }
+    !demands_some(r)
 }
 
 // The cause of an activity record, by its type known to be one.
@@ -41,7 +62,8 @@ fn activity_cause(r: &[u8], place: usize) -> Answer
         activity_fields(r, place),
         Cause::Field(place),
     );
-    rule(fields, all_zero(r, 20, 24), Cause::Spare(place))
+    let timed = rule(fields, activity_timed(r), Cause::MilestoneDemand(place));
+    rule(timed, all_zero(r, 20, 24), Cause::Spare(place))
 }
 
 // The first cause among the first m records, which are activities.

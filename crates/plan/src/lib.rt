@@ -36,6 +36,7 @@ pub enum Cause {
     Length,
     RecordType(usize),
     Field(usize),
+    MilestoneDemand(usize),
     Spare(usize),
 }
 

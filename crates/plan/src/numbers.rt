@@ -27,6 +27,7 @@ pub fn told_by(c: Cause) -> Told
         },
         Cause::RecordType(p) => at_place(2, p),
         Cause::Field(p) => at_place(3, p),
+        Cause::MilestoneDemand(p) => at_place(12, p),
         Cause::Spare(p) => at_place(4, p),
     }
 }

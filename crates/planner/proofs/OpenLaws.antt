@@ -22,7 +22,7 @@ use Rattle.plan.specs.Meaning.{Readable}
 use Rattle.plan.specs.model.Said.{Said}
 use Rattle.plan.proofs.Said.{said, durations-small}
 use Rattle.plan.specs.declared.Cause.{Cause as Unread}
-use Rattle.plan.specs.declared.Cause.the-variants.{Length, RecordType, Field, Spare}
+use Rattle.plan.specs.declared.Cause.the-variants.{Length, RecordType, Field, MilestoneDemand, Spare}
 use Rattle.plan.specs.declared.Answer.{Answer}
 use Rattle.plan.specs.declared.Answer.the-variants as answer
 use Rattle.plan.specs.declared.Plan.{Plan}
@@ -128,11 +128,12 @@ every-open P s unread job whole =
     round f o cause h each = every-turn P f (ltb (circleOf o) elements) (cause (circleOf o + 1)) h (λ _ e. each (circleOf o) (ltb-true (circleOf o) elements e))
 
 -- what holds of the reader's numbers holds of the number of whatever it found
-pub unread-number : (P : ℕ → Type 0) → P 1 → P 2 → P 3 → P 4 → (u : Unread) → P (causeNumber (Unreadable u))
-unread-number P one two three four Length = one
-unread-number P one two three four (RecordType p) = two
-unread-number P one two three four (Field p) = three
-unread-number P one two three four (Spare p) = four
+pub unread-number : (P : ℕ → Type 0) → P 1 → P 2 → P 3 → P 12 → P 4 → (u : Unread) → P (causeNumber (Unreadable u))
+unread-number P one two three twelve four Length = one
+unread-number P one two three twelve four (RecordType p) = two
+unread-number P one two three twelve four (Field p) = three
+unread-number P one two three twelve four (MilestoneDemand p) = twelve
+unread-number P one two three twelve four (Spare p) = four
 
 -- ---- what the code holds after each step
 

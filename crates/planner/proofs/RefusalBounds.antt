@@ -132,5 +132,5 @@ sheet-refuses s small kind page n =
 pub crew-refuses : (s starts worked : List ℕ) → SmallFault (crewCheckFault s starts worked)
 unfolding crewCheckFault
 crew-refuses s starts worked =
-    small-turn (faultOf s) (badLists (planIn s .count) starts worked) (Lists (planIn s .count)) (open-refuses s)
+    small-turn (faultOf s) (badLists (planIn s .count) (planIn s .duration) starts worked) (Lists (planIn s .count)) (open-refuses s)
     (λ o e. plain-small 10 1 _ (omega arith) (omega (arith, count-few s)))

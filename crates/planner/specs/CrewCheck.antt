@@ -1,10 +1,10 @@
 -- Crew check: what it answers. Assumes nothing.
-use mathlib.Core.Bool.{Bool, not, _||_}
+use mathlib.Core.Bool.{Bool, not, cond, _||_}
 use mathlib.Core.List.{List}
 use Prim.Native.Nat.{ℕ}
 use lib.Dec.{ltb, eqb}
 use lib.ListN.{length, getD}
-use Rattle.words.specs.Members.{first}
+use Rattle.words.specs.Members.{some}
 use Rattle.schedule.specs.Checks.{Work, checkOf}
 use Rattle.schedule.specs.model.Arrays.{crewNet, workOf}
 use Rattle.schedule.specs.declared.Checked.{Checked}
@@ -16,17 +16,22 @@ use Rattle.planner.specs.declared.Fault.the-variants as fault
 use Rattle.planner.specs.declared.CrewChecked.{CrewChecked}
 use Rattle.planner.specs.declared.CrewChecked.the-variants.{Found, Refused}
 
--- some number is 0
-unfoldable pub someZero : List ℕ → Bool
-someZero xs = ltb (first (length xs) (λ i. eqb (getD xs i 0) 0)) (length xs)
+-- "10 is still given for a worked 0 on any other activity, and for a worked duration above 0 on a milestone" (02, change 2): of an activity that has the duration d
+-- in the file and is worked in w
+abbrev pub misworked : ℕ → ℕ → Bool
+misworked d w = cond (eqb d 0) (ltb 0 w) (eqb w 0)
 
--- "lists not m long, or a worked duration 0"
-unfoldable pub badLists : ℕ → List ℕ → List ℕ → Bool
-badLists m starts worked = not (eqb (length starts) m) || (not (eqb (length worked) m) || someZero worked)
+-- of some activity
+unfoldable pub someMisworked : List ℕ → List ℕ → Bool
+someMisworked durations worked = some (length worked) (λ i. misworked (getD durations i 0) (getD worked i 0))
+
+-- "lists not m long, or a worked duration 0", by the rule above; the plan's durations are given
+unfoldable pub badLists : ℕ → List ℕ → List ℕ → List ℕ → Bool
+badLists m durations starts worked = not (eqb (length starts) m) || (not (eqb (length worked) m) || someMisworked durations worked)
 
 -- "Crew check: 10.": the causes of the opening, then 10, which returns m
 unfoldable pub crewCheckFault : List ℕ → List ℕ → List ℕ → Fault
-crewCheckFault s starts worked = orCause (faultOf s) (badLists (planIn s .count) starts worked) (Lists (planIn s .count))
+crewCheckFault s starts worked = orCause (faultOf s) (badLists (planIn s .count) (planIn s .duration) starts worked) (Lists (planIn s .count))
 
 -- the work of the crew, by the plan's demands and availabilities
 abbrev pub crewWork : List ℕ → List ℕ → List ℕ → Work

@@ -1,9 +1,10 @@
 -- Starts, durations and crews of a file, in the file's own terms: its arcs and demands are those of plan's Meaning. No operation is named here. Element i is
 -- activity i + 1, kind k is kind k + 1; x i is the start of element i and w i its duration, in any whole numbers. Assumes nothing.
+use mathlib.Core.Path.{_≡_}
 use mathlib.Core.List.{List}
 use Prim.Native.Nat.{ℕ, _≤_, _<_}
 use Rattle.plan.specs.Records.{activityCount}
-use Rattle.plan.specs.Meaning.{FileArc, fileDemand}
+use Rattle.plan.specs.Meaning.{FileArc, fileDemand, Milestone}
 use Rattle.flow_math.specs.Kept.{Keeps}
 use Rattle.flow_math.specs.Crew.{occupied}
 
@@ -15,9 +16,14 @@ arcWeight s w i j = w i
 abbrev pub KeepsArcs : List ℕ → (ℕ → ℕ) → (ℕ → ℕ) → Type 0
 KeepsArcs s x w = Keeps (FileArc s) x (arcWeight s w)
 
--- "A crew in demand 3 is one start and one duration of 1 or more for each activity, in any whole numbers"
+-- "durations of one or more except for milestones, which keep 0" (02, change 2): the durations in which a crew can work
+pub record Workable (s : List ℕ) (w : ℕ → ℕ) : Type 0 where
+  pub milestones : (i : ℕ) → i < activityCount s → Milestone s i → w i ≡ 0
+  pub others : (i : ℕ) → i < activityCount s → (Milestone s i → ⊥) → 1 ≤ w i
+
+-- "A crew in demand 3 is one start and one duration .. for each activity, in any whole numbers", the durations as above
 pub record FileCrew (s : List ℕ) (x w : ℕ → ℕ) : Type 0 where
-  pub works : (i : ℕ) → i < activityCount s → 1 ≤ w i
+  pub works : Workable s w
   pub keeps : KeepsArcs s x w
 
 -- "What is occupied of a kind in a period, here and in demand 3, is the sum of that kind's demands over the activities at work.": who is at work in a period, and the

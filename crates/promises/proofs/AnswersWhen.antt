@@ -68,21 +68,21 @@ module _ (s : List ℕ) where
 -- ---- Crew check
 
 module _ (s starts worked : List ℕ) where
-  by-fault : {f : Fault} → orCause (faultOf s) (badLists (planIn s .count) starts worked) (Lists (planIn s .count)) ≡ f
+  by-fault : {f : Fault} → orCause (faultOf s) (badLists (planIn s .count) (planIn s .duration) starts worked) (Lists (planIn s .count)) ≡ f
       → crewCheckAnswer s starts worked ≡ checkedOf f (crewFound s starts worked)
   unfolding crewCheckFault
   by-fault e = ap (λ (f : Fault). checkedOf f (crewFound s starts worked)) e
 
   -- the causes of the opening
   pub crew-refused : (c : Cause) → faultOf s ≡ Refused c → crewCheckAnswer s starts worked ≡ crew.Refused c
-  crew-refused c e = by-fault (cause-before (faultOf s) (badLists (planIn s .count) starts worked) (Lists (planIn s .count)) c e)
+  crew-refused c e = by-fault (cause-before (faultOf s) (badLists (planIn s .count) (planIn s .duration) starts worked) (Lists (planIn s .count)) c e)
 
   -- CAUSE 10
-  pub crew-lists : Opens s → badLists (planIn s .count) starts worked ≡ true → crewCheckAnswer s starts worked ≡ crew.Refused (Lists (planIn s .count))
-  crew-lists o e = by-fault (cause-next (faultOf s) (badLists (planIn s .count) starts worked) (Lists (planIn s .count)) o e)
+  pub crew-lists : Opens s → badLists (planIn s .count) (planIn s .duration) starts worked ≡ true → crewCheckAnswer s starts worked ≡ crew.Refused (Lists (planIn s .count))
+  crew-lists o e = by-fault (cause-next (faultOf s) (badLists (planIn s .count) (planIn s .duration) starts worked) (Lists (planIn s .count)) o e)
 
-  pub crew-looks : Opens s → badLists (planIn s .count) starts worked ≡ false → crewCheckAnswer s starts worked ≡ crew.Found (crewFound s starts worked)
-  crew-looks o e = by-fault (cause-none (faultOf s) (badLists (planIn s .count) starts worked) (Lists (planIn s .count)) o e)
+  pub crew-looks : Opens s → badLists (planIn s .count) (planIn s .duration) starts worked ≡ false → crewCheckAnswer s starts worked ≡ crew.Found (crewFound s starts worked)
+  crew-looks o e = by-fault (cause-none (faultOf s) (badLists (planIn s .count) (planIn s .duration) starts worked) (Lists (planIn s .count)) o e)
 
 -- ---- Flow
 

@@ -1,17 +1,17 @@
--- The plans A to F, opened: what their bytes are read as, and which fault they have. Each is computed once, here; what an operation makes of a plan goes by these two
+-- The plans A to H, opened: what their bytes are read as, and which fault they have. Each is computed once, here; what an operation makes of a plan goes by these two
 -- alone (`opened-as`). Assumes nothing.
 use mathlib.Core.Path.{_≡_, refl, ap, _∙_}
 use mathlib.Core.List.{List, [], _∷_, _++_}
 use Prim.Native.Nat.{ℕ, _-_, _*_}
 use lib.ListN.{length, getD, replicate}
 use Rattle.words.specs.Bits.{digit, bit}
-use Rattle.words.specs.Members.{first}
+use Rattle.words.specs.Members.{first, some}
 use Rattle.words.specs.Tables.{table}
 use Rattle.order.specs.Stored.{elements, row, putRow, rowTable, cells}
 use Rattle.order.specs.Rows.{grow, arcsFrom, arcsIn, circleIn}
 use Rattle.order.specs.Orders.{extended, circleOf, orderOf, orderIn, joinedRows}
 use Rattle.records.specs.Bytes.{field, zeros}
-use Rattle.plan.specs.Records.{leading, activityFields, crewFields, arcFields, demandsOf}
+use Rattle.plan.specs.Records.{leading, activityFields, demandsSome, crewFields, arcFields, demandsOf}
 use Rattle.plan.specs.Meaning.{fileDuration, fileDemand, fileKinds, fileAvailable}
 use Rattle.plan.specs.model.ArcRows.{withArc, arcsAfter, arcsUpTo}
 use Rattle.plan.specs.model.Plans.{durationsOf, demandTable, availableOf, planOf}
@@ -19,12 +19,13 @@ use Rattle.plan.specs.Causes.{rule, activityCause, crewCause, arcCause, causeAt
 use Rattle.plan.specs.model.Reads.{readOf}
 use Rattle.plan.specs.declared.Plan.{Plan}
 use Rattle.plan.specs.declared.Reading.{Reading}
-use Rattle.plan.specs.declared.Answer.the-variants.{Readable}
+use Rattle.plan.specs.declared.Answer.the-variants as answer
+use Rattle.plan.specs.declared.Cause.the-variants.{MilestoneDemand}
 use Rattle.planner.specs.Open.{planIn, orderFor, unreadFault, readFault, orCircles, faultOf}
 use Rattle.planner.specs.declared.Cause.the-variants.{JobCircle, PlanCircle}
 use Rattle.planner.specs.declared.Fault.{Fault}
 use Rattle.planner.specs.declared.Fault.the-variants.{Fine, Refused}
-use Rattle.promises.specs.Cases.{planA, planB, planC, planD, planE, planEJob, planF}
+use Rattle.promises.specs.Cases.{planA, planB, planC, planD, planE, planEJob, planF, planG, planH}
 
 -- ---- the plans as tables
 
@@ -70,10 +71,16 @@ inEJob = fourWith (2 ∷ 1 ∷ []) []
 abbrev pub inF : ℕ → Plan
 inF demand = planWith (1 ∷ []) (demand ∷ []) [] []
 
+abbrev pub inG : Plan
+inG = planWith (0 ∷ []) [] [] []
+
+abbrev pub inH : Plan
+inH = planWith (1 ∷ 2 ∷ 0 ∷ 3 ∷ 1 ∷ []) (2 ∷ 2 ∷ 0 ∷ 2 ∷ 2 ∷ []) [] (4 ∷ 4 ∷ 24 ∷ [])
+
 -- ---- so they are read
 
 abbrev Reads : List ℕ → Plan → Type 0
-Reads s q = readOf s ≡ record { plan = q; answer = Readable }
+Reads s q = readOf s ≡ record { plan = q; answer = answer.Readable }
 
 record AllRead : Type 0 where
   a : Reads planA inA
@@ -84,10 +91,17 @@ record AllRead : Type 0 where
   e-job : Reads planEJob inEJob
   f4 : Reads (planF 4) (inF 4)
   f5 : Reads (planF 5) (inF 5)
+  g : Reads (planG 0) inG
+  h : Reads planH inH
 
 all-read : AllRead
-unfolding digit bit first table row putRow rowTable cells field zeros leading activityFields crewFields arcFields demandsOf fileDuration fileDemand fileKinds fileAvailable withArc arcsAfter arcsUpTo durationsOf demandTable availableOf planOf rule activityCause crewCause arcCause causeAt firstRefusal recordsCause isLength answerOf readOf
-all-read = record { a = refl; b = refl; c = refl; d = refl; e = refl; e-job = refl; f4 = refl; f5 = refl }
+unfolding digit bit first some table row putRow rowTable cells field zeros leading activityFields demandsSome crewFields arcFields demandsOf fileDuration fileDemand fileKinds fileAvailable withArc arcsAfter arcsUpTo durationsOf demandTable availableOf planOf rule activityCause crewCause arcCause causeAt firstRefusal recordsCause isLength answerOf readOf
+all-read = record { a = refl; b = refl; c = refl; d = refl; e = refl; e-job = refl; f4 = refl; f5 = refl; g = refl; h = refl }
+
+-- plan G with a demand is not
+pub g-refused : answerOf (planG 1) ≡ answer.Refused (MilestoneDemand 0)
+unfolding first some table field zeros leading activityFields demandsSome crewFields demandsOf rule activityCause crewCause causeAt firstRefusal recordsCause isLength answerOf
+g-refused = refl
 
 -- ---- and so they are opened
 
@@ -104,7 +118,7 @@ pub record OpenedAs (s : List ℕ) (q : Plan) (f : Fault) : Type 0 where
   pub plan : planIn s ≡ q
   pub fault : faultOf s ≡ f
 
-reads-as : {s : List ℕ} {q : Plan} {f : Fault} → Reads s q → faultIn (record { plan = q; answer = Readable }) ≡ f → OpenedAs s q f
+reads-as : {s : List ℕ} {q : Plan} {f : Fault} → Reads s q → faultIn (record { plan = q; answer = answer.Readable }) ≡ f → OpenedAs s q f
 reads-as {s} r e = record { plan = ap (λ (x : Reading). x .plan) r; fault = fault-in s ∙ ap faultIn r ∙ e }
 
 pub record AllOpened : Type 0 where
@@ -116,6 +130,8 @@ pub record AllOpened : Type 0 where
   pub e-job : OpenedAs planEJob inEJob (Refused (JobCircle 1))
   pub f4 : OpenedAs (planF 4) (inF 4) Fine
   pub f5 : OpenedAs (planF 5) (inF 5) Fine
+  pub g : OpenedAs (planG 0) inG Fine
+  pub h : OpenedAs planH inH Fine
 
 pub all-opened : AllOpened
 unfolding digit bit first table row rowTable cells grow arcsFrom arcsIn circleIn extended circleOf orderOf orderIn joinedRows
@@ -129,6 +145,8 @@ all-opened =
       e-job = reads-as (all-read .e-job) refl;
       f4 = reads-as (all-read .f4) refl;
       f5 = reads-as (all-read .f5) refl;
+      g = reads-as (all-read .g) refl;
+      h = reads-as (all-read .h) refl;
     }
 
 -- what goes by the plan and the fault of a file

@@ -5,7 +5,7 @@ use Prim.Native.Nat.{ℕ, _+_}
 use lib.ListN.{length, replicate}
 use Rattle.words.specs.Bits.{digit, bit}
 use Rattle.words.specs.model.Loops.{each, run, upto}
-use Rattle.words.specs.Members.{first, count}
+use Rattle.words.specs.Members.{first, count, some}
 use Rattle.words.specs.Listing.{members}
 use Rattle.words.specs.Sums.{sum, maximum}
 use Rattle.words.specs.Tables.{table}
@@ -35,13 +35,16 @@ use Rattle.planner.specs.Verdict.{verdictFault, verdictOf}
 use Rattle.planner.specs.Needs.{needsFault, needNumbers, needsOut}
 use Rattle.planner.specs.Starts.{startsFault, startsOut, startNumbers, withEnd}
 use Rattle.planner.specs.Overload.{overloadFault, overCount, overBytes, overloadOut}
-use Rattle.planner.specs.CrewCheck.{someZero, badLists, crewCheckFault, crewFound, checkedOf}
-use Rattle.planner.specs.declared.Cause.the-variants.{Lists}
+use Rattle.planner.specs.CrewCheck.{someMisworked, badLists, crewCheckFault, crewFound, checkedOf}
+use Rattle.plan.specs.declared.Cause.the-variants.{MilestoneDemand}
+use Rattle.planner.specs.declared.Cause.the-variants.{Unreadable, Lists}
 use Rattle.planner.specs.declared.Fault.{Fault}
 use Rattle.planner.specs.declared.CrewChecked.{CrewChecked}
 use Rattle.promises.specs.Ours.{ours}
-use Rattle.promises.specs.Cases.{Cases}
-use Rattle.promises.proofs.CasePlans.{OpenedAs, all-opened, opened-as}
+use Rattle.promises.specs.Cases.{Cases, planG}
+use Rattle.promises.proofs.CircleFaults.{means-unreadable}
+use Rattle.promises.proofs.CircleCauses.{every-gives}
+use Rattle.promises.proofs.CasePlans.{OpenedAs, all-opened, opened-as, g-refused}
 
 -- ---- what ours says of a file that is opened so
 
@@ -53,7 +56,7 @@ starting q =
 
 abbrev checking : Plan → Fault → List ℕ → List ℕ → CrewChecked
 checking q f starts worked =
-    checkedOf (orCause f (badLists (q .count) starts worked) (Lists (q .count)))
+    checkedOf (orCause f (badLists (q .count) (q .duration) starts worked) (Lists (q .count)))
     (checkOf (crewNet (rowsFor q) starts worked) (workOf (q .demand) (q .available) starts worked))
 
 module _ {s : List ℕ} {q : Plan} {f : Fault} (o : OpenedAs s q f) where
@@ -90,7 +93,7 @@ module _ {s : List ℕ} {q : Plan} {f : Fault} (o : OpenedAs s q f) where
   crew-as starts worked = opened-as (λ p g. crewCheckNumbers (checking p g starts worked)) o
 
 pub cases : Cases ours
-unfolding row putRow rowTable cells numberOf setOf digit bit each run upto first members count sum maximum table grow arcsFrom arcsIn extended orderOf orderIn joinedRows afterRows bytes overloadRecord asked rounds earliestOf endOf brokenTo brokenFrom occupied lowestKind lastFinish quiet firstPeriod checkOf startsOf heaviest needOf advance giver nonzero joined shifted handing blanks blankRows ranked started rounded solved unused copied outcome amount quoteIn demandsFor lentAfter needFor overKind isOverloaded overCause withEnd overCount overBytes someZero badLists
+unfolding row putRow rowTable cells numberOf setOf digit bit each run upto first some members count sum maximum table grow arcsFrom arcsIn extended orderOf orderIn joinedRows afterRows bytes overloadRecord asked rounds earliestOf endOf brokenTo brokenFrom occupied lowestKind lastFinish quiet firstPeriod checkOf startsOf heaviest needOf advance giver nonzero joined shifted handing blanks blankRows ranked started rounded solved unused copied outcome amount quoteIn demandsFor lentAfter needFor overKind isOverloaded overCause withEnd overCount overBytes someMisworked badLists
 cases =
     record {
       a-accepted = verdict-as (all-opened .a);
@@ -118,4 +121,12 @@ cases =
       c-two-by-two = crew-as (all-opened .c) (0 ∷ 0 ∷ 1 ∷ 1 ∷ []) (1 ∷ 1 ∷ 1 ∷ 1 ∷ []);
       c-longer = crew-as (all-opened .c) (0 ∷ 0 ∷ 1 ∷ 1 ∷ []) (2 ∷ 2 ∷ 1 ∷ 1 ∷ []);
       c-false-turn = crew-as (all-opened .c) (0 ∷ 0 ∷ 2 ∷ 1 ∷ []) (1 ∷ 2 ∷ 3 ∷ 1 ∷ []);
+      g-read = verdict-as (all-opened .g);
+      g-refused = every-gives (planG 1) (Unreadable (MilestoneDemand 0)) (means-unreadable (planG 1) (MilestoneDemand 0) g-refused) .verdict;
+      h-accepted = verdict-as (all-opened .h);
+      h-need = needs-left (all-opened .h) (9 ∷ []);
+      h-starts = starts-left (all-opened .h) (9 ∷ 9 ∷ 9 ∷ 9 ∷ 9 ∷ 9 ∷ 9 ∷ []);
+      h-fits = crew-as (all-opened .h) (0 ∷ 0 ∷ 2 ∷ 2 ∷ 2 ∷ []) (1 ∷ 2 ∷ 0 ∷ 3 ∷ 1 ∷ []);
+      h-worked = crew-as (all-opened .h) (0 ∷ 0 ∷ 2 ∷ 3 ∷ 3 ∷ []) (1 ∷ 2 ∷ 1 ∷ 3 ∷ 1 ∷ []);
+      h-idle = crew-as (all-opened .h) (0 ∷ 0 ∷ 2 ∷ 2 ∷ 2 ∷ []) (1 ∷ 0 ∷ 0 ∷ 3 ∷ 1 ∷ []);
     }

@@ -112,7 +112,7 @@ module _ (n : ℕ) (ys : List ℕ) (one : OneOf opening n) where
       (turn-gives (orShort known (w .1) (flowLength (q .count))) (isOverloaded q) (overCause q) refl
       (output-gives (flowFault s (w .0) (w .1)) (flowCount q (w .0 - 1)) (w .2))))
   fault-gives s (inr (inr (inr (inr (inr w))))) =
-      turn-gives (faultOf s) (badLists (planIn s .count) (w .0) (w .1)) (Lists (planIn s .count)) refl
+      turn-gives (faultOf s) (badLists (planIn s .count) (planIn s .duration) (w .0) (w .1)) (Lists (planIn s .count)) refl
       (crew-gives (crewCheckFault s (w .0) (w .1)) (crewFound s (w .0) (w .1)) (w .2))
 
 -- ---- the causes 5 and 6, by their numbers

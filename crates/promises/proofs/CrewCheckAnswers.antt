@@ -23,14 +23,14 @@ use Rattle.planner.specs.Open.{planIn, Opens}
 use Rattle.planner.specs.CrewCheck.{badLists, crewWork, crewFound, crewCheckAnswer}
 use Rattle.planner.specs.Times.{crewOccupies}
 use Rattle.planner.proofs.OpenLaws.{said-in, opens-readable}
-use Rattle.planner.proofs.CrewCheckLaws.{bad-zero, lists-fine}
+use Rattle.planner.proofs.CrewCheckLaws.{bad-work, lists-fine, works-listed}
 use Rattle.planner.proofs.QuotedNeeds.{count-in, kinds-in, kinds-few, available-in}
 use Rattle.planner.specs.declared.CrewChecked.the-variants.{Found}
 use Rattle.planner.specs.Answers.{foundNumbers, crewCheckNumbers}
 use Rattle.promises.specs.Ours.{ours}
 use Rattle.promises.specs.Paper.{RightLists, NeverOver, FirstOverload, CrewCheck}
 use Rattle.promises.proofs.AnswersWhen.{crew-lists, crew-looks}
-use Rattle.promises.proofs.CrewCheckMeaning.{none-zero, finds-fits, finds-broken, finds-over, none-occupied, over-kind}
+use Rattle.promises.proofs.CrewCheckMeaning.{finds-fits, finds-broken, finds-over, none-occupied, over-kind}
 
 -- a finding is no refusal as 10
 not-ten : (x : Checked) (m : ℕ) → foundNumbers x ≡ 10 ∷ m ∷ [] → ⊥
@@ -55,10 +55,10 @@ module _ (s : List ℕ) (o : Opens s) (starts worked : List ℕ) where
 
   -- ---- the lists are right, or the answer is 10
 
-  lists-right : badLists (planIn s .count) starts worked ≡ false → RightLists s starts worked
+  lists-right : badLists (planIn s .count) (planIn s .duration) starts worked ≡ false → RightLists s starts worked
   lists-right e =
-      let w = lists-fine (planIn s .count) starts worked e in
-      record { starts-all = w .0 ∙ m; worked-all = w .1 ∙ m; working = λ i h. none-zero worked .0 (w .2) i (omega (arith, h, m, w .1)) }
+      let w = lists-fine (planIn s .count) (planIn s .duration) starts worked e in
+      record { starts-all = w .0 ∙ m; worked-all = w .1 ∙ m; working = works-listed s worked readable (w .1) .0 (w .2) }
 
   module _ (R : RightLists s starts worked) where
     starts-count : length starts ≡ planIn s .count
@@ -67,10 +67,9 @@ module _ (s : List ℕ) (o : Opens s) (starts worked : List ℕ) where
     worked-count : length worked ≡ planIn s .count
     worked-count = R .worked-all ∙ sym m
 
-    not-bad : badLists (planIn s .count) starts worked ≡ false
+    not-bad : badLists (planIn s .count) (planIn s .duration) starts worked ≡ false
     not-bad =
-        sym (bad-zero (planIn s .count) starts worked starts-count worked-count
-        (sym (none-zero worked .1 (λ i h. R .working i (omega (arith, R .worked-all))))))
+        sym (bad-work (planIn s .count) (planIn s .duration) starts worked starts-count worked-count (sym (works-listed s worked readable worked-count .1 (R .working))))
 
     -- what is answered is what is found
     answers : (x : Checked) → (crewCheckAnswer s starts worked ≡ Found x) ↔ (crewFound s starts worked ≡ x)
@@ -141,7 +140,7 @@ module _ (s : List ℕ) (o : Opens s) (starts worked : List ℕ) where
         ten = (
           (λ e R. not-ten (crewFound s starts worked) (activityCount s) (sym (ap crewCheckNumbers (crew-looks s starts worked o (not-bad R))) ∙ e)),
           (λ n.
-              ap crewCheckNumbers (crew-lists s starts worked o (holds (badLists (planIn s .count) starts worked) (λ e. n (lists-right e))))
+              ap crewCheckNumbers (crew-lists s starts worked o (holds (badLists (planIn s .count) (planIn s .duration) starts worked) (λ e. n (lists-right e))))
               ∙ ap (λ (x : ℕ). 10 ∷ x ∷ []) m),
         );
         fits = λ R.

@@ -1,16 +1,12 @@
 -- What the crew check finds, in the file's own terms, where the plan opens and there is a start for each activity. Assumes nothing.
 use mathlib.Core.Path.{_≡_}
-use mathlib.Core.Bool.{false, cond}
+use mathlib.Core.Bool.{cond}
 use mathlib.Core.List.{List}
 use mathlib.Core.Logic.{_↔_, Iff·rfl, Iff·trans, Iff·and}
 use Prim.Native.Nat.{ℕ, _+_, _≤_, _<_, _*_}
 use native.Mathlib.Omega.{arith}
 use native.Mathlib.Decide.{decLt}
-use lib.Dec.{eqb}
 use lib.ListN.{length, getD}
-use borrow.Author.Tests.{eqb-false, ltb-false, ne-eqb, le-ltb}
-use Rattle.words.specs.Members.{first}
-use Rattle.words.proofs.Firsts.{before-first, first-none}
 use Rattle.words.proofs.Sums.{sum-zero}
 use Rattle.words.proofs.Tests.{cond-least}
 use Rattle.order.specs.Stored.{elements}
@@ -23,25 +19,12 @@ use Rattle.schedule.specs.Lists.{at}
 use Rattle.schedule.specs.declared.Checked.the-variants.{Fits, Broken, Overload}
 use Rattle.schedule.proofs.Answers.{fits-says, broken-says, over-says}
 use Rattle.planner.specs.Open.{planIn, rowsOf, Opens}
-use Rattle.planner.specs.CrewCheck.{someZero, crewWork, crewFound}
+use Rattle.planner.specs.CrewCheck.{crewWork, crewFound}
 use Rattle.plan.specs.Meaning.{FileArc}
 use Rattle.planner.specs.Times.{KeepsArcs}
 use Rattle.promises.specs.Paper.{FirstBrokenArc}
 use Rattle.planner.proofs.OpenLaws.{said-in, opens-readable, count-few}
 use Rattle.planner.proofs.FileOrders.{plan-arcs, arc-ends}
-
--- no number is 0
-pub none-zero : (xs : List ℕ) → (someZero xs ≡ false) ↔ ((i : ℕ) → i < length xs → 1 ≤ getD xs i 0)
-unfolding someZero
-none-zero xs =
-    let n = first (length xs) (λ k. eqb (getD xs k 0) 0) in (
-      (λ e i l.
-          let m = ltb-false n (length xs) e in
-          omega (arith, eqb-false (getD xs i 0) 0 (before-first (length xs) (λ k. eqb (getD xs k 0) 0) i (omega arith)))),
-      (λ h.
-          let e = first-none (length xs) (λ k. eqb (getD xs k 0) 0) .1 (λ i l. ne-eqb (getD xs i 0) 0 (λ z. omega (arith, h i l))) in
-          le-ltb n (length xs) (omega arith)),
-    )
 
 module _ (s starts worked : List ℕ) (o : Opens s) (all : length starts ≡ planIn s .count) where
   -- the arcs that the crew check looks at are the file's

@@ -77,7 +77,7 @@ only-more xs ys f h c e = one-more xs ys (causeNumber c) (h c e)
 -- ---- the causes of the opening
 
 pub unread-one : (u : Unread) → OneOf reading (causeNumber (Unreadable u))
-unread-one = unread-number (OneOf reading) (inl refl) (inr (inl refl)) (inr (inr (inl refl))) (inr (inr (inr (inl refl))))
+unread-one = unread-number (OneOf reading) (inl refl) (inr (inl refl)) (inr (inr (inl refl))) (inr (inr (inr (inl refl)))) (inr (inr (inr (inr (inl refl)))))
 
 fault-only : (s : List ℕ) → Only opening (faultOf s)
 fault-only s =
@@ -148,7 +148,7 @@ flow-only s kind n = kind-only s kind n (flowLength (planIn s .count))
 
 crew-only : (s starts worked : List ℕ) → Only (opening ++ 10 ∷ []) (crewCheckFault s starts worked)
 unfolding crewCheckFault
-crew-only s starts worked = then-only s (badLists (planIn s .count) starts worked) (Lists (planIn s .count))
+crew-only s starts worked = then-only s (badLists (planIn s .count) (planIn s .duration) starts worked) (Lists (planIn s .count))
 
 pub every-input : EveryInput ours
 unfolding needsOut startsOut overloadOut flowOut

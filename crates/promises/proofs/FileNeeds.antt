@@ -14,8 +14,9 @@ use Rattle.order.specs.Arcs.{StrictOrder, Drawn}
 use Rattle.order.specs.Orders.{isBefore}
 use Rattle.order.proofs.Before.{before-within, strict-first}
 use Rattle.order.proofs.Orders.{order-means}
-use Rattle.plan.specs.Meaning.{Readable, FileArc, fileDemand}
+use Rattle.plan.specs.Meaning.{Readable, FileArc, fileDuration, fileDemand}
 use Rattle.plan.specs.Records.{activityCount}
+use Rattle.plan.proofs.Milestones.{milestone-idle}
 use Rattle.solver.proofs.First.{set-within}
 use Rattle.flow_math.specs.Need.{Antichain, weight, Need}
 use Rattle.flow_math.specs.Kept.{Keeps}
@@ -29,8 +30,8 @@ use Rattle.kinds.specs.Needs.{demandsFor}
 use Rattle.planner.specs.Open.{planIn, planOrder, Opens}
 use Rattle.planner.specs.Need.{demandFor, needFor, shownSet}
 use Rattle.planner.specs.File.{Unrelated, demandSum}
-use Rattle.planner.specs.Times.{arcWeight, KeepsArcs, FileCrew, crewOccupies}
-use Rattle.planner.proofs.OpenLaws.{opens-readable, count-few}
+use Rattle.planner.specs.Times.{arcWeight, KeepsArcs, Workable, FileCrew, crewOccupies}
+use Rattle.planner.proofs.OpenLaws.{said-in, opens-readable, opens-small, count-few}
 use Rattle.planner.proofs.FileOrders.{arc-ends, plan-order, opens-strict}
 use Rattle.planner.proofs.QuotedNeeds.{count-in, demand-in, quotable, sound-in}
 
@@ -113,21 +114,31 @@ module _ (s : List ℕ) (small : AreBytes s) (o : Opens s) where
         crew-bound (planIn s .count) (isBefore (planOrder s)) (demandFor (planIn s) k) x w t strict-in (keeps-order x w c),
       )
 
-  -- SOME CREW HAS EXACTLY THAT OCCUPIED: each works one period
+  -- SOME CREW HAS EXACTLY THAT OCCUPIED: it works in the file's durations
 
-  peak-in : (k : ℕ) → Peak (planIn s .count) (isBefore (planOrder s)) (demandFor (planIn s) k) (λ i. 1) 1
-  peak-in k =
-      crew-peak (planIn s .count) (isBefore (planOrder s)) (demandFor (planIn s) k) (λ i. 1) 1 strict-in (λ i h. (omega arith, omega arith))
+  file-works : Workable s (fileDuration s)
+  file-works = record { milestones = λ i l z. z; others = λ i l n. omega arith }
+
+  -- who demands something takes time, since a milestone demands nobody; and no duration is longer than 65,535
+  time-in : (k : ℕ) → k < 8 → (i : ℕ) → i < planIn s .count → (0 < demandFor (planIn s) k i → 1 ≤ fileDuration s i) × (fileDuration s i ≤ 65535)
+  time-in k h i l =
+      let c : i < activityCount s = omega (arith, l, count-in s readable) in (
+        (λ d. file-works .others i c (λ z. omega (arith, d, demand-in s small o k i h l, milestone-idle s readable i k c h z))),
+        omega (arith, said-in s readable .duration i l, opens-small s small o i),
+      )
+
+  peak-in : (k : ℕ) → k < 8 → Peak (planIn s .count) (isBefore (planOrder s)) (demandFor (planIn s) k) (fileDuration s) 65535
+  peak-in k h = crew-peak (planIn s .count) (isBefore (planOrder s)) (demandFor (planIn s) k) (fileDuration s) 65535 strict-in (time-in k h)
 
   pub crew-some : (k : ℕ) → k < 8
       → (starts : ℕ → ℕ) × (worked : ℕ → ℕ) × (t : ℕ) × FileCrew s starts worked × (1 ≤ t) × (crewOccupies s k starts worked t ≡ needFor (planIn s) k)
   unfolding needFor
   crew-some k h =
-      let P = peak-in k in (
+      let P = peak-in k h in (
         P .starts,
-        λ i. 1,
+        fileDuration s,
         P .period,
-        record { works = λ i l. omega arith; keeps = keeps-arcs (P .starts) (λ i. 1) (P .apart) },
+        record { works = file-works; keeps = keeps-arcs (P .starts) (fileDuration s) (λ i j d. omega (arith, P .apart i j d, time-in k h i (d .from) .1)) },
         P .first,
-        sym (occupied-in k h (P .starts) (λ i. 1) (P .period)) ∙ P .full,
+        sym (occupied-in k h (P .starts) (fileDuration s) (P .period)) ∙ P .full,
       )

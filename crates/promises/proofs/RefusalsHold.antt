@@ -46,7 +46,7 @@ is-unread s n values h =
     (λ i _ e. absurd (one-not reading n 5 h refl (sym (heads e))))
     (λ i _ e. absurd (one-not reading n 6 h refl (sym (heads e))))
 
-unreadables : (s : List ℕ) → Unreadables ours s
+pub unreadables : (s : List ℕ) → Unreadables ours s
 unreadables s =
     record {
       every = λ u e. every-gives s (Unreadable u) (means-unreadable s u e);

@@ -1,4 +1,4 @@
--- THE STARRED CASES of document 01, "Plans A to F", on the files' bytes, as one table about a planner P: each line is one case and what P says of it, by the numbers of
+-- THE STARRED CASES of document 01, "Plans A to F", and cases of document 02, on the files' bytes, as one table about a planner P: each line is one case and what P says of it, by the numbers of
 -- the answers (planner's Answers): "6, activity 1" is the list of 6 and 1; 0 is a result, 254 a broken arc, 255 an overload with period and kind. Every line holds
 -- of ours: `cases` of proofs/CasesHold.antt, by computation of the definitions alone. Assumes nothing.
 use mathlib.Core.Path.{_≡_}
@@ -43,6 +43,16 @@ planEJob = planC ++ (arcBytes 3 1 2 ++ arcBytes 3 2 1)
 abbrev pub planF : ℕ → List ℕ
 planF demand = activityBytes 1 1 demand ++ crewBytes 4
 
+-- one activity of duration 0, with this demand of the 4 available
+abbrev pub planG : ℕ → List ℕ
+planG demand = activityBytes 1 0 demand ++ crewBytes 4
+
+-- plan D by a milestone, its activity 3: extra arcs 1 to 3 and 2 to 3, 3 to 4 and 3 to 5
+abbrev pub planH : List ℕ
+planH =
+    activityBytes 1 1 2 ++ (activityBytes 2 2 2 ++ (activityBytes 3 0 0 ++ (activityBytes 4 3 2 ++ (activityBytes 5 1 2 ++ (crewBytes 4
+    ++ (arcBytes 4 1 3 ++ (arcBytes 4 2 3 ++ (arcBytes 4 3 4 ++ arcBytes 4 3 5))))))))
+
 pub record Cases (P : Planner) : Type 0 where
   -- "*A accepted, need 4."
   pub a-accepted : verdictNumbers (P .verdict planA) ≡ 0 ∷ 4 ∷ 1 ∷ []
@@ -79,3 +89,14 @@ pub record Cases (P : Planner) : Type 0 where
   pub c-longer : crewCheckNumbers (P .crew-check planC (0 ∷ 0 ∷ 1 ∷ 1 ∷ []) (2 ∷ 2 ∷ 1 ∷ 1 ∷ [])) ≡ 255 ∷ 2 ∷ 1 ∷ []
   -- "one timetable by list durations: C passes .. with starts 0, 0, 2, 1" (01, False turns), and its need is 8, as above
   pub c-false-turn : crewCheckNumbers (P .crew-check planC (0 ∷ 0 ∷ 2 ∷ 1 ∷ []) (1 ∷ 2 ∷ 3 ∷ 1 ∷ [])) ≡ 0 ∷ []
+  -- "Document 01's case of a duration 0 is now read without demands and refused as 12 with one." (02, change 2)
+  pub g-read : verdictNumbers (P .verdict (planG 0)) ≡ 0 ∷ 1 ∷ 1 ∷ []
+  pub g-refused : verdictNumbers (P .verdict (planG 1)) ≡ 12 ∷ 0 ∷ []
+  -- a milestone "is never at work and still passes order on": H is accepted as D is, and 4 and 5 start when 2 is done
+  pub h-accepted : verdictNumbers (P .verdict planH) ≡ 0 ∷ 5 ∷ 1 ∷ []
+  pub h-need : P .needs .left planH (9 ∷ []) ≡ 4 ∷ []
+  pub h-starts : P .starts .left planH (9 ∷ 9 ∷ 9 ∷ 9 ∷ 9 ∷ 9 ∷ 9 ∷ []) ≡ 0 ∷ 0 ∷ 2 ∷ 2 ∷ 2 ∷ 5 ∷ 9 ∷ []
+  -- "its worked duration is 0 too": worked 0 it fits, and worked 1 gives 10, as does a worked 0 on another activity
+  pub h-fits : crewCheckNumbers (P .crew-check planH (0 ∷ 0 ∷ 2 ∷ 2 ∷ 2 ∷ []) (1 ∷ 2 ∷ 0 ∷ 3 ∷ 1 ∷ [])) ≡ 0 ∷ []
+  pub h-worked : crewCheckNumbers (P .crew-check planH (0 ∷ 0 ∷ 2 ∷ 3 ∷ 3 ∷ []) (1 ∷ 2 ∷ 1 ∷ 3 ∷ 1 ∷ [])) ≡ 10 ∷ 5 ∷ []
+  pub h-idle : crewCheckNumbers (P .crew-check planH (0 ∷ 0 ∷ 2 ∷ 2 ∷ 2 ∷ []) (1 ∷ 0 ∷ 0 ∷ 3 ∷ 1 ∷ [])) ≡ 10 ∷ 5 ∷ []

@@ -15,7 +15,7 @@ use Rattle.schedule.specs.declared.Checked.the-variants.{Fits, Broken, Overload
 use Rattle.kinds.specs.Reading.{unitsRead}
 use Rattle.flow_math.specs.Breaks.{FirstBroken}
 use Rattle.planner.specs.File.{FileFlow}
-use Rattle.planner.specs.Times.{arcWeight, KeepsArcs, crewOccupies}
+use Rattle.planner.specs.Times.{arcWeight, KeepsArcs, Workable, crewOccupies}
 use Rattle.planner.specs.declared.Output.the-variants.{Written}
 use Rattle.planner.specs.declared.CrewChecked.the-variants.{Found}
 use Rattle.planner.specs.Answers.{verdictNumbers, outputNumbers, crewCheckNumbers}
@@ -74,12 +74,12 @@ pub record EarliestStarts (P : Planner) (s out : List ℕ) : Type 0 where
   pub rest : drop (activityCount s + 1) (P .starts .left s out) ≡ drop (activityCount s + 1) out
   pub room : length (P .starts .left s out) ≡ length out
 
--- ---- crew check: "Given m starts and m worked durations (.. durations 1 or more)"
+-- ---- crew check: "Given m starts and m worked durations", of one or more except for milestones, which keep 0 (02, change 2)
 
 pub record RightLists (s starts worked : List ℕ) : Type 0 where
   pub starts-all : length starts ≡ activityCount s
   pub worked-all : length worked ≡ activityCount s
-  pub working : (i : ℕ) → i < activityCount s → 1 ≤ getD worked i 0
+  pub working : Workable s (at worked)
 
 -- "whose occupied sum exceeds the availability": of kind k + 1 in period t
 abbrev pub IsOver : List ℕ → List ℕ → List ℕ → ℕ → ℕ → Type 0
@@ -105,7 +105,7 @@ abbrev pub FirstBrokenArc : List ℕ → (ℕ → ℕ) → (ℕ → ℕ) → ℕ
 FirstBrokenArc s x w = FirstBroken (FileArc s) x (arcWeight s w)
 
 pub record CrewCheck (P : Planner) (s starts worked : List ℕ) : Type 0 where
-  -- "lists not m long, or a worked duration 0 | 10 | m"
+  -- "lists not m long, or a worked duration 0 | 10 | m"; a milestone's is 0, and 10 is given where it is not
   pub ten : (crewCheckNumbers (P .crew-check s starts worked) ≡ 10 ∷ activityCount s ∷ []) ↔ (RightLists s starts worked → ⊥)
   -- "fits": exactly when every arc is kept, and no period of any kind is over
   pub fits : RightLists s starts worked → (P .crew-check s starts worked ≡ Found Fits) ↔ (KeepsArcs s (at starts) (at worked) × NeverOver s starts worked)

@@ -7,7 +7,7 @@ use native.Mathlib.Nat.{not-suc-le-zero}
 use native.Mathlib.Decide.{decLt}
 use native.Mathlib.Omega.{arith}
 use Rattle.words.specs.Members.{first, IsFirst, some}
-use Rattle.words.proofs.Tests.{clash, or-cases, or-left, or-right, same-or-not}
+use Rattle.words.proofs.Tests.{clash, fails, or-cases, or-left, or-right, same-or-not}
 
 pub the-first : (n : ℕ) (p : ℕ → Bool) → IsFirst n p (first n p)
 unfolding first
@@ -94,3 +94,6 @@ some-here (suc n) p k l h =
     (λ e. or-right (some n p) (p n) (sym (ap p e) ∙ h))
     (λ e. or-left (some n p) (p n) (some-here n p k (omega arith) h))
     (same-or-not k n)
+
+pub some-none : (n : ℕ) (p : ℕ → Bool) → ((k : ℕ) → k < n → p k ≡ false) → some n p ≡ false
+some-none n p h = fails (some n p) (λ e. let w = some-found n p e in clash (w .2) (h (w .0) (w .1)))

@@ -5,10 +5,10 @@ use crate::bytes::{hex, RECORD};
 use crate::check;
 use crate::crew;
 use crate::planner::{Planner, Reply};
-use crate::model::{Case, Crew, Facts};
+use crate::model::{Case, Facts};
 use crate::random::Random;
 use crate::read::Refusal;
-use crate::tally::{Tally, BROKEN, OVERLOAD};
+use crate::tally::Tally;
 use std::fmt::Debug;
 
 pub struct Bench {
@@ -89,6 +89,10 @@ impl Bench {
     pub fn verdict(&mut self, case: &Case) {
         let shown = self.set(case);
         let reply = self.planner.verdict(&case.bytes);
+        if let Ok(facts) = &case.facts {
+            let has = facts.plan.has_milestones();
+            self.tally.note(if has { "plan with milestones" } else { "plan without milestones" });
+        }
         let due = match &case.facts {
             Err(refusal) => refused(refusal),
             Ok(facts) => match facts.overloaded() {
@@ -141,27 +145,10 @@ impl Bench {
         reply
     }
 
-    pub fn crew_check(&mut self, case: &Case, starts: &[u32], durations: &[u32]) {
-        let reply = self.planner.crew_check(&case.bytes, starts, durations);
-        let due = match &case.facts {
-            Err(refusal) => refused(refusal),
-            Ok(facts) => match facts.crew(starts, durations) {
-                Err(refusal) => refused(&refusal),
-                Ok(Crew::Fits) => 0,
-                Ok(Crew::Broken { from, to }) => answer(BROKEN, from as u64 | (to as u64) << 8),
-                Ok(Crew::Overload { period, kind }) => answer(OVERLOAD, kind as u64 | period << 8),
-            },
-        };
-        let outcome = agree(&reply, &Due { answer: due, after: Vec::new() })
-            .map_err(|why| format!("{why}; starts {starts:?}, durations {durations:?}"));
-        self.tally.see("Crew check", reply.answer);
-        self.tally.count(&case.bytes, "Crew check", outcome);
-    }
-
     pub fn settle<T: PartialEq + Debug>(
         &mut self,
         case: &Case,
-        operation: &str,
+        operation: &'static str,
         reply: &Reply<T>,
         due: Result<Due<T>, String>,
     ) {
@@ -173,7 +160,7 @@ impl Bench {
     }
 }
 
-fn agree<T: PartialEq + Debug>(reply: &Reply<T>, due: &Due<T>) -> Result<(), String> {
+pub fn agree<T: PartialEq + Debug>(reply: &Reply<T>, due: &Due<T>) -> Result<(), String> {
     if let Some(harm) = reply.harm {
         return Err(harm.to_string());
     }
@@ -230,7 +217,7 @@ fn overload_due(case: &Case, lent: Vec<u8>, reply: &Reply<u8>) -> Result<Due<u8>
     Ok(Due { answer: answer(0, 1), after: front_written(lent, reply, RECORD) })
 }
 
-/// Causes 1 to 6, then 8, then 9: what Flow and Sheet refuse before they look at the needs.
+/// The file's causes, then 8, then 9: what Flow and Sheet refuse before they look at the needs.
 pub fn asked(case: &Case, kind: u64, length: usize, needed: impl FnOnce(&Facts) -> usize) -> Result<&Facts, u64> {
     let facts = case.facts.as_ref().map_err(refused)?;
     let (kinds, needed) = (facts.plan.kinds as u64, needed(facts));

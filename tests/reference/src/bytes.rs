@@ -14,6 +14,8 @@ pub struct Activity {
     pub demands: [u16; 8],
 }
 
+pub const MILESTONE: Activity = Activity { duration: 0, demands: [0; 8] };
+
 #[derive(Clone)]
 pub struct Draft {
     pub activities: Vec<Activity>,

@@ -5,9 +5,10 @@ use crate::bench::{answer, overloaded, spelled, Bench};
 use crate::bytes::{Arc, Draft};
 use crate::model::Case;
 use crate::tally::{BROKEN, OVERLOAD};
+use std::fmt::Debug;
 
 const FOUR: [(u16, u16); 4] = [(1, 2), (2, 2), (3, 2), (1, 2)];
-const NO_ARCS: &[Arc] = &[];
+pub const NO_ARCS: &[Arc] = &[];
 
 /// Plan A with other extra arcs.
 pub fn four(extra: &[Arc]) -> Draft {
@@ -62,6 +63,11 @@ fn judged(bench: &mut Bench, draft: &Draft, verdict: u64, set: u64, need: Option
 pub fn expect(bench: &mut Bench, file: &[u8], operation: &str, ask: impl FnOnce(&mut Bench) -> u64, due: u64) {
     let got = ask(bench);
     let differ = || format!("answered {}, written out is {}", spelled(got), spelled(due));
+    bench.tally.count(file, operation, if got == due { Ok(()) } else { Err(differ()) });
+}
+
+pub fn same<T: PartialEq + Debug>(bench: &mut Bench, file: &[u8], operation: &str, got: &[T], due: &[T]) {
+    let differ = || format!("{got:?}, and not {due:?}");
     bench.tally.count(file, operation, if got == due { Ok(()) } else { Err(differ()) });
 }
 
@@ -122,7 +128,7 @@ fn crews(bench: &mut Bench) {
     crew(bench, &Draft::of_one_kind(&[], 0, NO_ARCS, NO_ARCS), &[], &[], 0);
 }
 
-fn crew(bench: &mut Bench, draft: &Draft, starts: &[u32], durations: &[u32], due: u64) {
+pub fn crew(bench: &mut Bench, draft: &Draft, starts: &[u32], durations: &[u32], due: u64) {
     let file = draft.bytes();
     expect(bench, &file, "Crew check", |bench| bench.planner.crew_check(&file, starts, durations).answer, due);
     bench.crew_check(&Case::new(file), starts, durations);

@@ -1,7 +1,7 @@
 //! Valid files with bytes damaged, cut short, lengthened and with records moved about.
 
 use crate::bench::Bench;
-use crate::bytes::RECORD;
+use crate::bytes::{ACTIVITY, RECORD};
 use crate::model::Case;
 use crate::random::Random;
 use crate::sweep::{around, random_draft};
@@ -12,6 +12,7 @@ pub fn damaged_plans(bench: &mut Bench, count: usize) {
         let file = some_file(&mut bench.random);
         every_byte(bench, &file);
         several_bytes(bench, &file);
+        no_duration(bench, &file);
         moved_records(bench, &file);
     }
     let file = some_file(&mut bench.random);
@@ -46,7 +47,7 @@ fn every_byte(bench: &mut Bench, file: &[u8]) {
     }
 }
 
-/// Two or three faults at once: the earlier record wins, and within it the lower number.
+/// Two or three faults at once: the earlier record wins, and within it 2, 3, 12, 4.
 fn several_bytes(bench: &mut Bench, file: &[u8]) {
     for _ in 0..300 {
         let mut damaged = file.to_vec();
@@ -60,6 +61,22 @@ fn several_bytes(bench: &mut Bench, file: &[u8]) {
             damaged[place] = bench.random.pick(&[0, 1, 2, 3, 4, 5, 8, 9, 255, any]);
         }
         bench.all(&Case::new(damaged));
+    }
+}
+
+/// Each activity with duration 0, which is a milestone or refused as 12, alone and with one more byte damaged.
+fn no_duration(bench: &mut Bench, file: &[u8]) {
+    for (place, _) in file.chunks(RECORD).enumerate().filter(|(_, record)| record[0] == ACTIVITY) {
+        let mut damaged = file.to_vec();
+        damaged[RECORD * place + 2..][..2].fill(0);
+        bench.all(&Case::new(damaged.clone()));
+        for _ in 0..12 {
+            let byte = bench.random.pick(&[0, 1, 4, 18, 19, 20, 23]);
+            let anywhere = bench.random.index(file.len());
+            let mut twice = damaged.clone();
+            twice[if bench.random.percent(70) { RECORD * place + byte } else { anywhere }] = bench.random.next() as u8;
+            bench.all(&Case::new(twice));
+        }
     }
 }
 

@@ -14,8 +14,10 @@ mod damage;
 mod planner;
 #[allow(unsafe_code)]
 mod guard;
+mod milestones;
 mod model;
 mod paging;
+mod passing;
 mod random;
 mod read;
 mod readings;
@@ -33,6 +35,7 @@ const SEED: u64 = 20_261_115;
 const RANDOM_PLANS: usize = 6_000;
 const BIG_PLANS: usize = 60;
 const DAMAGED_PLANS: usize = 8;
+const PASSING_PLANS: usize = 800;
 
 fn seed() -> u64 {
     let given = std::env::args().nth(1).or_else(|| std::env::var("REFERENCE_SEED").ok());
@@ -53,6 +56,8 @@ fn main() -> ExitCode {
     part("open points", &readings::readings);
     part("bounds", &big::bounds);
     part("crew sheets", &sheets::sheets);
+    part("milestones", &milestones::milestones);
+    part("milestones left out", &|bench| passing::passing(bench, PASSING_PLANS));
     part("random plans", &|bench| sweep::random_plans(bench, RANDOM_PLANS));
     part("damaged plans", &|bench| damage::damaged_plans(bench, DAMAGED_PLANS));
     part("big plans", &|bench| big::big_plans(bench, BIG_PLANS));

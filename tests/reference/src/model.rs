@@ -140,6 +140,14 @@ pub fn ordered(plan: &Plan) -> Result<Order, Refusal> {
     Ok(all)
 }
 
+/// Why lists of starts and worked durations are refused as 10.
+#[derive(Clone, Copy)]
+pub enum BadLists {
+    Length,
+    WorkedZero,
+    WorkedMilestone,
+}
+
 #[derive(Clone, Copy, Debug, PartialEq)]
 pub enum Crew {
     Fits,
@@ -177,10 +185,21 @@ impl Facts {
         24 * (size * size.saturating_sub(1) / 2 + 2 * size + 1)
     }
 
-    pub fn crew(&self, starts: &[u32], durations: &[u32]) -> Result<Crew, Refusal> {
+    /// Both lists have an entry for each activity; a milestone is worked 0, and no other activity is.
+    pub fn bad_lists(&self, starts: &[u32], durations: &[u32]) -> Option<BadLists> {
         let size = self.plan.size();
-        if starts.len() != size || durations.len() != size || durations.contains(&0) {
-            return Err(Refusal { number: 10, value: size as u64 });
+        if starts.len() != size || durations.len() != size {
+            return Some(BadLists::Length);
+        }
+        (0..size).find_map(|place| match durations[place] {
+            0 => (!self.plan.is_milestone(place)).then_some(BadLists::WorkedZero),
+            _ => self.plan.is_milestone(place).then_some(BadLists::WorkedMilestone),
+        })
+    }
+
+    pub fn crew(&self, starts: &[u32], durations: &[u32]) -> Result<Crew, Refusal> {
+        if self.bad_lists(starts, durations).is_some() {
+            return Err(Refusal { number: 10, value: self.plan.size() as u64 });
         }
         let work: Vec<(u64, u64)> =
             starts.iter().zip(durations).map(|(&s, &d)| (s as u64, s as u64 + d as u64)).collect();

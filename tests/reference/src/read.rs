@@ -1,4 +1,4 @@
-//! The independent reader: causes 1 to 4, record by record, in the order of the check list.
+//! The independent reader: cause 1, then 2, 3, 12 and 4 record by record, in the order of the check list.
 
 use crate::bytes::{ACTIVITY, CREW, EXTRA, JOB, RECORD};
 use std::collections::BTreeSet;
@@ -29,6 +29,15 @@ impl Plan {
         self.durations.len()
     }
 
+    /// By its duration in the file, and not by what it demands.
+    pub fn is_milestone(&self, place: usize) -> bool {
+        self.durations[place] == 0
+    }
+
+    pub fn has_milestones(&self) -> bool {
+        (0..self.size()).any(|place| self.is_milestone(place))
+    }
+
     /// All arcs, each once, by from and then to.
     pub fn arcs(&self) -> BTreeSet<(usize, usize)> {
         self.job.union(&self.extra).copied().collect()
@@ -49,6 +58,9 @@ pub fn read(file: &[u8]) -> Result<Plan, Refusal> {
         last = record[0];
         if !take(&mut plan, record) {
             return Err(refuse(3));
+        }
+        if takes_no_time(record) && demands_something(record) {
+            return Err(refuse(12));
         }
         if !spare_is_zero(record) {
             return Err(refuse(4));
@@ -81,10 +93,9 @@ fn take(plan: &mut Plan, record: &[u8]) -> bool {
 
 fn take_activity(plan: &mut Plan, record: &[u8]) -> bool {
     let number = plan.size() + 1;
-    let duration = two_bytes(record, 2);
-    plan.durations.push(duration);
+    plan.durations.push(two_bytes(record, 2));
     plan.demands.push(eight(record));
-    number <= MOST_ACTIVITIES && record[1] as usize == number && duration > 0
+    number <= MOST_ACTIVITIES && record[1] as usize == number
 }
 
 fn take_crew(plan: &mut Plan, record: &[u8]) -> bool {
@@ -101,6 +112,15 @@ fn take_arc(plan: &mut Plan, record: &[u8]) -> bool {
     let arcs = if record[0] == JOB { &mut plan.job } else { &mut plan.extra };
     arcs.insert((from, to));
     good
+}
+
+fn takes_no_time(record: &[u8]) -> bool {
+    record[0] == ACTIVITY && record[2..4] == [0, 0]
+}
+
+/// Whether any of the eight demands is above 0; how many kinds there are is not known yet.
+fn demands_something(record: &[u8]) -> bool {
+    record[4..20].iter().any(|&byte| byte != 0)
 }
 
 fn spare_is_zero(record: &[u8]) -> bool {

@@ -6,18 +6,18 @@ use crate::bytes::{activity_record, arc_record, crew_record, first, Activity, Dr
 use crate::cases::{accepted, expect, four, plan_a};
 use crate::model::Case;
 
-type Record = [u8; RECORD];
+pub type Record = [u8; RECORD];
 
-fn activity(number: u8) -> Record {
+pub fn activity(number: u8) -> Record {
     activity_record(number, 1, &first(2))
 }
 
-fn crew() -> Record {
+pub fn crew() -> Record {
     crew_record(1, &first(9))
 }
 
 /// The record with one byte changed.
-fn with(mut record: Record, byte: usize, value: u8) -> Record {
+pub fn with(mut record: Record, byte: usize, value: u8) -> Record {
     record[byte] = value;
     record
 }
@@ -31,7 +31,7 @@ pub fn readings(bench: &mut Bench) {
     order_of_causes(bench);
 }
 
-fn read(bench: &mut Bench, records: &[Record], due: u64) {
+pub fn read(bench: &mut Bench, records: &[Record], due: u64) {
     let file = records.concat();
     expect(bench, &file, "Verdict", |bench| bench.planner.verdict(&file).answer, due);
     bench.all(&Case::new(file));
@@ -65,7 +65,7 @@ fn order_of_records(bench: &mut Bench) {
 
 fn fields(bench: &mut Bench) {
     let second = [0, 1, 0, 0, 0, 0, 0, 0];
-    read(bench, &[with(activity(1), 2, 0), crew()], answer(3, 0));
+    read(bench, &[with(activity(1), 2, 0), crew()], answer(12, 0));
     read(bench, &[activity(1), activity(1), crew()], answer(3, 1));
     read(bench, &[activity(0), crew()], answer(3, 0));
     for kinds in [0, 9, 255] {

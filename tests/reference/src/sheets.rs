@@ -154,7 +154,7 @@ fn layered(random: &mut Random) -> Draft {
 /// The pages that tests/c has stored are those of the independent sheet, for every kind of these plans, and no other.
 fn stored(bench: &mut Bench) {
     let mut names = BTreeSet::new();
-    for plan in ["a", "hall"] {
+    for plan in ["a", "hall", "handed_back"] {
         let file = fs::read(format!("examples/{plan}.plan")).expect("the example is there");
         let case = claimed(bench, file);
         let facts = case.facts.as_ref().expect("the example is accepted");

@@ -1,7 +1,7 @@
 //! Random plans small enough to try all subsets of.
 
 use crate::bench::Bench;
-use crate::bytes::{Activity, Arc, Draft};
+use crate::bytes::{Activity, Arc, Draft, MILESTONE};
 use crate::model::{needs_by_subsets, ordered, Case, MOST_TRIED};
 use crate::random::Random;
 use crate::read::read;
@@ -24,13 +24,18 @@ pub fn random_plans(bench: &mut Bench, count: usize) {
     }
 }
 
-/// Demands go up to `most`; arcs run forward in a random order of the activities, so that their
-/// numbers say nothing, and some are repeated, in the same type or in the other.
+/// Demands go up to `most`; in half of the plans some activities are milestones. Arcs run forward in a random order of
+/// the activities, so that their numbers say nothing, and some are repeated, in the same type or in the other.
 pub fn random_draft(random: &mut Random, size: usize, most: u16) -> Draft {
     let kinds = random.between(1, 8) as u8;
     let highest = random.pick(&[1, 3, 10, most]);
     let idle = random.pick(&[0, 20, 60]);
-    let activities = (0..size).map(|_| random_activity(random, kinds, highest, idle)).collect();
+    let milestones = random.pick(&[0, 0, 15, 50]);
+    let mut activity = |_| match random.percent(milestones) {
+        true => MILESTONE,
+        false => random_activity(random, kinds, highest, idle),
+    };
+    let activities = (0..size).map(&mut activity).collect();
     let mut line: Vec<u8> = (1..=size as u8).collect();
     random.shuffle(&mut line);
     let mut job = random_arcs(random, &line);

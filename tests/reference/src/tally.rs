@@ -2,23 +2,45 @@
 
 use crate::bytes::hex;
 use crate::trap;
+use std::collections::BTreeMap;
 
 const MOST_PRINTED: u64 = 10;
 pub const BROKEN: u64 = 254;
 pub const OVERLOAD: u64 = 255;
 
+/// What every operation refuses of a file by itself, in the order in which it is tested.
+const FILE: [u64; 7] = [1, 2, 3, 12, 4, 5, 6];
+/// The operations, each with what else it answers.
+const OTHERS: [(&str, &[u64]); 7] = [
+    ("Verdict", &[7, 0]),
+    ("Needs", &[9, 0]),
+    ("Starts", &[9, 0]),
+    ("Overload", &[9, 0]),
+    ("Flow", &[8, 9, 7, 0]),
+    ("Sheet", &[8, 9, 7, 11, 0]),
+    ("Crew check", &[10, BROKEN, OVERLOAD, 0]),
+];
+/// What a number alone does not say.
+const NOTES: [&str; 11] = [
+    "no overload",
+    "sheet of one page",
+    "sheet of more pages",
+    "10: lists not m long",
+    "10: worked 0",
+    "10: a milestone worked",
+    "crew with milestones fits",
+    "crew with milestones breaks an arc",
+    "crew with milestones overloads",
+    "plan with milestones",
+    "plan without milestones",
+];
+
 #[derive(Default)]
 pub struct Tally {
     passed: u64,
     failed: u64,
-    refusals: [u64; 12],
-    accepted: u64,
-    overload_none: u64,
-    sheet_of_one: u64,
-    sheet_of_more: u64,
-    crew_fits: u64,
-    crew_broken: u64,
-    crew_overload: u64,
+    answers: BTreeMap<(&'static str, u64), u64>,
+    notes: BTreeMap<&'static str, u64>,
 }
 
 impl Tally {
@@ -43,42 +65,46 @@ impl Tally {
     }
 
     /// Notes an answer of the library, right or wrong.
-    pub fn see(&mut self, operation: &str, answer: u64) {
+    pub fn see(&mut self, operation: &'static str, answer: u64) {
         let (number, rest) = (answer & 255, answer >> 8);
-        match number {
-            1..=11 => self.refusals[number as usize] += 1,
-            0 if operation == "Verdict" => self.accepted += 1,
-            0 if operation == "Overload" && rest == 0 => self.overload_none += 1,
-            0 if operation == "Sheet" && rest == 1 => self.sheet_of_one += 1,
-            0 if operation == "Sheet" => self.sheet_of_more += 1,
-            0 if operation == "Crew check" => self.crew_fits += 1,
-            BROKEN => self.crew_broken += 1,
-            OVERLOAD => self.crew_overload += 1,
+        *self.answers.entry((operation, number)).or_default() += 1;
+        match (operation, number, rest) {
+            ("Overload", 0, 0) => self.note("no overload"),
+            ("Sheet", 0, 1) => self.note("sheet of one page"),
+            ("Sheet", 0, _) => self.note("sheet of more pages"),
             _ => {}
         }
     }
 
-    fn seen(&self) -> Vec<(String, u64)> {
-        let refusals = (1..=11).map(|number| (format!("refusal {number}"), self.refusals[number]));
-        let others = [
-            ("accepted", self.accepted),
-            ("no overload", self.overload_none),
-            ("sheet of one page", self.sheet_of_one),
-            ("sheet of more pages", self.sheet_of_more),
-            ("crew fits", self.crew_fits),
-            ("broken arc", self.crew_broken),
-            ("crew overload", self.crew_overload),
-        ];
-        refusals.chain(others.map(|(name, count)| (name.to_string(), count))).collect()
+    pub fn note(&mut self, what: &'static str) {
+        *self.notes.entry(what).or_default() += 1;
     }
 
     /// Prints how often each answer was seen; one that never was is a failure of its own.
     pub fn close(&mut self) {
-        for (name, count) in self.seen() {
-            println!("seen {name}: {count}");
-            let outcome = if count > 0 { Ok(()) } else { Err(format!("{name} was never seen")) };
-            self.count(&[], "answers seen", outcome);
+        for (operation, others) in OTHERS {
+            let numbers = FILE.iter().chain(others);
+            let seen: Vec<(u64, u64)> = numbers.map(|&number| (number, self.seen(operation, number))).collect();
+            let words: Vec<String> = seen.iter().map(|(number, count)| format!("{number}:{count}")).collect();
+            println!("seen of {operation}, number:count: {}", words.join(" "));
+            for (number, count) in seen {
+                self.must_be_seen(&format!("{operation}: {number}"), count);
+            }
         }
+        for what in NOTES {
+            let count = self.notes.get(what).copied().unwrap_or(0);
+            println!("seen {what}: {count}");
+            self.must_be_seen(what, count);
+        }
+    }
+
+    fn seen(&self, operation: &'static str, number: u64) -> u64 {
+        self.answers.get(&(operation, number)).copied().unwrap_or(0)
+    }
+
+    fn must_be_seen(&mut self, what: &str, count: u64) {
+        let outcome = if count > 0 { Ok(()) } else { Err(format!("{what} was never seen")) };
+        self.count(&[], "answers seen", outcome);
     }
 
     pub fn print_last_line(&self) {

@@ -1,12 +1,16 @@
 // Crew check: starts and worked durations of a crew, against a plan.
 ghost use mathlib.Core.Path.{_≡_};
-ghost use Rattle.planner.specs.CrewCheck.{checkedOf, someZero, badLists, crewCheckAnswer};
+ghost use Prim.Native.Nat.{_≤_};
+ghost use lib.ListN.{length};
+ghost use Rattle.order.specs.Stored.{elements};
+ghost use Rattle.planner.specs.CrewCheck.{checkedOf, misworked, someMisworked, badLists, crewCheckAnswer};
 use crate::Cause;
 use crate::CrewChecked;
 use crate::Fault;
 use crate::faults::is_fine;
 use crate::faults::or_cause;
 use crate::open::open_plan;
+use order::ELEMENTS;
 
 // The answer, by the fault and what was found.
 fn checked_of(fault: Fault, value: schedule::Checked) -> CrewChecked
@@ -18,22 +22,35 @@ fn checked_of(fault: Fault, value: schedule::Checked) -> CrewChecked
     }
 }
 
-// Whether some number is zero.
-fn some_zero(xs: &[u32]) -> bool
-    ensures { λ r. ⌜ r ≡ someZero (now (xs .entry)) ⌝ }
+// Whether a worked duration does not fit the duration in the file: a milestone is worked in 0, any other activity in 1 or more.
+fn misworked(duration: u32, worked: u32) -> bool
+    ensures { λ r. ⌜ r ≡ misworked duration worked ⌝ }
 {
-    let n = xs.len();
+    if duration == 0 {
+        0 < worked
+    } else {
+        worked == 0
+    }
+}
+
+// Whether that is so of some activity.
+fn some_misworked(durations: &[u32; ELEMENTS], worked: &[u32]) -> bool
+    requires { ⌜ length (now worked) ≤ elements ⌝ }
+    ensures { λ r. ⌜ r ≡ someMisworked (now (durations .entry)) (now (worked .entry)) ⌝ }
+{
+    let n = worked.len();
     for i in 0..n {
-        if xs[i] == 0 {
+        if misworked(durations[i], worked[i]) {
             return true;
         }
     }
     false
 }
 
-// Whether the lists are not m long, or a worked duration is 0.
-fn bad_lists(m: usize, starts: &[u32], worked: &[u32]) -> bool
-    ensures { λ r. ⌜ r ≡ badLists m (now (starts .entry)) (now (worked .entry)) ⌝ }
+// Whether the lists are not m long, or a worked duration does not fit.
+fn bad_lists(m: usize, durations: &[u32; ELEMENTS], starts: &[u32], worked: &[u32]) -> bool
+    requires { ⌜ m ≤ elements ⌝ }
+    ensures { λ r. ⌜ r ≡ badLists m (now (durations .entry)) (now (starts .entry)) (now (worked .entry)) ⌝ }
 {
     if starts.len() != m {
         return true;
@@ -41,7 +58,7 @@ fn bad_lists(m: usize, starts: &[u32], worked: &[u32]) -> bool
     if worked.len() != m {
         return true;
     }
-    some_zero(worked)
+    some_misworked(durations, worked)
 }
 
 // Crew check of a start and a worked duration for each activity of the plan.
@@ -51,8 +68,13 @@ pub fn crew_check(s: &[u8], starts: &[u32], worked: &[u32]) -> CrewChecked
     let opened = open_plan(s);
     let q = opened.plan;
     let m = q.count;
+    let durations = q.duration;
     let before = opened.fault;
-    let fault = or_cause(before, bad_lists(m, starts, worked), Cause::Lists(m));
+    let fault = or_cause(
+        before,
+        bad_lists(m, &durations, starts, worked),
+        Cause::Lists(m),
+    );
     if !is_fine(fault) {
         return checked_of(fault, schedule::Checked::Fits);
     }

@@ -7,13 +7,23 @@ use Rattle.plan.proofs.activity.activity_cause.Tie as tie
 returns : tie.Need-returns
 unfolding activityCause
 returns c =
-    let fields = c .before .before in
-    simp (c .rule2 .ensures, c .before .all-zero .ensures, fields .rule .ensures, fields .before .activity-fields .ensures)
+    let timed = c .before .before in
+    let fields = timed .before .before in
+    simp (
+      c .rule3 .ensures,
+      c .before .all-zero .ensures,
+      timed .rule2 .ensures,
+      timed .before .activity-timed .ensures,
+      fields .rule .ensures,
+      fields .before .activity-fields .ensures,
+    )
 
 pub activity-cause-spec : {M : Type 1} → statement M
 activity-cause-spec =
     tie.close
     (tie.spec
+    (λ c κs. search needs)
+    (λ c κs. search needs)
     (λ c κs. search needs)
     (λ c κs. search needs)
     (λ c κs. search needs)

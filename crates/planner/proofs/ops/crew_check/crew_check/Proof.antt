@@ -5,6 +5,7 @@ use mathlib.Core.Path.{sym, _∙_}
 use Prim.Native.Nat.{ℕ}
 use Rattle.planner.specs.CrewCheck.{crewCheckFault}
 use Rattle.planner.proofs.OutputLaws.{Ends, stops, goes-on}
+use Rattle.planner.proofs.OpenLaws.{opened-few}
 use Rattle.planner.proofs.CrewCheckLaws.{ends, listed, answered}
 use borrow.Author.Needs.{needs}
 use Rattle.planner.proofs.ops.crew_check.crew_check.Statement.{statement}
@@ -13,7 +14,7 @@ use Rattle.planner.proofs.ops.crew_check.crew_check.Tie as tie
 -- what the code has found when it looks at its fault
 module _ (t : tie.After-is-fine) where
   abbrev o : tie.After-open-plan
-  o = t .before .before .before .before
+  o = t .before .before .before .before .before .before
 
   abbrev s : List ℕ
   s = o .before .before .before .before .args .s .now
@@ -26,6 +27,11 @@ module _ (t : tie.After-is-fine) where
 
   found : Ends (crewCheckFault s starts worked) (t .before .or-cause .result) (t .is-fine .result)
   found = ends s starts worked (o .open-plan .ensures) (t .before .before .bad-lists .ensures) (t .before .or-cause .ensures) (t .is-fine .ensures)
+
+bad-lists-requires : tie.Need-bad-lists-requires
+bad-lists-requires c κs =
+    let o = c .before .before .before in
+    opened-few (o .before .before .before .before .args .s .now) (o .open-plan .ensures)
 
 returns : tie.Need-returns
 returns c =
@@ -49,7 +55,7 @@ crew-check-spec =
     tie.close
     (tie.spec
     (λ c κs. search needs)
-    (λ c κs. search needs)
+    bad-lists-requires
     (λ c κs. search needs)
     (λ c κs. search needs)
     (λ c κs. search needs)

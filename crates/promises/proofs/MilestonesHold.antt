@@ -1,0 +1,96 @@
+-- CHANGE 2 OF DOCUMENT 02 HOLDS OF OURS: `milestones-keep`. Assumes nothing.
+use mathlib.Core.Path.{_≡_, refl, ap, _∙_}
+use mathlib.Core.List.{List, [], _∷_}
+use mathlib.Core.Logic.{inl, inr}
+use Prim.Native.Nat.{ℕ, _+_, _<_}
+use native.Mathlib.Omega.{arith}
+use lib.ListN.{length}
+use Rattle.words.proofs.Sums.{sum-term}
+use Rattle.words.proofs.Tests.{fails}
+use Rattle.order.specs.Before.{Acyclic, last, more}
+use Rattle.records.specs.Bytes.{AreBytes}
+use Rattle.plan.specs.Records.{activityCount}
+use Rattle.plan.specs.Meaning.{Readable, Milestone, FileArc, fileKinds}
+use Rattle.plan.specs.declared.Cause.{Cause as Unread}
+use Rattle.plan.specs.declared.Cause.the-variants.{Length, RecordType, Field, MilestoneDemand, Spare}
+use Rattle.plan.specs.declared.Answer.the-variants as answer
+use Rattle.plan.proofs.Milestones.{milestone-idle, demanding-refused, refused-demanding}
+use Rattle.flow_math.specs.Crew.{active}
+use Rattle.flow_math.proofs.Crew.{active-says}
+use Rattle.kinds.specs.Reading.{unitsRead}
+use Rattle.planner.specs.Answers.{unreadNumbers}
+use Rattle.planner.specs.declared.Cause.the-variants.{Unreadable}
+use Rattle.planner.specs.declared.Output.the-variants.{Written}
+use Rattle.planner.proofs.QuotedNeeds.{kinds-in, kinds-few}
+use Rattle.promises.specs.Ours.{ours}
+use Rattle.promises.specs.Paper.{Paper}
+use Rattle.promises.specs.Milestones.{Twelve, Milestones, NoMilestone, MilestoneSentence}
+use Rattle.promises.proofs.CircleCauses.{every-gives, heads}
+use Rattle.promises.proofs.CircleFaults.{means-unreadable}
+use Rattle.promises.proofs.RefusalsHold.{unreadables}
+use Rattle.promises.proofs.PaperHolds.{paper}
+
+-- ---- 12
+
+is-twelve : (u : Unread) (p : ℕ) → unreadNumbers u ≡ 12 ∷ p ∷ [] → u ≡ MilestoneDemand p
+is-twelve Length p e = absurd (omega (arith, heads e))
+is-twelve (RecordType q) p e = absurd (omega (arith, heads e))
+is-twelve (Field q) p e = absurd (omega (arith, heads e))
+is-twelve (MilestoneDemand q) p e = let z : q ≡ p = cc in ap MilestoneDemand z
+is-twelve (Spare q) p e = absurd (omega (arith, heads e))
+
+twelve : (s : List ℕ) → Twelve ours s
+twelve s =
+    record {
+      twelve = λ p D. every-gives s (Unreadable (MilestoneDemand p)) (means-unreadable s (MilestoneDemand p) (demanding-refused s p D));
+      twelve-means = λ p g.
+          let w = unreadables s .some 12 (p ∷ []) (inr (inr (inr (inl refl)))) g in
+          refused-demanding s p (w .1 ∙ ap answer.Refused (is-twelve (w .0) p (w .2)));
+    }
+
+-- ---- the milestones of a readable plan without a circle
+
+module _ (s : List ℕ) (small : AreBytes s) (r : Readable s) (free : Acyclic (FileArc s)) (i : ℕ) (l : i < activityCount s) where
+  says : Paper ours s
+  says = paper s small r .1 free
+
+  module _ (z : Milestone s i) where
+    -- into and out of it goes its demand in all, which is none
+    none-in : (k : ℕ) → k < fileKinds s → (out : List ℕ) (n : ℕ) → ours .flow (k + 1) .answer s (length out) ≡ Written n
+        → (u : ℕ) → u < activityCount s + 2 → unitsRead n (ours .flow (k + 1) .left s out) u (i + 1) ≡ 0
+    none-in k h out n e u b =
+        omega (
+          arith,
+          sum-term (activityCount s + 2) (λ x. unitsRead n (ours .flow (k + 1) .left s out) x (i + 1)) u b,
+          says .flows k out n e .into i l,
+          milestone-idle s r i k l (omega (arith, h, kinds-in s r, kinds-few s)) z,
+        )
+
+    none-out : (k : ℕ) → k < fileKinds s → (out : List ℕ) (n : ℕ) → ours .flow (k + 1) .answer s (length out) ≡ Written n
+        → (v : ℕ) → v < activityCount s + 2 → unitsRead n (ours .flow (k + 1) .left s out) (i + 1) v ≡ 0
+    none-out k h out n e v b =
+        omega (
+          arith,
+          sum-term (activityCount s + 2) (unitsRead n (ours .flow (k + 1) .left s out) (i + 1)) v b,
+          says .flows k out n e .out i l,
+          milestone-idle s r i k l (omega (arith, h, kinds-in s r, kinds-few s)) z,
+        )
+
+    pub milestone : Milestones ours s i
+    milestone =
+        record {
+          nobody = λ k h. milestone-idle s r i k l h z;
+          takes-over = none-in;
+          hands-over = none-out;
+          never = λ x w c t. fails (active x w t i) (λ e. let a = active-says x w t i .0 e in omega (arith, c .works .milestones i l z));
+          orders = λ h j a b. more a (last b);
+          passes = λ x w c h j a b. omega (arith, c .keeps h i a, c .keeps i j b);
+          starts = λ out e h j a b. omega (arith, says .starts out e .keep h i a, says .starts out e .keep i j b);
+          ten = λ starts worked d. says .crews starts worked .ten .1 (λ R. omega (arith, R .working .milestones i l z));
+        }
+
+  no-milestone : (Milestone s i → ⊥) → NoMilestone ours s i
+  no-milestone n = record { ten = λ starts worked d. says .crews starts worked .ten .1 (λ R. omega (arith, R .working .others i l n)) }
+
+pub milestones-keep : MilestoneSentence ours
+milestones-keep = record { refused = twelve; milestones = milestone; others = no-milestone }
