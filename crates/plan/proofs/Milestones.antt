@@ -1,46 +1,37 @@
 -- Milestones: a readable file's demand nobody, and what 12 means. Assumes nothing.
 use mathlib.Core.Path.{_≡_, refl, sym, ap, _∙_, subst}
-use mathlib.Core.Bool.{Bool, true, false, not, cond, _||_}
+use mathlib.Core.Bool.{Bool, true, false, not, _||_}
 use mathlib.Core.List.{List}
 use mathlib.Core.Logic.{⊎-elim, _≢_}
 use Prim.Native.Nat.{ℕ, _≤_, _<_}
 use native.Mathlib.Omega.{arith}
 use native.Mathlib.Decide.{decLt}
 use lib.ListN.{length}
-use lib.Dec.{eqb, ltb}
+use lib.Dec.{ltb}
 use borrow.Author.Tests.{lt-ltb, le-ltb, ltb-true, ltb-false}
-use Rattle.words.proofs.Tests.{by-test, clash, holds, cond-has}
+use Rattle.words.proofs.Tests.{by-test, clash, holds}
 use Rattle.words.proofs.Firsts.{some-found, some-here}
 use Rattle.plan.specs.declared.Answer.{Answer}
 use Rattle.plan.specs.declared.Answer.the-variants.{Readable, Refused}
 use Rattle.plan.specs.declared.Cause.{Cause}
-use Rattle.plan.specs.declared.Cause.the-variants.{Length, RecordType, Field, MilestoneDemand, Spare}
-use Rattle.plan.specs.Records.{recordAt, activityCount, activityFields, activityTimed, activitySpare, demandIn, demandsSome, durationIn, dueType, demandsOf}
-use Rattle.plan.specs.Causes.{rule, isReadable, activityCause, crewCause, arcCause, causeAt, isLength, answerOf}
+use Rattle.plan.specs.declared.Cause.the-variants.{Field, MilestoneDemand, Spare}
+use Rattle.plan.specs.Records.{recordAt, activityCount, activityFields, activityTimed, activitySpare, demandIn, demandsSome, durationIn}
+use Rattle.plan.specs.Causes.{rule, isReadable, activityCause, causeAt, isLength, answerOf}
 use Rattle.plan.specs.Numbers.{toldBy}
 use Rattle.plan.specs.Meaning.{Readable as IsReadable, Milestone, fileDuration, fileDemand}
 use Rattle.plan.specs.Refused.{FirstFault, DemandingMilestone}
-use Rattle.plan.proofs.RecordRules.{rule-kept, rule-before, Holds, rule-holds, at-activity}
+use Rattle.plan.proofs.RecordRules.{rule-kept, rule-before, Holds, at-activity, cause-holds}
 use Rattle.plan.proofs.Parts.{activities-within, activity-fine}
 use Rattle.plan.proofs.Said.{readable-faultless}
 use Rattle.plan.proofs.Refused.{refused-length, refused-means, fault-refused}
 
 -- ---- the rule: what is demanded is demanded for some time
 
--- a record that takes no time demands nothing of a kind, where it keeps the rule
-timed-idle : (r : List ℕ) (k : ℕ) → k < 8 → durationIn r ≡ 0 → activityTimed r ≡ true → demandIn r k ≡ 0
+-- it is broken exactly where a record takes no time and demands something of one of the eight kinds
+not-timed : (r : List ℕ) (k : ℕ) → k < 8 → durationIn r ≡ 0 → 0 < demandIn r k → activityTimed r ≡ false
 unfolding demandsSome
-timed-idle r k h z e =
-    by-test (ltb 0 (demandIn r k))
-    (λ t. clash e (rw (le-ltb 0 (durationIn r) (omega arith), some-here 8 (λ x. ltb 0 (demandIn r x)) k h t) refl))
-    (λ t. omega (arith, ltb-false 0 (demandIn r k) t))
+not-timed r k h z d = rw (le-ltb 0 (durationIn r) (omega arith), some-here 8 (λ x. ltb 0 (demandIn r x)) k h (lt-ltb 0 (demandIn r k) d)) refl
 
--- A READABLE FILE'S MILESTONES DEMAND NOBODY
-pub milestone-idle : (s : List ℕ) → IsReadable s → (i k : ℕ) → i < activityCount s → k < 8 → Milestone s i → fileDemand s k i ≡ 0
-unfolding fileDuration fileDemand activityCause
-milestone-idle s e i k h l z = timed-idle (recordAt s i) k l z (rule-kept _ _ _ (rule-before _ _ _ (activity-fine s (readable-faultless s e) i h)))
-
--- what breaks it
 timed-not : (r : List ℕ) → activityTimed r ≡ false → (durationIn r ≡ 0) × ((k : ℕ) × (k < 8) × (0 < demandIn r k))
 unfolding demandsSome
 timed-not r e =
@@ -53,9 +44,14 @@ timed-not r e =
     go false true e = (refl, refl)
     go false false e = clash refl e
 
-not-timed : (r : List ℕ) (k : ℕ) → k < 8 → durationIn r ≡ 0 → 0 < demandIn r k → activityTimed r ≡ false
-unfolding demandsSome
-not-timed r k h z d = rw (le-ltb 0 (durationIn r) (omega arith), some-here 8 (λ x. ltb 0 (demandIn r x)) k h (lt-ltb 0 (demandIn r k) d)) refl
+-- A READABLE FILE'S MILESTONES DEMAND NOBODY
+pub milestone-idle : (s : List ℕ) → IsReadable s → (i k : ℕ) → i < activityCount s → k < 8 → Milestone s i → fileDemand s k i ≡ 0
+unfolding fileDuration fileDemand activityCause
+milestone-idle s e i k h l z =
+    let r = recordAt s i in
+    by-test (ltb 0 (demandIn r k))
+    (λ t. clash (rule-kept _ _ _ (rule-before _ _ _ (activity-fine s (readable-faultless s e) i h))) (not-timed r k l z (ltb-true 0 (demandIn r k) t)))
+    (λ t. omega (arith, ltb-false 0 (demandIn r k) t))
 
 -- ---- 12 at a record
 
@@ -81,18 +77,7 @@ activity-twelve p q r e = go (activityFields q r) (activityTimed r) (activitySpa
 
 -- no other record gives it
 others-not : (s : List ℕ) (p : ℕ) → activityCount s ≤ p → Holds (λ (c : Cause). number c ≢ 12) (causeAt s p)
-unfolding causeAt crewCause arcCause
-others-not s p h =
-    let r = recordAt s p in
-    let crew : Answer = crewCause p (demandsOf s) r in
-    let arc : Answer = arcCause (dueType s p) p (activityCount s) r in
-    cond-has (Holds (λ (c : Cause). number c ≢ 12)) (ltb p (activityCount s)) (activityCause p r) (cond (eqb p (activityCount s)) crew arc)
-    (λ t. clash t (le-ltb p (activityCount s) h))
-    (λ t. cond-has (Holds (λ (c : Cause). number c ≢ 12)) (eqb p (activityCount s)) crew arc (λ _. three _ _ _) (λ _. three _ _ _))
-  where
-    three : (a b c : Bool) → Holds (λ (d : Cause). number d ≢ 12) (rule (rule (rule Readable a (RecordType p)) b (Field p)) c (Spare p))
-    three a b c =
-        rule-holds _ _ c (Spare p) (rule-holds _ _ b (Field p) (rule-holds _ Readable a (RecordType p) tt (λ e. omega arith)) (λ e. omega arith)) (λ e. omega arith)
+others-not s p h = cause-holds (λ (c : Cause). number c ≢ 12) s p (λ e. omega arith) (λ e. omega arith) (λ l. absurd (omega arith)) (λ e. omega arith)
 
 -- ---- 12 OF A FILE, both ways
 
@@ -116,8 +101,7 @@ refused-demanding s p e =
     (refused-means s (MilestoneDemand p) e)
   where
     legal : isLength (length s) ≡ true
-    legal =
-        holds (isLength (length s)) (λ t. omega (arith, ap number (same-cause (sym (refused-length s t) ∙ e))))
+    legal = holds (isLength (length s)) (λ t. omega (arith, ap number (same-cause (sym (refused-length s t) ∙ e))))
 
     at-record : (q : ℕ) → FirstFault s q (Refused (MilestoneDemand p)) → Dec (q < activityCount s) → DemandingMilestone s p
     at-record q F (yes h) =

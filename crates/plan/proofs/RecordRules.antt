@@ -1,6 +1,6 @@
 -- What a record with no cause tells: each of its rules is kept. Assumes nothing.
 use mathlib.Core.Path.{_≡_, refl, sym, ap, _∙_}
-use mathlib.Core.Bool.{Bool, true, false, not, _&&_, false≢true}
+use mathlib.Core.Bool.{Bool, true, false, not, cond, _&&_, false≢true}
 use mathlib.Core.List.{List}
 use mathlib.Core.Logic.{_≢_}
 use Prim.Native.Nat.{ℕ, zero, suc, _+_, _-_, _*_, _≤_, _<_}
@@ -9,13 +9,14 @@ use lib.ListN.{getD, take}
 use lib.Seq.{slice, getD-take, getD-drop}
 use lib.Dec.{eqb, leb, ltb}
 use borrow.Author.Tests.{ltb-true, leb-true, eqb-true, eq-eqb, lt-ltb, le-ltb, ne-eqb}
-use Rattle.words.proofs.Tests.{and-left, and-right, cond-true, cond-false}
+use Rattle.words.proofs.Tests.{and-left, and-right, cond-true, cond-false, cond-has}
 use Rattle.records.proofs.Zeros.{all-zero}
-use Rattle.records.specs.Bytes.{byte, field, zeros}
+use Rattle.records.specs.Bytes.{byte, zeros}
 use Rattle.order.specs.Stored.{elements}
 use Rattle.plan.specs.declared.Answer.{Answer}
 use Rattle.plan.specs.declared.Answer.the-variants.{Readable, Refused}
 use Rattle.plan.specs.declared.Cause.{Cause}
+use Rattle.plan.specs.declared.Cause.the-variants.{RecordType, Field, MilestoneDemand, Spare}
 use Rattle.plan.specs.Records.{recordAt, activityCount, jobCount, dueType, activityFields, crewFields, isEnd, arcFields, activities, demandsOf}
 use Rattle.plan.specs.Causes.{rule, isReadable, activityCause, crewCause, arcCause, causeAt}
 
@@ -47,7 +48,7 @@ abbrev pub Holds : (Cause → Type 0) → Answer → Type 0
 Holds P Readable = Unit {0}
 Holds P (Refused c) = P c
 
-pub rule-holds : (P : Cause → Type 0) (answer : Answer) (kept : Bool) (cause : Cause) → Holds P answer → P cause → Holds P (rule answer kept cause)
+rule-holds : (P : Cause → Type 0) (answer : Answer) (kept : Bool) (cause : Cause) → Holds P answer → P cause → Holds P (rule answer kept cause)
 unfolding rule
 rule-holds P Readable true cause h k = tt
 rule-holds P Readable false cause h k = k
@@ -126,3 +127,20 @@ due-job s p h = cond-true 3 4 (lt-ltb p (activityCount s + 1 + jobCount s) h)
 
 pub due-extra : (s : List ℕ) (p : ℕ) → activityCount s + 1 + jobCount s ≤ p → dueType s p ≡ 4
 due-extra s p h = cond-false 3 4 (le-ltb p (activityCount s + 1 + jobCount s) h)
+
+-- ---- WHAT HOLDS OF EACH CAUSE THAT A RECORD CAN HAVE holds of the one that it has
+
+pub cause-holds : (P : Cause → Type 0) (s : List ℕ) (p : ℕ) → P (RecordType p) → P (Field p) → (p < activityCount s → P (MilestoneDemand p)) → P (Spare p)
+    → Holds P (causeAt s p)
+unfolding causeAt activityCause crewCause arcCause
+cause-holds P s p typed fields timed spare =
+    let m : ℕ = activityCount s in
+    let r : List ℕ = recordAt s p in
+    let crew : Answer = crewCause p (demandsOf s) r in
+    let arc : Answer = arcCause (dueType s p) p m r in
+    cond-has (Holds P) (ltb p m) (activityCause p r) (cond (eqb p m) crew arc)
+    (λ t. rule-holds P _ _ (Spare p) (rule-holds P _ _ (MilestoneDemand p) (rule-holds P Readable _ (Field p) tt fields) (timed (ltb-true p m t))) spare)
+    (λ t. cond-has (Holds P) (eqb p m) crew arc (λ _. three _ _ _) (λ _. three _ _ _))
+  where
+    three : (a b c : Bool) → Holds P (rule (rule (rule Readable a (RecordType p)) b (Field p)) c (Spare p))
+    three a b c = rule-holds P _ c (Spare p) (rule-holds P _ b (Field p) (rule-holds P Readable a (RecordType p) tt typed) fields) spare

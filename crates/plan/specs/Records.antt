@@ -34,7 +34,7 @@ activityCount s = leading 1 (recordCount s) s
 abbrev pub activities : ℕ
 activities = 64
 
--- "Type 1, activity: byte 1 its number; 2–3 duration, ..; 4–19 eight demands of two bytes, kinds 1 to 8, each 0 to 65,535"
+-- "Type 1, activity: byte 1 its number; 2–3 duration, ..; 4–19 eight demands of two bytes, kinds 1 to 8, each 0 to 65,535" (a duration of 0 is the matter of `activityTimed`)
 unfoldable pub activityFields : ℕ → List ℕ → Bool
 activityFields place r = ltb place activities && eqb (byte r 1) (place + 1)
 
