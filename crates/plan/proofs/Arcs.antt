@@ -4,7 +4,7 @@ use mathlib.Core.Bool.{Bool, true, _||_}
 use mathlib.Core.List.{List}
 use mathlib.Core.Logic.{_⊎_, inl, inr, ⊎-elim, _↔_, _≢_}
 use Prim.Native.Nat.{ℕ, zero, suc, _+_, _-_, _≤_, _<_}
-use native.Mathlib.Nat.{add-zero, add-suc}
+use native.Mathlib.Nat.{zero-add, add-zero, add-suc}
 use native.Mathlib.Decide.{ℕ-discrete}
 use native.Mathlib.Omega.{arith}
 use lib.ListN.{length, replicate}
@@ -63,6 +63,11 @@ arcs-run s type a (suc n) =
 pub arcs-start : (s : List ℕ) (type : ℕ) → arcsUpTo s type 0 ≡ replicate (cells elements) 0
 unfolding arcsUpTo
 arcs-start s type = refl
+
+-- the same of the first n records
+pub arcs-none-before : (s : List ℕ) (type n : ℕ) → ((i : ℕ) → i < n → typeAt s i ≢ type) → arcsUpTo s type n ≡ replicate (cells elements) 0
+arcs-none-before s type n h =
+    ap (arcsUpTo s type) (sym (zero-add n)) ∙ arcs-none s type 0 n (λ i l. subst (λ (x : ℕ). typeAt s x ≢ type) (sym (zero-add i)) (h i l)) ∙ arcs-start s type
 
 -- ---- the arc of one record
 

@@ -4,8 +4,9 @@ use mathlib.Core.Bool.{true, false, false≢true}
 use mathlib.Core.List.{List}
 use mathlib.Core.Logic.{_⊎_, ⊎-elim, _≢_}
 use Prim.Native.Nat.{ℕ, _+_, _-_, _≤_, _<_}
-use native.Mathlib.Nat.{zero-add, eq-or-lt-of-le}
+use native.Mathlib.Nat.{eq-or-lt-of-le}
 use native.Mathlib.Omega.{arith}
+use native.Mathlib.Decide.{decLt}
 use lib.ListN.{replicate}
 use borrow.Author.Tests.{eq-eqb, ne-eqb}
 use Rattle.words.specs.model.Loops.{upto}
@@ -21,7 +22,7 @@ use Rattle.plan.specs.model.Phases.{putArc}
 use Rattle.plan.proofs.Refusals.{followed-left, followed-right, all-readable}
 use Rattle.plan.proofs.Places.{record-on, leading-le, leading-typed}
 use Rattle.plan.proofs.RecordRules.{few-activities, CrewKept, crew-kept, ArcKept, arc-kept, at-activity, at-crew, at-arc, due-extra}
-use Rattle.plan.proofs.Arcs.{arcs-none, arcs-run, arcs-start}
+use Rattle.plan.proofs.Arcs.{arcs-none, arcs-none-before, arcs-run}
 
 -- no record has a cause, and the crew record is there
 pub record Faultless (s : List ℕ) : Type 0 where
@@ -72,16 +73,21 @@ module _ (s : List ℕ) (crewed : typeAt s (activityCount s) ≡ 2) where
       (λ l. omega (arith, activity-typed s p l))
       (eq-or-lt-of-le h)
 
-  none-before : (type : ℕ) → 3 ≤ type → arcsUpTo s type (activityCount s + 1) ≡ replicate (cells elements) 0
-  none-before type h =
-      let m : ℕ = activityCount s in
-      ap (arcsUpTo s type) (sym (zero-add (m + 1))) ∙ arcs-none s type 0 (m + 1) (λ i l. no-arc type (0 + i) h (omega arith)) ∙ arcs-start s type
+  -- nor an extra arc before the first that is due
+  pub no-extra : (p : ℕ) → p < activityCount s + 1 + jobCount s → typeAt s p ≢ 4
+  no-extra p h e = go (decLt (activityCount s) p)
+    where
+      go : Dec (activityCount s < p) → ⊥
+      go (yes l) =
+          let q : activityCount s + 1 + (p - (activityCount s + 1)) ≡ p = omega arith in
+          omega (arith, subst (λ (x : ℕ). typeAt s x ≡ 3) q (job-typed s (p - (activityCount s + 1)) (omega arith)))
+      go (no l) = no-arc 4 p (omega arith) (omega arith) e
 
   no-job-before : arcsUpTo s 3 (activityCount s + 1) ≡ replicate (cells elements) 0
-  no-job-before = none-before 3 (omega arith)
+  no-job-before = arcs-none-before s 3 (activityCount s + 1) (λ p l. no-arc 3 p (omega arith) (omega arith))
 
   no-extra-before : arcsUpTo s 4 (activityCount s + 1 + jobCount s) ≡ replicate (cells elements) 0
-  no-extra-before = arcs-none s 4 (activityCount s + 1) (jobCount s) (λ i l q. omega (arith, job-typed s i l)) ∙ none-before 4 (omega arith)
+  no-extra-before = arcs-none-before s 4 (activityCount s + 1 + jobCount s) no-extra
 
 module _ (s : List ℕ) (F : Faultless s) where
   pub activity-fine : (p : ℕ) → p < activityCount s → isReadable (activityCause p (recordAt s p)) ≡ true

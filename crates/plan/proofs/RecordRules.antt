@@ -108,6 +108,13 @@ arc-kept type place m r e =
       to-high = leb-true (byte r 2) m (and-right (ltb 0 (byte r 2)) (leb (byte r 2) m) to);
     }
 
+-- the same, of a type that is said otherwise, and among more activities
+pub arc-of : {type other m : ℕ} {r : List ℕ} → byte r 0 ≡ type → ArcKept other m r → ArcKept type m r
+arc-of e K = record { typed = e; from-low = K .from-low; from-high = K .from-high; to-low = K .to-low; to-high = K .to-high }
+
+pub arc-among : {type m n : ℕ} {r : List ℕ} → m ≤ n → ArcKept type m r → ArcKept type n r
+arc-among h K = record { typed = K .typed; from-low = K .from-low; from-high = omega (arith, K .from-high); to-low = K .to-low; to-high = omega (arith, K .to-high) }
+
 -- ---- which rules a record has, by its place
 
 pub at-activity : (s : List ℕ) (p : ℕ) → p < activityCount s → causeAt s p ≡ activityCause p (recordAt s p)
