@@ -17,7 +17,7 @@ use Rattle.plan.specs.declared.Answer.{Answer}
 use Rattle.plan.specs.declared.Answer.the-variants.{Readable, Refused}
 use Rattle.plan.specs.declared.Cause.{Cause}
 use Rattle.plan.specs.declared.Cause.the-variants.{RecordType, Field, MilestoneDemand, Spare}
-use Rattle.plan.specs.Records.{recordAt, activityCount, jobCount, dueType, activityFields, crewFields, isEnd, arcFields, activities, demandsOf}
+use Rattle.plan.specs.Records.{recordAt, activityCount, jobCount, dueType, activityFields, activityTimed, crewFields, isEnd, arcFields, activities, demandsOf}
 use Rattle.plan.specs.Causes.{rule, isReadable, activityCause, crewCause, arcCause, causeAt}
 
 -- ---- bytes that are zero
@@ -43,15 +43,15 @@ unfolding rule
 rule-before Readable kept cause e = refl
 rule-before (Refused c) kept cause e = e
 
--- what holds of the cause of an answer, if it has one, and of the cause of the next rule holds after it
+-- what holds of the cause of an answer, if it has one, and of the cause of the next rule, where that is the one broken, holds after it
 abbrev pub Holds : (Cause → Type 0) → Answer → Type 0
 Holds P Readable = Unit {0}
 Holds P (Refused c) = P c
 
-rule-holds : (P : Cause → Type 0) (answer : Answer) (kept : Bool) (cause : Cause) → Holds P answer → P cause → Holds P (rule answer kept cause)
+rule-holds : (P : Cause → Type 0) (answer : Answer) (kept : Bool) (cause : Cause) → Holds P answer → (isReadable answer ≡ true → kept ≡ false → P cause) → Holds P (rule answer kept cause)
 unfolding rule
 rule-holds P Readable true cause h k = tt
-rule-holds P Readable false cause h k = k
+rule-holds P Readable false cause h k = k refl refl
 rule-holds P (Refused c) kept cause h k = h
 
 -- m activities with no cause: each stands at one of the places that a file has for activities
@@ -135,10 +135,10 @@ due-job s p h = cond-true 3 4 (lt-ltb p (activityCount s + 1 + jobCount s) h)
 pub due-extra : (s : List ℕ) (p : ℕ) → activityCount s + 1 + jobCount s ≤ p → dueType s p ≡ 4
 due-extra s p h = cond-false 3 4 (le-ltb p (activityCount s + 1 + jobCount s) h)
 
--- ---- WHAT HOLDS OF EACH CAUSE THAT A RECORD CAN HAVE holds of the one that it has
+-- ---- WHAT HOLDS OF EACH CAUSE THAT A RECORD CAN HAVE holds of the one that it has; of those that one type alone has, where its own rule is the first that is broken
 
-pub cause-holds : (P : Cause → Type 0) (s : List ℕ) (p : ℕ) → P (RecordType p) → P (Field p) → (p < activityCount s → P (MilestoneDemand p)) → P (Spare p)
-    → Holds P (causeAt s p)
+pub cause-holds : (P : Cause → Type 0) (s : List ℕ) (p : ℕ) → P (RecordType p) → P (Field p)
+    → (p < activityCount s → activityFields p (recordAt s p) ≡ true → activityTimed (recordAt s p) ≡ false → P (MilestoneDemand p)) → P (Spare p) → Holds P (causeAt s p)
 unfolding causeAt activityCause crewCause arcCause
 cause-holds P s p typed fields timed spare =
     let m : ℕ = activityCount s in
@@ -146,8 +146,12 @@ cause-holds P s p typed fields timed spare =
     let crew : Answer = crewCause p (demandsOf s) r in
     let arc : Answer = arcCause (dueType s p) p m r in
     cond-has (Holds P) (ltb p m) (activityCause p r) (cond (eqb p m) crew arc)
-    (λ t. rule-holds P _ _ (Spare p) (rule-holds P _ _ (MilestoneDemand p) (rule-holds P Readable _ (Field p) tt fields) (timed (ltb-true p m t))) spare)
+    (λ t.
+    rule-holds P _ _ (Spare p)
+    (rule-holds P _ _ (MilestoneDemand p) (rule-holds P Readable _ (Field p) tt (λ _ _. fields)) (λ a b. timed (ltb-true p m t) (rule-kept _ _ _ a) b))
+    (λ _ _. spare))
     (λ t. cond-has (Holds P) (eqb p m) crew arc (λ _. three _ _ _) (λ _. three _ _ _))
   where
     three : (a b c : Bool) → Holds P (rule (rule (rule Readable a (RecordType p)) b (Field p)) c (Spare p))
-    three a b c = rule-holds P _ c (Spare p) (rule-holds P _ b (Field p) (rule-holds P Readable a (RecordType p) tt typed) fields) spare
+    three a b c =
+        rule-holds P _ c (Spare p) (rule-holds P _ b (Field p) (rule-holds P Readable a (RecordType p) tt (λ _ _. typed)) (λ _ _. fields)) (λ _ _. spare)

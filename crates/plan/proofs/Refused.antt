@@ -10,13 +10,14 @@ use lib.Dec.{eqb, leb, ltb}
 use borrow.Author.Tests.{ltb-true, leb-true, eqb-true, lt-ltb, le-leb, eq-eqb}
 use Rattle.words.specs.Members.{first}
 use Rattle.words.proofs.Firsts.{first-stop}
-use Rattle.words.proofs.Tests.{by-test, and-left, and-right, and-both, cond-true, cond-false}
+use Rattle.words.proofs.Tests.{by-test, holds, and-left, and-right, and-both, cond-true, cond-false}
 use Rattle.plan.specs.declared.Answer.{Answer}
 use Rattle.plan.specs.declared.Answer.the-variants.{Readable, Refused}
 use Rattle.plan.specs.declared.Cause.{Cause}
 use Rattle.plan.specs.declared.Cause.the-variants.{Length}
 use Rattle.plan.specs.Records.{recordCount, typeAt, activityCount}
 use Rattle.plan.specs.Causes.{isReadable, causeAt, firstRefusal, followedBy, crewThere, recordsCause, isLength, answerOf}
+use Rattle.plan.specs.Numbers.{toldBy}
 use Rattle.plan.specs.Meaning
 use Rattle.plan.specs.Refused.{WrongLength, FirstFault, CrewMissing}
 use Rattle.plan.proofs.Refusals.{first-refused, all-readable}
@@ -78,6 +79,18 @@ refused-means s c e =
     by-test (isLength (length s))
     (λ t. inr (records-refused s c t (sym (answer-records s t) ∙ e)))
     (λ t. let h = sym (refused-length s t) ∙ e in inl (record { wrong = t; cause = cc h }))
+
+-- a cause that is neither the length nor a record's type is the first fault of a record
+pub refused-at : (s : List ℕ) (c : Cause) → toldBy c .number ≢ 1 → toldBy c .number ≢ 2 → answerOf s ≡ Refused c
+    → (isLength (length s) ≡ true) × ((p : ℕ) × FirstFault s p (Refused c))
+refused-at s c one two e =
+    let number : Cause → ℕ = λ d. toldBy d .number in
+    ⊎-elim
+    (λ w. absurd (one (ap number (w .cause))))
+    (⊎-elim
+    (λ w. (holds (isLength (length s)) (λ t. let h = sym (refused-length s t) ∙ e in let q : Length ≡ c = cc h in one (ap number (sym q))), w))
+    (λ w. absurd (two (ap number (w .cause)))))
+    (refused-means s c e)
 
 -- and the other way round, at a record
 pub fault-refused : (s : List ℕ) (p : ℕ) (c : Cause) → isLength (length s) ≡ true → FirstFault s p (Refused c) → answerOf s ≡ Refused c
