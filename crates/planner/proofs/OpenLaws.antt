@@ -1,10 +1,10 @@
 -- What a plan that opens is, with no cause of the reader's and no circle, and what the code holds of it. Assumes nothing.
 use mathlib.Core.Path.{_≡_, refl, sym, ap, _∙_}
-use mathlib.Core.Bool.{true, false}
+use mathlib.Core.Bool.{true, false, cond}
 use mathlib.Core.List.{List}
 use Prim.Native.Nat.{ℕ, _+_, _≤_, _<_}
 use native.Mathlib.Omega.{arith}
-use lib.Dec.{ltb}
+use lib.Dec.{eqb, ltb}
 use lib.ListN.{getD}
 use borrow.Author.Tests.{lt-ltb, le-ltb, ltb-true, ltb-false}
 use Rattle.words.proofs.Tests.{by-test, cond-true, cond-false}
@@ -29,7 +29,7 @@ use Rattle.plan.specs.declared.Plan.{Plan}
 use Rattle.plan.specs.declared.Reading.{Reading}
 use Rattle.schedule.specs.model.Arrays.{AllAtMost}
 use Rattle.planner.specs.Faults.{isFine, orCause}
-use Rattle.planner.specs.Answers.{causeNumber}
+use Rattle.planner.specs.Answers.{unreadNumbers, causeNumber}
 use Rattle.planner.specs.Open.{planIn, rowsOf, jobOrder, planOrder, unreadFault, readFault, orCircle, orCircles, faultOf, Opens}
 use Rattle.planner.specs.model.Opening.{readPlan, orderedOf, openedOf}
 use Rattle.planner.specs.declared.Cause.{Cause}
@@ -127,13 +127,19 @@ every-open P s unread job whole =
     round : (f : Fault) (o : Order) (cause : ℕ → Cause) → Every P f → ((i : ℕ) → i < elements → P (cause (i + 1))) → Every P (orCircle f o cause)
     round f o cause h each = every-turn P f (ltb (circleOf o) elements) (cause (circleOf o + 1)) h (λ _ e. each (circleOf o) (ltb-true (circleOf o) elements e))
 
--- what holds of the reader's numbers holds of the number of whatever it found
-pub unread-number : (P : ℕ → Type 0) → P 1 → P 2 → P 3 → P 12 → P 4 → (u : Unread) → P (causeNumber (Unreadable u))
-unread-number P one two three twelve four Length = one
-unread-number P one two three twelve four (RecordType p) = two
-unread-number P one two three twelve four (Field p) = three
-unread-number P one two three twelve four (MilestoneDemand p) = twelve
-unread-number P one two three twelve four (Spare p) = four
+-- a reader's cause is known by its numbers: of this number, with this place, it is this one
+abbrev unreadBy : ℕ → ℕ → Unread
+unreadBy n p = cond (eqb n 1) Length (cond (eqb n 2) (RecordType p) (cond (eqb n 3) (Field p) (cond (eqb n 12) (MilestoneDemand p) (Spare p))))
+
+unread-by : (u : Unread) → unreadBy (causeNumber (Unreadable u)) (getD (unreadNumbers u) 1 0) ≡ u
+unread-by Length = refl
+unread-by (RecordType p) = refl
+unread-by (Field p) = refl
+unread-by (MilestoneDemand p) = refl
+unread-by (Spare p) = refl
+
+pub unread-apart : (u v : Unread) → unreadNumbers u ≡ unreadNumbers v → u ≡ v
+unread-apart u v e = sym (unread-by u) ∙ ap (λ (xs : List ℕ). unreadBy (getD xs 0 0) (getD xs 1 0)) e ∙ unread-by v
 
 -- ---- what the code holds after each step
 

@@ -98,10 +98,13 @@ all-read : AllRead
 unfolding digit bit first some table row putRow rowTable cells field zeros leading activityFields demandsSome crewFields arcFields demandsOf fileDuration fileDemand fileKinds fileAvailable withArc arcsAfter arcsUpTo durationsOf demandTable availableOf planOf rule activityCause crewCause arcCause causeAt firstRefusal recordsCause isLength answerOf readOf
 all-read = record { a = refl; b = refl; c = refl; d = refl; e = refl; e-job = refl; f4 = refl; f5 = refl; g = refl; h = refl }
 
--- plan G with a demand is not
-pub g-refused : answerOf (planG 1) ≡ answer.Refused (MilestoneDemand 0)
+-- and these are not
+pub record AllRefused : Type 0 where
+  pub g : answerOf (planG 1) ≡ answer.Refused (MilestoneDemand 0)
+
+pub all-refused : AllRefused
 unfolding first some table field zeros leading activityFields demandsSome crewFields demandsOf rule activityCause crewCause causeAt firstRefusal recordsCause isLength answerOf
-g-refused = refl
+all-refused = record { g = refl }
 
 -- ---- and so they are opened
 

@@ -13,6 +13,7 @@ use Rattle.order.specs.Stored.{row, putRow, rowTable, cells, numberOf, setOf}
 use Rattle.order.specs.Rows.{grow, arcsFrom, arcsIn}
 use Rattle.order.specs.Orders.{extended, orderOf, orderIn, joinedRows, afterRows}
 use Rattle.records.specs.Records.{bytes, overloadRecord}
+use Rattle.plan.specs.Causes.{answerOf}
 use Rattle.plan.specs.declared.Plan.{Plan}
 use Rattle.schedule.specs.Starts.{asked, rounds, earliestOf, endOf}
 use Rattle.schedule.specs.Checks.{brokenTo, brokenFrom, lowestKind, lastFinish, quiet, firstPeriod, checkOf}
@@ -27,7 +28,7 @@ use Rattle.solver.specs.model.Solve.{blanks, blankRows, ranked, started, rounde
 use Rattle.solver.specs.model.Quote.{unused, copied, outcome, amount, quoteIn}
 use Rattle.kinds.specs.Needs.{demandsFor}
 use Rattle.planner.specs.Faults.{orCause, orShort}
-use Rattle.planner.specs.Answers.{verdictNumbers, outputNumbers, crewCheckNumbers}
+use Rattle.planner.specs.Answers.{unreadNumbers, verdictNumbers, outputNumbers, crewCheckNumbers}
 use Rattle.planner.specs.Open.{rowsFor}
 use Rattle.planner.specs.Output.{outputOf, lentAfter}
 use Rattle.planner.specs.Need.{needFor, overKind, isOverloaded, overCause, orOverloaded}
@@ -36,15 +37,15 @@ use Rattle.planner.specs.Needs.{needsFault, needNumbers, needsOut}
 use Rattle.planner.specs.Starts.{startsFault, startsOut, startNumbers, withEnd}
 use Rattle.planner.specs.Overload.{overloadFault, overCount, overBytes, overloadOut}
 use Rattle.planner.specs.CrewCheck.{someMisworked, badLists, crewCheckFault, crewFound, checkedOf}
-use Rattle.plan.specs.declared.Cause.the-variants.{MilestoneDemand}
-use Rattle.planner.specs.declared.Cause.the-variants.{Unreadable, Lists}
+use Rattle.plan.specs.declared.Cause.{Cause as Unread}
+use Rattle.plan.specs.declared.Answer.the-variants as answer
+use Rattle.planner.specs.declared.Cause.the-variants.{Lists}
 use Rattle.planner.specs.declared.Fault.{Fault}
 use Rattle.planner.specs.declared.CrewChecked.{CrewChecked}
 use Rattle.promises.specs.Ours.{ours}
 use Rattle.promises.specs.Cases.{Cases, planG}
-use Rattle.promises.proofs.CircleFaults.{means-unreadable}
-use Rattle.promises.proofs.CircleCauses.{every-gives}
-use Rattle.promises.proofs.CasePlans.{OpenedAs, all-opened, opened-as, g-refused}
+use Rattle.promises.proofs.RefusalsHold.{unreadables}
+use Rattle.promises.proofs.CasePlans.{OpenedAs, all-opened, all-refused, opened-as}
 
 -- ---- what ours says of a file that is opened so
 
@@ -92,6 +93,10 @@ module _ {s : List ℕ} {q : Plan} {f : Fault} (o : OpenedAs s q f) where
   unfolding crewCheckFault crewFound
   crew-as starts worked = opened-as (λ p g. crewCheckNumbers (checking p g starts worked)) o
 
+-- and of one that is refused
+verdict-refused : (s : List ℕ) {u : Unread} → answerOf s ≡ answer.Refused u → verdictNumbers (ours .verdict s) ≡ unreadNumbers u
+verdict-refused s {u} e = unreadables s .every u e .verdict
+
 pub cases : Cases ours
 unfolding row putRow rowTable cells numberOf setOf digit bit each run upto first some members count sum maximum table grow arcsFrom arcsIn extended orderOf orderIn joinedRows afterRows bytes overloadRecord asked rounds earliestOf endOf brokenTo brokenFrom occupied lowestKind lastFinish quiet firstPeriod checkOf startsOf heaviest needOf advance giver nonzero joined shifted handing blanks blankRows ranked started rounded solved unused copied outcome amount quoteIn demandsFor lentAfter needFor overKind isOverloaded overCause withEnd overCount overBytes someMisworked badLists
 cases =
@@ -122,7 +127,7 @@ cases =
       c-longer = crew-as (all-opened .c) (0 ∷ 0 ∷ 1 ∷ 1 ∷ []) (2 ∷ 2 ∷ 1 ∷ 1 ∷ []);
       c-false-turn = crew-as (all-opened .c) (0 ∷ 0 ∷ 2 ∷ 1 ∷ []) (1 ∷ 2 ∷ 3 ∷ 1 ∷ []);
       g-read = verdict-as (all-opened .g);
-      g-refused = every-gives (planG 1) (Unreadable (MilestoneDemand 0)) (means-unreadable (planG 1) (MilestoneDemand 0) g-refused) .verdict;
+      g-refused = verdict-refused (planG 1) (all-refused .g);
       h-accepted = verdict-as (all-opened .h);
       h-need = needs-left (all-opened .h) (9 ∷ []);
       h-starts = starts-left (all-opened .h) (9 ∷ 9 ∷ 9 ∷ 9 ∷ 9 ∷ 9 ∷ 9 ∷ []);

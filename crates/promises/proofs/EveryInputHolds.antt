@@ -1,14 +1,15 @@
 -- DEMAND 1 HOLDS OF OURS: every answer is a result or a refusal by a number that document 01 gives the operation, and a refusal changes nothing. Assumes nothing.
 use mathlib.Core.Path.{_≡_, refl, sym, ap, _∙_}
-use mathlib.Core.Bool.{Bool, true, false, _||_, true≢false}
+use mathlib.Core.Bool.{Bool, true, false, _||_, true≢false, false≢true}
 use mathlib.Core.List.{List, [], _∷_, _++_}
 use mathlib.Core.Logic.{_⊎_, inl, inr, _≢_}
 use Prim.Native.Nat.{ℕ, _-_}
 use lib.Dec.{eqb, ltb}
 use lib.ListN.{length}
-use borrow.Author.Tests.{eq-eqb}
-use Rattle.words.proofs.Tests.{or-left, or-right}
+use borrow.Author.Tests.{eqb-true, eq-eqb}
+use Rattle.words.proofs.Tests.{or-left, or-right, or-cases}
 use Rattle.plan.specs.declared.Cause.{Cause as Unread}
+use Rattle.plan.specs.declared.Cause.the-variants.{Length, RecordType, Field, MilestoneDemand, Spare}
 use Rattle.plan.specs.declared.Answer.the-variants as answer
 use Rattle.schedule.specs.declared.Checked.{Checked}
 use Rattle.planner.specs.Faults.{orCause}
@@ -30,7 +31,7 @@ use Rattle.planner.specs.declared.Decision.the-variants as verdict
 use Rattle.planner.specs.declared.Output.the-variants as output
 use Rattle.planner.specs.declared.CrewChecked.the-variants as crew
 use Rattle.planner.proofs.FaultLaws.{Every, every-turn}
-use Rattle.planner.proofs.OpenLaws.{every-open, unread-number}
+use Rattle.planner.proofs.OpenLaws.{every-open}
 use Rattle.planner.proofs.OutputLaws.{output-is-refused, lent-refused}
 use Rattle.planner.specs.Answers.{causeNumber}
 use Rattle.promises.specs.Ours.{ours}
@@ -50,7 +51,7 @@ one-after (x ∷ xs) ys n h = inr (one-after xs ys n h)
 pub one-last : (xs : List ℕ) (n : ℕ) → OneOf (xs ++ n ∷ []) n
 one-last xs n = one-after xs (n ∷ []) n (inl refl)
 
--- the test of it, and that a number which is none of these is another than one of these
+-- the test of it, both ways, and that a number which is none of these is another than one of these
 abbrev pub isOne : List ℕ → ℕ → Bool
 isOne [] n = false
 isOne (x ∷ xs) n = eqb n x || isOne xs n
@@ -59,6 +60,10 @@ one-tested : (xs : List ℕ) (n : ℕ) → OneOf xs n → isOne xs n ≡ true
 one-tested [] n h = absurd h
 one-tested (x ∷ xs) n (inl e) = or-left (eqb n x) (isOne xs n) (eq-eqb n x e)
 one-tested (x ∷ xs) n (inr h) = or-right (eqb n x) (isOne xs n) (one-tested xs n h)
+
+one-found : (xs : List ℕ) (n : ℕ) → isOne xs n ≡ true → OneOf xs n
+one-found [] n e = absurd (false≢true e)
+one-found (x ∷ xs) n e = or-cases (eqb n x) (isOne xs n) e (λ t. inl (eqb-true n x t)) (λ t. inr (one-found xs n t))
 
 pub one-not : (xs : List ℕ) (n m : ℕ) → OneOf xs n → isOne xs m ≡ false → n ≢ m
 one-not xs n m h e q = true≢false (sym (one-tested xs n h) ∙ ap (isOne xs) q ∙ e)
@@ -76,8 +81,15 @@ only-more xs ys f h c e = one-more xs ys (causeNumber c) (h c e)
 
 -- ---- the causes of the opening
 
+unread-tested : (u : Unread) → isOne reading (causeNumber (Unreadable u)) ≡ true
+unread-tested Length = refl
+unread-tested (RecordType p) = refl
+unread-tested (Field p) = refl
+unread-tested (MilestoneDemand p) = refl
+unread-tested (Spare p) = refl
+
 pub unread-one : (u : Unread) → OneOf reading (causeNumber (Unreadable u))
-unread-one = unread-number (OneOf reading) (inl refl) (inr (inl refl)) (inr (inr (inl refl))) (inr (inr (inr (inl refl)))) (inr (inr (inr (inr (inl refl)))))
+unread-one u = one-found reading (causeNumber (Unreadable u)) (unread-tested u)
 
 fault-only : (s : List ℕ) → Only opening (faultOf s)
 fault-only s =

@@ -1,7 +1,6 @@
 -- CHANGE 2 OF DOCUMENT 02 HOLDS OF OURS: `milestones-keep`. Assumes nothing.
-use mathlib.Core.Path.{_≡_, refl, ap, _∙_}
-use mathlib.Core.List.{List, [], _∷_}
-use mathlib.Core.Logic.{inl, inr}
+use mathlib.Core.Path.{_≡_}
+use mathlib.Core.List.{List}
 use Prim.Native.Nat.{ℕ, _+_, _<_}
 use native.Mathlib.Omega.{arith}
 use lib.ListN.{length}
@@ -11,41 +10,27 @@ use Rattle.order.specs.Before.{Acyclic, last, more}
 use Rattle.records.specs.Bytes.{AreBytes}
 use Rattle.plan.specs.Records.{activityCount}
 use Rattle.plan.specs.Meaning.{Readable, Milestone, FileArc, fileKinds}
-use Rattle.plan.specs.declared.Cause.{Cause as Unread}
-use Rattle.plan.specs.declared.Cause.the-variants.{Length, RecordType, Field, MilestoneDemand, Spare}
+use Rattle.plan.specs.declared.Cause.the-variants.{MilestoneDemand}
 use Rattle.plan.specs.declared.Answer.the-variants as answer
 use Rattle.plan.proofs.Milestones.{milestone-idle, demanding-refused, refused-demanding}
 use Rattle.flow_math.specs.Crew.{active}
 use Rattle.flow_math.proofs.Crew.{active-says}
 use Rattle.kinds.specs.Reading.{unitsRead}
-use Rattle.planner.specs.Answers.{unreadNumbers}
-use Rattle.planner.specs.declared.Cause.the-variants.{Unreadable}
 use Rattle.planner.specs.declared.Output.the-variants.{Written}
 use Rattle.planner.proofs.QuotedNeeds.{kinds-in, kinds-few}
 use Rattle.promises.specs.Ours.{ours}
 use Rattle.promises.specs.Paper.{Paper}
 use Rattle.promises.specs.Milestones.{Twelve, Milestones, NoMilestone, MilestoneSentence}
-use Rattle.promises.proofs.CircleCauses.{every-gives, heads}
-use Rattle.promises.proofs.CircleFaults.{means-unreadable}
-use Rattle.promises.proofs.RefusalsHold.{unreadables}
+use Rattle.promises.proofs.RefusalsHold.{unreadables, unread-given}
 use Rattle.promises.proofs.PaperHolds.{paper}
 
 -- ---- 12
 
-is-twelve : (u : Unread) (p : ℕ) → unreadNumbers u ≡ 12 ∷ p ∷ [] → u ≡ MilestoneDemand p
-is-twelve Length p e = absurd (omega (arith, heads e))
-is-twelve (RecordType q) p e = absurd (omega (arith, heads e))
-is-twelve (Field q) p e = absurd (omega (arith, heads e))
-is-twelve (MilestoneDemand q) p e = let z : q ≡ p = cc in ap MilestoneDemand z
-is-twelve (Spare q) p e = absurd (omega (arith, heads e))
-
 twelve : (s : List ℕ) → Twelve ours s
 twelve s =
     record {
-      twelve = λ p D. every-gives s (Unreadable (MilestoneDemand p)) (means-unreadable s (MilestoneDemand p) (demanding-refused s p D));
-      twelve-means = λ p g.
-          let w = unreadables s .some 12 (p ∷ []) (inr (inr (inr (inl refl)))) g in
-          refused-demanding s p (w .1 ∙ ap answer.Refused (is-twelve (w .0) p (w .2)));
+      twelve = λ p D. unreadables s .every (MilestoneDemand p) (demanding-refused s p D);
+      twelve-means = λ p g. refused-demanding s p (unread-given s (MilestoneDemand p) g);
     }
 
 -- ---- the milestones of a readable plan without a circle

@@ -7,11 +7,12 @@ use native.Mathlib.Omega.{arith}
 use Rattle.records.specs.Bytes.{AreBytes}
 use Rattle.plan.specs.Meaning.{Readable, fileKinds}
 use Rattle.plan.specs.Records.{activityCount}
+use Rattle.plan.specs.Causes.{answerOf}
 use Rattle.plan.specs.declared.Cause.{Cause as Unread}
 use Rattle.plan.specs.declared.Answer.the-variants as answer
 use Rattle.planner.specs.Open.{planIn, faultOf, Opens}
 use Rattle.planner.specs.Numbers.{numbersOf}
-use Rattle.planner.specs.Answers.{verdictNumbers, outputNumbers}
+use Rattle.planner.specs.Answers.{unreadNumbers, verdictNumbers, outputNumbers}
 use Rattle.planner.specs.Output.{outputOf}
 use Rattle.planner.specs.Need.{isOverloaded, overCause}
 use Rattle.planner.specs.Verdict.{verdictFault, verdictOf, verdictAnswer}
@@ -25,14 +26,15 @@ use Rattle.planner.specs.declared.Cause.the-variants.{Unreadable, NoKind, Short
 use Rattle.planner.specs.declared.Fault.{Fault}
 use Rattle.planner.specs.declared.Fault.the-variants.{Fine, Refused}
 use Rattle.planner.proofs.FaultLaws.{cause-next, short-next, short-none, Every}
-use Rattle.planner.proofs.OpenLaws.{opens-readable, every-open}
+use Rattle.planner.proofs.OpenLaws.{opens-readable, every-open, unread-apart}
 use Rattle.planner.proofs.QuotedNeeds.{count-in, kinds-in}
 use Rattle.planner.proofs.SheetFaults.{is-kind, not-kind, kind-none, kind-short, kind-over}
 use Rattle.promises.specs.Ours.{ours}
 use Rattle.promises.specs.EveryInput.{OneOf, reading}
+use Rattle.promises.specs.Paper.{SomeGives}
 use Rattle.promises.specs.PriceList.{Exceeds, Enough}
 use Rattle.promises.specs.Refusals.{Unreadables, Refusals, RefusalSentence}
-use Rattle.promises.proofs.EveryInputHolds.{one-more, one-not}
+use Rattle.promises.proofs.EveryInputHolds.{one-more, one-not, unread-one}
 use Rattle.promises.proofs.CircleFaults.{opens-when, unreadable-means, means-unreadable}
 use Rattle.promises.proofs.OverloadShown.{over-when, enough-not}
 use Rattle.promises.proofs.CircleCauses.{every-gives, fault-gives, heads}
@@ -55,6 +57,12 @@ unreadables s =
           let v = is-unread s n values one (w .0) (w .1) (w .2) in
           (v .0, unreadable-means s (v .0) (w .1 ∙ ap Refused (v .1)), sym (ap numbersOf (v .1)) ∙ w .2);
     }
+
+-- and where an operation answers by the numbers of a cause, that is what the reader finds
+pub unread-given : (s : List ℕ) (u : Unread) → SomeGives ours s (unreadNumbers u) → answerOf s ≡ answer.Refused u
+unread-given s u g =
+    let w = unreadables s .some _ _ (unread-one u) g in
+    w .1 ∙ ap answer.Refused (unread-apart (w .0) u (w .2))
 
 -- ---- the other causes, of a plan that opens
 
