@@ -37,8 +37,9 @@ static int read_arc(const uint8_t *r, int due, plain_plan *p) {
     if (r[0] != due) return 2;
     if (r[1] == 0 || r[1] > p->count || r[2] == 0 || r[2] > p->count || r[1] == r[2]) return 3;
     if (spare(r, 3, 24)) return 4;
-    uint64_t *rows = due == 3 ? p->job : p->extra;
-    rows[r[1] - 1] |= (uint64_t)1 << (r[2] - 1);
+    uint64_t *row = (due == 3 ? p->job : p->extra) + r[1] - 1, to = (uint64_t)1 << (r[2] - 1);
+    if (*row & to) return 13; // the pair again
+    *row |= to;
     return 0;
 }
 

@@ -4,6 +4,7 @@
 #include "families.h"
 
 #include <algorithm>
+#include <cstring>
 #include <utility>
 #include <vector>
 
@@ -38,7 +39,8 @@ inline std::vector<Arc> pairs_of(const Rows &rows) {
 }
 
 // The arcs that a file states: those that were drawn, and of the pairs that follow from them a share that is drawn for each file, from none to all, as
-// far as there is room. The order is the same whatever the share. Full: then any of them again, up to the 2,048 records of the longest file.
+// far as there is room. The order is the same whatever the share. Full: all pairs of the order, and then each of them again, for the other type, as far as
+// the 2,048 records of the longest file go. No file can state more of its order: within a type no pair may stand twice.
 inline std::vector<Arc> stated_arcs(const Family &family, int count, bool full, Random &random) {
     Rows drawn = arcs_of(family, random);
     for (int i = 0; i < N; i++) drawn[i] = i < count ? drawn[i] & ~uint64_t(0) >> (N - count) : 0;
@@ -48,9 +50,13 @@ inline std::vector<Arc> stated_arcs(const Family &family, int count, bool full, 
     std::vector<Arc> arcs = pairs_of(drawn);
     const uint32_t share = random.below(1001);
     for (const Arc &arc : pairs_of(rest))
-        if (random.below(1000) < share) arcs.push_back(arc);
+        if (random.below(1000) < share || full) arcs.push_back(arc);
+    if (full) {
+        std::vector<Arc> again = arcs;
+        shuffle(again, random);
+        arcs.insert(arcs.end(), again.begin(), again.end());
+    }
     if (arcs.size() > MOST_ARCS) arcs.resize(MOST_ARCS); // those that were drawn stand first, and never come near this
-    while (full && !arcs.empty() && arcs.size() < MOST_ARCS) arcs.push_back(arcs[random.below(uint32_t(arcs.size()))]);
     shuffle(arcs, random);
     return arcs;
 }
@@ -73,12 +79,18 @@ inline void put_activities(PlanFile &file, Random &random) {
     }
 }
 
-// About half of the arcs are job arcs, which stand before the extra ones.
+// About half of the arcs are job arcs, which stand before the extra ones. A pair that stands twice is one of each type.
 inline void put_arcs(PlanFile &file, std::vector<Arc> arcs, Random &random) {
-    const auto extra = std::partition(arcs.begin(), arcs.end(), [&](const Arc &) { return random.below(2) == 0; });
+    Rows job{}, extra{};
+    const auto first_extra = std::partition(arcs.begin(), arcs.end(), [&](const Arc &arc) {
+        const uint64_t to = uint64_t(1) << arc.second;
+        const bool in_job = random.below(2) == 0 ? !(job[arc.first] & to) : (extra[arc.first] & to) != 0;
+        (in_job ? job : extra)[arc.first] |= to;
+        return in_job;
+    });
     uint8_t *record = &file.bytes[(file.count + 1) * RECORD];
     for (auto arc = arcs.begin(); arc != arcs.end(); ++arc, record += RECORD)
-        record[0] = arc < extra ? 3 : 4, record[1] = uint8_t(arc->first + 1), record[2] = uint8_t(arc->second + 1);
+        record[0] = arc < first_extra ? 3 : 4, record[1] = uint8_t(arc->first + 1), record[2] = uint8_t(arc->second + 1);
 }
 
 // Three plans of four are accepted: each kind has its need available, or up to a sixteenth more. In the fourth, one kind has less than its need.
@@ -111,18 +123,23 @@ template <class NeedOf> PlanFile file_of(const Family &family, uint64_t seed, in
     return file;
 }
 
-// A damaged copy: one byte of any value, an arc turned around, the end cut off, or an activity's duration 0.
+// A damaged copy: one byte of any value, an arc turned around, the end cut off, an activity's duration 0, or an arc copied over another.
 inline std::vector<uint8_t> damaged(const PlanFile &file, Random &random) {
     std::vector<uint8_t> bytes = file.bytes;
     const uint32_t length = uint32_t(bytes.size()), arcs = length / RECORD - file.count - 1;
-    const uint32_t how = random.below(4);
+    const uint32_t how = random.below(5);
+    const auto any_arc = [&] { return &bytes[(file.count + 1 + random.below(arcs)) * RECORD]; };
     if (how == 0) bytes[random.below(length)] = uint8_t(random.below(256));
     if (how == 1 && arcs > 0) {
-        uint8_t *record = &bytes[(file.count + 1 + random.below(arcs)) * RECORD];
+        uint8_t *record = any_arc();
         std::swap(record[1], record[2]);
     }
     if (how == 2) bytes.resize(random.below(2) == 0 ? random.below(length) : random.below(length / RECORD) * RECORD);
     if (how == 3) put_half(&bytes[random.below(uint32_t(file.count)) * RECORD + 2], 0);
+    if (how == 4 && arcs > 0) {
+        const uint8_t *again = any_arc();
+        std::memmove(any_arc(), again, RECORD); // over itself, perhaps
+    }
     return bytes;
 }
 #endif

@@ -1,7 +1,8 @@
 // How fast the proved code decides on a whole plan file, next to a pipeline in C++ with LEMON's maximum flow. README.md says what is measured.
 //   verdict           all families, checked and timed: a table and the verdict; exit status 1 on a mismatch or a ratio that is not reached
 //   verdict --sizes   plans of 8, 16, 32 and 64 activities: our time must fall with their number; exit status 1 where it does not
-//   verdict --full    the same on files that repeat their arcs up to 2,048 records, the most that there is to read; nothing is wanted of these
+//   verdict --full    the same on files that state all pairs of their order, as job arcs and as extra arcs, as far as 2,048 records go: the most that
+//                     there is to read; nothing is wanted of these
 //   verdict --ours F K   only the proved function, 1,000 times on each of the first K files of the family F (0 to 13): for perf
 //   verdict --plan F S   only checks the file with the seed S of the family F: for a seed that a mismatch has printed
 #include "network.h"

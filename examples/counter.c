@@ -25,6 +25,7 @@ static unsigned print_verdict(const uint8_t *plan, size_t len) {
     case YAFFLEDESK_BAD_FIELD: printf("record %lu: a field is outside its rule\n", rest); break;
     case YAFFLEDESK_MILESTONE_DEMAND: printf("record %lu: an activity that takes no time demands workers\n", rest); break;
     case YAFFLEDESK_BAD_SPARE: printf("record %lu: a spare byte is not zero\n", rest); break;
+    case YAFFLEDESK_REPEATED_ARC: printf("record %lu: an arc of this type that an earlier record has already\n", rest); break;
     case YAFFLEDESK_JOB_CIRCLE: printf("the job arcs lead activity %lu back to itself\n", rest); break;
     case YAFFLEDESK_PLAN_CIRCLE: printf("job and extra arcs lead activity %lu back to itself\n", rest); break;
     case YAFFLEDESK_OVERLOADED: print_overload(answer, yaffledesk_set(plan, len)); break;

@@ -13,6 +13,9 @@
  * Milestones. An activity of duration 0 in the file is a milestone, and has no demands. It is never at work, so that no flow and no
  * set names it, and it passes order on as any activity does.
  *
+ * Arcs. No two job arcs name the same pair, and no two extra arcs do. The same pair may be a job arc and an extra arc, and i to j is
+ * another pair than j to i.
+ *
  * Lent memory. An operation that writes is lent memory as a pointer and a length, and the length counts elements: bytes where
  * the pointer is to uint8_t, numbers where it is to uint32_t. More than needed may be lent. What is written stands at the
  * front, and the rest is left unchanged. Every answer other than 0 leaves all lent memory as it was. The plan, the
@@ -42,6 +45,7 @@ enum {
     YAFFLEDESK_BAD_FIELD = 3,         /* a field outside its rule; rest: the record's place */
     YAFFLEDESK_MILESTONE_DEMAND = 12, /* an activity of duration 0 with a demand, of whatever kind; rest: the record's place */
     YAFFLEDESK_BAD_SPARE = 4,         /* a spare byte that is not zero; rest: the record's place */
+    YAFFLEDESK_REPEATED_ARC = 13,     /* a pair that an earlier record of the same type names; rest: the record's place */
     YAFFLEDESK_JOB_CIRCLE = 5,        /* a circle in the job order; rest: the lowest activity before itself there */
     YAFFLEDESK_PLAN_CIRCLE = 6,       /* a circle in the plan order only; rest: the lowest activity before itself there */
 

@@ -29,7 +29,7 @@ void check_answer(const char *name, const char *what, uint64_t got, unsigned num
 }
 
 void check_all_seen(void) {
-    for (unsigned number = YAFFLEDESK_DONE; number <= YAFFLEDESK_MILESTONE_DEMAND; number++) check(seen[number] > 0, "number %u was never given", number);
+    for (unsigned number = YAFFLEDESK_DONE; number <= YAFFLEDESK_REPEATED_ARC; number++) check(seen[number] > 0, "number %u was never given", number);
     check(seen[YAFFLEDESK_BROKEN_ARC] > 0 && seen[YAFFLEDESK_CREW_OVERLOAD] > 0, "a finding of the crew check was never given");
 }
 
@@ -75,6 +75,13 @@ plan_file idle_plan(unsigned activities) {
     plan_file plan = {"idle activities", 0, {0}};
     for (unsigned i = 1; i <= activities; i++) append(&plan, 1, (uint8_t)i, 1);
     append(&plan, 2, 1, 0);
+    return plan;
+}
+
+plan_file full_plan(void) {
+    plan_file plan = renamed(idle_plan(64), "a full file");
+    for (unsigned i = 1; i < 64; i++)
+        for (unsigned j = i + 1; j <= 64 && plan.len < YAFFLEDESK_MOST_PLAN_BYTES; j++) append(&plan, 4, (uint8_t)i, (uint8_t)j);
     return plan;
 }
 

@@ -16,6 +16,7 @@ enum { CREW = 4 * RECORD, ARC_1_2 = 5 * RECORD, ARC_2_4 = 6 * RECORD };
 void refusals(void);
 void results(void);
 void milestones(void);
+void repeats(void);
 
 // Counts one check, and prints a line where it fails.
 extern unsigned passed, failed;
@@ -39,6 +40,8 @@ plan_file with_length(plan_file plan, size_t len);
 void append(plan_file *plan, uint8_t type, uint8_t first, uint8_t second);
 // A plan of so many activities of duration 1 without demands, and a crew of one kind.
 plan_file idle_plan(unsigned activities);
+// A file as long as can be: the idle plan of 64 activities, and 1,983 different extra arcs, from 1 to 2 onwards by from, then to. 63 to 64 is none of them.
+plan_file full_plan(void);
 
 // Lent memory: longer than any operation needs, filled with a pattern before each call, and never lent whole.
 enum { LENT_NUMBERS = YAFFLEDESK_MOST_ACTIVITIES + 8, LENT_BYTES = 51480 + 64 };

@@ -9,11 +9,11 @@ static void lengths(void) {
     check_refused(renamed(with_length(a, 23), "23 bytes"), YAFFLEDESK_BAD_LENGTH, 0);
     check_refused(renamed(with_length(a, a.len + 1), "A and one byte"), YAFFLEDESK_BAD_LENGTH, 0);
 
-    plan_file full = renamed(a, "A with its last arc repeated to 2,048 records");
-    while (full.len < YAFFLEDESK_MOST_PLAN_BYTES) append(&full, 4, 2, 4);
-    check_answer(full.name, "Verdict", yaffledesk_verdict(full.bytes, full.len), YAFFLEDESK_DONE, 4 + 256 * 1);
+    plan_file full = full_plan();
+    check(full.len == 49152, "%s: %zu bytes", full.name, full.len);
+    check_accepted(&full, 64);
     check_refused(renamed(with_length(full, full.len + 1), "49,153 bytes"), YAFFLEDESK_BAD_LENGTH, 0);
-    append(&full, 4, 2, 4);
+    append(&full, 4, 63, 64);
     check_refused(renamed(full, "2,049 records"), YAFFLEDESK_BAD_LENGTH, 0);
 }
 

@@ -90,6 +90,9 @@ def round_trips(tool, chance):
         check(tool.pack(dressed, "x") == content, f"packing with comments and blanks {lines}")
         check("record" not in same(tool, content, "a random plan"), f"a plain plan is shown as records: {lines}")
     check(tool.pack("milestone 3", "x") == tool.pack("activity 3 duration 0", "x") == activity(3, 0, []), "a milestone is an activity of duration 0")
+    pasted, content = "job 1 -> 2\njob 2 -> 3\njob 1 -> 2\nextra 1 -> 2\nextra 1 -> 2\n", arc(3, 1, 2) + arc(3, 2, 3) + arc(3, 1, 2) + 2 * arc(4, 1, 2)
+    check(tool.pack(pasted, "x") == content, "an arc that is written twice is packed twice")
+    check(same(tool, content, "repeated arcs") == pasted, "repeated arcs are shown as they stand")
     for _ in range(300):
         same(tool, chance.randbytes(24 * chance.randrange(5)), "random records")
         same(tool, chance.randbytes(chance.randrange(100)), "random bytes")
@@ -201,7 +204,7 @@ def lengths(folder):
 def examples(folder):
     texts, plans = sorted(EXAMPLES.glob("*.txt")), sorted(EXAMPLES.glob("*.plan"))
     names = {path.stem for path in texts}
-    check(names >= {"a", "b", "c", "d", "e", "e_job", "f", "f5", "handed_back"}, f"examples are missing: {sorted(names)}")
+    check(names >= {"a", "b", "c", "d", "e", "e_job", "f", "f5", "handed_back", "pasted"}, f"examples are missing: {sorted(names)}")
     check(names == {path.stem for path in plans}, "each text in examples/ has its plan, and each plan its text")
     for text in texts:
         plan, made = text.with_suffix(".plan"), folder / "made.plan"

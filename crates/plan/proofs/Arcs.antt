@@ -69,6 +69,9 @@ pub arcs-none-before : (s : List ℕ) (type n : ℕ) → ((i : ℕ) → i < n �
 arcs-none-before s type n h =
     ap (arcsUpTo s type) (sym (zero-add n)) ∙ arcs-none s type 0 n (λ i l. subst (λ (x : ℕ). typeAt s x ≢ type) (sym (zero-add i)) (h i l)) ∙ arcs-start s type
 
+pub arcs-run-whole : (s : List ℕ) (type n : ℕ) → arcsUpTo s type n ≡ upto (putArc type s) n (replicate (cells elements) 0)
+arcs-run-whole s type n = ap (arcsUpTo s type) (sym (zero-add n)) ∙ arcs-run s type 0 n ∙ ap (upto (putArc type s) n) (arcs-start s type)
+
 -- ---- the arc of one record
 
 pub length-with-arc : (r rows : List ℕ) → length (withArc r rows) ≡ length rows

@@ -32,7 +32,8 @@ cause-within s p c e =
     (record { number = omega arith; place = omega arith })
     (record { number = omega arith; place = omega arith })
     (λ _ _ _. record { number = omega arith; place = omega arith })
-    (record { number = omega arith; place = omega arith }))
+    (record { number = omega arith; place = omega arith })
+    (λ _ _ _. record { number = omega arith; place = omega arith }))
 
 -- ---- a file that is refused for its length tells no place, and others have at most 2,048 records
 

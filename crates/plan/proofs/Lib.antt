@@ -6,6 +6,7 @@ pub mod RecordRules
 pub mod Stores
 pub mod Arcs
 pub mod Parts
+pub mod Repeats
 pub mod Phases
 pub mod ReaderLoops
 pub mod NamedArcs
@@ -13,3 +14,4 @@ pub mod Said
 pub mod Refused
 pub mod CausePlaces
 pub mod Milestones
+pub mod RepeatedArcs

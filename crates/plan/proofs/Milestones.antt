@@ -69,7 +69,7 @@ refused-demanding s p e =
     let w = refused-at s (MilestoneDemand p) (λ q. omega arith) (λ q. omega arith) e in
     let F = w .1 .1 in
     subst (Holds Means) (F .fault)
-    (cause-holds Means s (w .1 .0) (λ q. absurd (omega arith)) (λ q. absurd (omega arith)) (at-record (w .0) (w .1 .0) F) (λ q. absurd (omega arith))) refl refl
+    (cause-holds Means s (w .1 .0) (λ q. absurd (omega arith)) (λ q. absurd (omega arith)) (at-record (w .0) (w .1 .0) F) (λ q. absurd (omega arith)) (λ _ _ _ q. absurd (omega arith))) refl refl
   where
     Means : Cause → Type 0
     Means c = toldBy c .number ≡ 12 → toldBy c .place ≡ p → DemandingMilestone s p

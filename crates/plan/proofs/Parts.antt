@@ -10,18 +10,18 @@ use native.Mathlib.Decide.{decLt}
 use lib.ListN.{replicate}
 use borrow.Author.Tests.{eq-eqb, ne-eqb}
 use Rattle.words.specs.model.Loops.{upto}
-use Rattle.words.proofs.Tests.{cond-true, cond-false}
+use Rattle.words.proofs.Tests.{cond-true, cond-false, false-of-not}
 use Rattle.records.specs.Bytes.{byte}
 use Rattle.order.specs.Stored.{elements, cells}
 use Rattle.plan.specs.declared.Answer.the-variants.{Readable, Refused}
 use Rattle.plan.specs.declared.Cause.the-variants.{RecordType}
-use Rattle.plan.specs.Records.{recordAt, recordCount, typeAt, activityCount, jobCount, dueType, activities, demandsOf}
+use Rattle.plan.specs.Records.{recordAt, recordCount, typeAt, activityCount, jobCount, dueType, activities, arcRepeats, demandsOf}
 use Rattle.plan.specs.model.ArcRows.{arcsUpTo, arcRows}
 use Rattle.plan.specs.Causes.{isReadable, activityCause, causeAt, firstRefusal, crewThere, recordsCause}
 use Rattle.plan.specs.model.Phases.{putArc}
 use Rattle.plan.proofs.Refusals.{followed-left, followed-right, all-readable}
 use Rattle.plan.proofs.Places.{record-on, leading-le, leading-typed}
-use Rattle.plan.proofs.RecordRules.{few-activities, CrewKept, crew-kept, ArcKept, arc-kept, at-activity, at-crew, at-arc, due-extra}
+use Rattle.plan.proofs.RecordRules.{rule-kept, rule-before, few-activities, CrewKept, crew-kept, ArcKept, arc-kept, at-activity, at-crew, at-arc, due-extra}
 use Rattle.plan.proofs.Arcs.{arcs-none, arcs-none-before, arcs-run}
 
 -- no record has a cause, and the crew record is there
@@ -100,7 +100,10 @@ module _ (s : List ℕ) (F : Faultless s) where
   crew-fine = crew-kept (activityCount s) (demandsOf s) (recordAt s (activityCount s)) (rw (at-crew s (activityCount s) refl) at (F .fine (activityCount s) (F .crewed)))
 
   pub arc-fine : (p : ℕ) → activityCount s < p → p < recordCount s → ArcKept (dueType s p) (activityCount s) (recordAt s p)
-  arc-fine p h l = arc-kept (dueType s p) p (activityCount s) (recordAt s p) (rw (at-arc s p h) at (F .fine p l))
+  arc-fine p h l = arc-kept (dueType s p) p (activityCount s) (recordAt s p) (rule-before _ _ _ (rw (at-arc s p h) at (F .fine p l)))
+
+  pub arc-new : (p : ℕ) → activityCount s < p → p < recordCount s → arcRepeats s p ≡ false
+  arc-new p h l = false-of-not (arcRepeats s p) (rule-kept _ _ _ (rw (at-arc s p h) at (F .fine p l)))
 
   pub extra-typed : (p : ℕ) → activityCount s < p → p < recordCount s → activityCount s + 1 + jobCount s ≤ p → typeAt s p ≡ 4
   extra-typed p h l b = arc-fine p h l .typed ∙ due-extra s p b

@@ -1,8 +1,8 @@
 -- The phases of the code come to the reading: `file-read`. Assumes nothing.
 use mathlib.Core.Path.{_≡_, refl, sym, ap, ap₂, _∙_}
-use mathlib.Core.Bool.{Bool, true, cond}
+use mathlib.Core.Bool.{Bool, true, not, cond}
 use mathlib.Core.List.{List}
-use mathlib.Core.Logic.{⊎-elim}
+use mathlib.Core.Logic.{⊎-elim, _≢_}
 use Prim.Native.Nat.{ℕ, suc, _+_, _-_, _*_, _≤_, _<_}
 use native.Mathlib.Nat.{add-zero}
 use native.Mathlib.Omega.{arith}
@@ -13,20 +13,21 @@ use Rattle.records.specs.Bytes.{byte}
 use Rattle.order.specs.Stored.{elements, cells}
 use Rattle.plan.specs.declared.Answer.{Answer}
 use Rattle.plan.specs.declared.Answer.the-variants.{Readable, Refused}
-use Rattle.plan.specs.declared.Cause.the-variants.{Length, RecordType}
+use Rattle.plan.specs.declared.Cause.the-variants.{Length, RecordType, RepeatedArc}
 use Rattle.plan.specs.declared.Plan.{Plan}
 use Rattle.plan.specs.declared.Reading.{Reading}
-use Rattle.plan.specs.Records.{recordAt, recordCount, activityCount, jobCount, leading, availableIn, dueType, demandsOf}
+use Rattle.plan.specs.Records.{recordAt, recordCount, typeAt, activityCount, jobCount, leading, availableIn, dueType, arcRepeats, demandsOf}
 use Rattle.plan.specs.Meaning.{fileKinds, fileAvailable}
 use Rattle.plan.specs.model.Plans.{planOf, emptyPlan, durationsOf, availableOf}
-use Rattle.plan.specs.Causes.{isReadable, activityCause, crewCause, arcCause, causeAt, firstRefusal, followedBy, recordsCause, isLength, answerOf}
+use Rattle.plan.specs.Causes.{rule, isReadable, activityCause, crewCause, arcCause, causeAt, firstRefusal, followedBy, recordsCause, isLength, answerOf}
 use Rattle.plan.specs.model.Reads.{readOf}
-use Rattle.plan.specs.model.Phases.{putDuration, putDemands, putArc, arcsCause, refusalOf, unlessRefused, restOf, fileOf}
-use Rattle.plan.proofs.Refusals.{followed-assoc, followed-none, refusal-cong, refusal-split, refusal-one, all-readable}
+use Rattle.plan.specs.model.Phases.{putDuration, putDemands, putArc, arcIn, arcsCause, refusalOf, unlessRefused, restOf, fileOf}
+use Rattle.plan.proofs.Refusals.{followed-assoc, followed-none, followed-cong, refusal-cong, refusal-split, refusal-one, all-readable}
 use Rattle.plan.proofs.Places.{record-on, record-next, leading-le}
-use Rattle.plan.proofs.RecordRules.{few-activities, at-activity, at-crew, at-arc, due-job, due-extra}
+use Rattle.plan.proofs.RecordRules.{rule-cong, few-activities, crew-kept, arc-kept, at-activity, at-crew, at-arc, due-job, due-extra}
+use Rattle.plan.proofs.Repeats.{repeats-on}
 use Rattle.plan.proofs.Stores.{durations-stored, demands-stored, demands-told}
-use Rattle.plan.proofs.Parts.{Faultless, faultless, crew-missing, crew-there, crew-or-missing, job-rows, extra-rows}
+use Rattle.plan.proofs.Parts.{Faultless, faultless, crew-missing, crew-there, crew-or-missing, no-arc, no-extra, job-rows, extra-rows}
 
 -- ---- an answer, and the plan that stands beside it
 
@@ -123,27 +124,31 @@ module _ (s : List ℕ) where
   crew-phase : causeAt s (activityCount s) ≡ crewCause (activityCount s) (demandsOf s) (recordAt s (activityCount s))
   crew-phase = at-crew s (activityCount s) refl
 
-  -- an arc of the part of the file from record a on
-  arc-phase : (type a i : ℕ) → activityCount s < a → dueType s (a + i) ≡ type
-      → causeAt s (a + i) ≡ arcCause type (a + i) (activityCount s) (recordAt (recordAt s a) i)
-  arc-phase type a i h e =
+  -- an arc of the part of the file from record a on, before which there is none of the type
+  arc-phase : (type a i : ℕ) → activityCount s < a → ((x : ℕ) → x < a → typeAt s x ≢ type) → dueType s (a + i) ≡ type
+      → causeAt s (a + i) ≡ arcIn type a (activityCount s) (recordAt s a) i
+  arc-phase type a i h none e =
+      let m : ℕ = activityCount s in
+      let own : ℕ → List ℕ → Answer = λ d r. arcCause d (a + i) m r in
       at-arc s (a + i) (omega arith)
-      ∙ ap (λ (d : ℕ). arcCause d (a + i) (activityCount s) (recordAt s (a + i))) e
-      ∙ ap (arcCause type (a + i) (activityCount s)) (sym (record-on s a i))
+      ∙ ap (λ (c : Answer). rule c (not (arcRepeats s (a + i))) (RepeatedArc (a + i))) (ap₂ own e (sym (record-on s a i)))
+      ∙ rule-cong (own type (recordAt (recordAt s a) i)) (RepeatedArc (a + i))
+      (λ k. ap not (repeats-on s a i type none (ap (λ (r : List ℕ). byte r 0) (sym (record-on s a i)) ∙ arc-kept type (a + i) m (recordAt (recordAt s a) i) k .typed)))
 
-  jobs-phase : firstRefusal (jobCount s) (λ i. causeAt s (activityCount s + 1 + i)) ≡ arcsCause 3 (activityCount s + 1) (activityCount s) (recordAt s (activityCount s + 1)) (jobCount s)
-  jobs-phase =
-      let m : ℕ = activityCount s in
-      refusal-cong (jobCount s) (λ i. causeAt s (m + 1 + i)) (λ i. arcCause 3 (m + 1 + i) m (recordAt (recordAt s (m + 1)) i))
-      (λ i h. arc-phase 3 (m + 1) i (omega arith) (due-job s (m + 1 + i) (omega arith)))
+  -- where the record after the activities is a crew record
+  module _ (crewed : typeAt s (activityCount s) ≡ 2) where
+    jobs-phase : firstRefusal (jobCount s) (λ i. causeAt s (activityCount s + 1 + i)) ≡ arcsCause 3 (activityCount s + 1) (activityCount s) (recordAt s (activityCount s + 1)) (jobCount s)
+    jobs-phase =
+        let m : ℕ = activityCount s in
+        refusal-cong (jobCount s) (λ i. causeAt s (m + 1 + i)) (arcIn 3 (m + 1) m (recordAt s (m + 1)))
+        (λ i h. arc-phase 3 (m + 1) i (omega arith) (λ x l. no-arc s crewed 3 x (omega arith) (omega arith)) (due-job s (m + 1 + i) (omega arith)))
 
-  extras-phase : (x : ℕ) → firstRefusal x (λ i. causeAt s (activityCount s + 1 + jobCount s + i))
-      ≡ arcsCause 4 (activityCount s + 1 + jobCount s) (activityCount s) (recordAt s (activityCount s + 1 + jobCount s)) x
-  extras-phase x =
-      let m : ℕ = activityCount s in
-      let a : ℕ = m + 1 + jobCount s in
-      refusal-cong x (λ i. causeAt s (a + i)) (λ i. arcCause 4 (a + i) m (recordAt (recordAt s a) i))
-      (λ i h. arc-phase 4 a i (omega arith) (due-extra s (a + i) (omega arith)))
+    extras-phase : (x : ℕ) → firstRefusal x (λ i. causeAt s (activityCount s + 1 + jobCount s + i))
+        ≡ arcsCause 4 (activityCount s + 1 + jobCount s) (activityCount s) (recordAt s (activityCount s + 1 + jobCount s)) x
+    extras-phase x =
+        let m : ℕ = activityCount s in
+        let a : ℕ = m + 1 + jobCount s in
+        refusal-cong x (λ i. causeAt s (a + i)) (arcIn 4 a m (recordAt s a)) (λ i h. arc-phase 4 a i (omega arith) (no-extra s crewed) (due-extra s (a + i) (omega arith)))
 
   -- how many records follow the job arcs
   abbrev extraCount : ℕ
@@ -175,8 +180,9 @@ module _ (s : List ℕ) where
       let X : Answer = firstRefusal extraCount (λ i. f (m + 1 + j + i)) in
       let crew : Answer = crewCause m (demandsOf s) (recordAt s m) in
       let jobs : Answer = arcsCause 3 (m + 1) m (recordAt s (m + 1)) j in
-      let arcs = ap (λ (y : Answer). followedBy y X) jobs-phase ∙ ap (followedBy jobs) (extras-phase extraCount) in
-      let rest = ap (λ (y : Answer). followedBy y (followedBy J X)) crew-phase ∙ ap (followedBy crew) arcs in
+      let arcs : typeAt s m ≡ 2 → followedBy J X ≡ followedBy jobs (arcsCause 4 (m + 1 + j) m (recordAt s (m + 1 + j)) extraCount) =
+      λ c. ap (λ (y : Answer). followedBy y X) (jobs-phase c) ∙ ap (followedBy jobs) (extras-phase c extraCount) in
+      let rest = ap (λ (y : Answer). followedBy y (followedBy J X)) crew-phase ∙ followed-cong crew (λ e. arcs (crew-kept m (demandsOf s) (recordAt s m) e .typed)) in
       ap (followedBy (firstRefusal (recordCount s) f)) (crew-there s h)
       ∙ followed-none (firstRefusal (recordCount s) f)
       ∙ ap (λ (n : ℕ). firstRefusal n f) (counted h)

@@ -13,16 +13,17 @@ use Rattle.words.specs.Members.{first}
 use Rattle.words.proofs.Tests.{clash, cond-true, cond-false}
 use Rattle.words.proofs.Firsts.{first-stop, first-end}
 use Rattle.records.specs.Bytes.{byte}
+use Rattle.order.specs.Stored.{elements}
 use Rattle.plan.specs.declared.Answer.{Answer}
 use Rattle.plan.specs.declared.Answer.the-variants.{Readable, Refused}
 use Rattle.plan.specs.declared.Reading.{Reading}
 use Rattle.plan.specs.Records.{recordAt, leading, activities}
 use Rattle.plan.specs.Causes.{isReadable, activityCause, arcCause, firstRefusal}
-use Rattle.plan.specs.model.ArcRows.{withArc, arcsAfter}
+use Rattle.plan.specs.model.ArcRows.{ArcRecord, withArc, arcsAfter}
 use Rattle.plan.specs.model.Phases.{refusalOf, unlessRefused}
 use Rattle.records.proofs.Steps.{rest-of}
 use Rattle.plan.proofs.Places.{record-on}
-use Rattle.plan.proofs.RecordRules.{few-activities, arc-kept}
+use Rattle.plan.proofs.RecordRules.{few-activities, arc-kept, arc-among}
 use Rattle.plan.proofs.Refusals.{all-readable}
 use Rattle.plan.proofs.Arcs.{after-same}
 
@@ -114,6 +115,12 @@ module _ {answer cause : Answer} {b : Bool} (found : answer ≡ cause) (test : b
 
 pub run-few : (m : ℕ) (s : List ℕ) → isReadable (firstRefusal m (λ i. activityCause i (recordAt s i))) ≡ true → m ≤ activities
 run-few m s e = few-activities m s (all-readable m (λ i. activityCause i (recordAt s i)) e)
+
+-- an arc with no cause by itself can be looked up and stored
+pub arc-record : (type place m : ℕ) (r : List ℕ) → isReadable (arcCause type place m r) ≡ true → 24 ≤ length r → m ≤ elements → ArcRecord r
+arc-record type place m r e whole few =
+    let K = arc-among few (arc-kept type place m r e) in
+    (whole, K .from-low, K .from-high, K .to-low, K .to-high)
 
 -- a record that the loop has looked at and found to be an arc of the type: the loop stores what the definition says
 pub arc-stored : (type place m : ℕ) (r rows : List ℕ) {now : List ℕ} → isReadable (arcCause type place m r) ≡ true → now ≡ withArc r rows → now ≡ arcsAfter type r rows

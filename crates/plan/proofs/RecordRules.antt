@@ -1,6 +1,6 @@
 -- What a record with no cause tells: each of its rules is kept. Assumes nothing.
 use mathlib.Core.Path.{_≡_, refl, sym, ap, _∙_}
-use mathlib.Core.Bool.{Bool, true, false, not, cond, _&&_, false≢true}
+use mathlib.Core.Bool.{Bool, true, false, not, cond, _&&_, true≢false, false≢true}
 use mathlib.Core.List.{List}
 use mathlib.Core.Logic.{_≢_}
 use Prim.Native.Nat.{ℕ, zero, suc, _+_, _-_, _*_, _≤_, _<_}
@@ -8,7 +8,7 @@ use native.Mathlib.Omega.{arith}
 use lib.ListN.{getD, take}
 use lib.Seq.{slice, getD-take, getD-drop}
 use lib.Dec.{eqb, leb, ltb}
-use borrow.Author.Tests.{ltb-true, leb-true, eqb-true, eq-eqb, lt-ltb, le-ltb, ne-eqb}
+use borrow.Author.Tests.{ltb-true, ltb-false, leb-true, eqb-true, eqb-false, eq-eqb, lt-ltb, le-ltb, ne-eqb, not-false}
 use Rattle.words.proofs.Tests.{and-left, and-right, cond-true, cond-false, cond-has}
 use Rattle.records.proofs.Zeros.{all-zero}
 use Rattle.records.specs.Bytes.{byte, zeros}
@@ -16,8 +16,8 @@ use Rattle.order.specs.Stored.{elements}
 use Rattle.plan.specs.declared.Answer.{Answer}
 use Rattle.plan.specs.declared.Answer.the-variants.{Readable, Refused}
 use Rattle.plan.specs.declared.Cause.{Cause}
-use Rattle.plan.specs.declared.Cause.the-variants.{RecordType, Field, MilestoneDemand, Spare}
-use Rattle.plan.specs.Records.{recordAt, activityCount, jobCount, dueType, activityFields, activityTimed, crewFields, isEnd, arcFields, activities, demandsOf}
+use Rattle.plan.specs.declared.Cause.the-variants.{RecordType, Field, MilestoneDemand, Spare, RepeatedArc}
+use Rattle.plan.specs.Records.{recordAt, activityCount, jobCount, dueType, activityFields, activityTimed, crewFields, isEnd, arcFields, arcRepeats, activities, demandsOf}
 use Rattle.plan.specs.Causes.{rule, isReadable, activityCause, crewCause, arcCause, causeAt}
 
 -- ---- bytes that are zero
@@ -42,6 +42,30 @@ pub rule-before : (answer : Answer) (kept : Bool) (cause : Cause) → isReadable
 unfolding rule
 rule-before Readable kept cause e = refl
 rule-before (Refused c) kept cause e = e
+
+-- and the other way round: a rule that is kept after it gives none, and one that is broken its cause; after a cause no rule matters
+pub rule-keeps : (answer : Answer) (kept : Bool) (cause : Cause) → isReadable answer ≡ true → kept ≡ true → rule answer kept cause ≡ Readable
+unfolding rule
+rule-keeps Readable true cause r e = refl
+rule-keeps Readable false cause r e = absurd (false≢true e)
+rule-keeps (Refused c) kept cause r e = absurd (false≢true r)
+
+pub rule-breaks : (answer : Answer) (kept : Bool) (cause : Cause) → isReadable answer ≡ true → kept ≡ false → rule answer kept cause ≡ Refused cause
+unfolding rule
+rule-breaks Readable true cause r e = absurd (true≢false e)
+rule-breaks Readable false cause r e = refl
+rule-breaks (Refused c) kept cause r e = absurd (false≢true r)
+
+pub rule-stops : (answer : Answer) (kept : Bool) (cause : Cause) → isReadable answer ≡ false → rule answer kept cause ≡ answer
+unfolding rule
+rule-stops Readable kept cause e = absurd (true≢false e)
+rule-stops (Refused c) kept cause e = refl
+
+-- the next rule matters only where none before it was broken
+pub rule-cong : (answer : Answer) {a b : Bool} (cause : Cause) → (isReadable answer ≡ true → a ≡ b) → rule answer a cause ≡ rule answer b cause
+unfolding rule
+rule-cong Readable cause h = ap (λ (x : Bool). rule Readable x cause) (h refl)
+rule-cong (Refused c) cause h = refl
 
 -- what holds of the cause of an answer, if it has one, and of the cause of the next rule, where that is the one broken, holds after it
 abbrev pub Holds : (Cause → Type 0) → Answer → Type 0
@@ -125,7 +149,8 @@ pub at-crew : (s : List ℕ) (p : ℕ) → p ≡ activityCount s → causeAt s p
 unfolding causeAt
 at-crew s p e = cond-false _ _ (le-ltb p (activityCount s) (omega arith)) ∙ cond-true _ _ (eq-eqb p (activityCount s) e)
 
-pub at-arc : (s : List ℕ) (p : ℕ) → activityCount s < p → causeAt s p ≡ arcCause (dueType s p) p (activityCount s) (recordAt s p)
+pub at-arc : (s : List ℕ) (p : ℕ) → activityCount s < p
+    → causeAt s p ≡ rule (arcCause (dueType s p) p (activityCount s) (recordAt s p)) (not (arcRepeats s p)) (RepeatedArc p)
 unfolding causeAt
 at-arc s p h = cond-false _ _ (le-ltb p (activityCount s) (omega arith)) ∙ cond-false _ _ (ne-eqb p (activityCount s) (λ e. omega arith))
 
@@ -138,19 +163,22 @@ due-extra s p h = cond-false 3 4 (le-ltb p (activityCount s + 1 + jobCount s) h)
 -- ---- WHAT HOLDS OF EACH CAUSE THAT A RECORD CAN HAVE holds of the one that it has; of those that one type alone has, where its own rule is the first that is broken
 
 pub cause-holds : (P : Cause → Type 0) (s : List ℕ) (p : ℕ) → P (RecordType p) → P (Field p)
-    → (p < activityCount s → activityFields p (recordAt s p) ≡ true → activityTimed (recordAt s p) ≡ false → P (MilestoneDemand p)) → P (Spare p) → Holds P (causeAt s p)
+    → (p < activityCount s → activityFields p (recordAt s p) ≡ true → activityTimed (recordAt s p) ≡ false → P (MilestoneDemand p)) → P (Spare p)
+    → (activityCount s < p → isReadable (arcCause (dueType s p) p (activityCount s) (recordAt s p)) ≡ true → arcRepeats s p ≡ true → P (RepeatedArc p)) → Holds P (causeAt s p)
 unfolding causeAt activityCause crewCause arcCause
-cause-holds P s p typed fields timed spare =
+cause-holds P s p typed fields timed spare repeated =
     let m : ℕ = activityCount s in
     let r : List ℕ = recordAt s p in
     let crew : Answer = crewCause p (demandsOf s) r in
-    let arc : Answer = arcCause (dueType s p) p m r in
+    let arc : Answer = rule (arcCause (dueType s p) p m r) (not (arcRepeats s p)) (RepeatedArc p) in
     cond-has (Holds P) (ltb p m) (activityCause p r) (cond (eqb p m) crew arc)
     (λ t.
     rule-holds P _ _ (Spare p)
     (rule-holds P _ _ (MilestoneDemand p) (rule-holds P Readable _ (Field p) tt (λ _ _. fields)) (λ a b. timed (ltb-true p m t) (rule-kept _ _ _ a) b))
     (λ _ _. spare))
-    (λ t. cond-has (Holds P) (eqb p m) crew arc (λ _. three _ _ _) (λ _. three _ _ _))
+    (λ t.
+    cond-has (Holds P) (eqb p m) crew arc (λ _. three _ _ _)
+    (λ u. rule-holds P _ _ (RepeatedArc p) (three _ _ _) (λ a b. repeated (omega (arith, ltb-false p m t, eqb-false p m u)) a (not-false (arcRepeats s p) b))))
   where
     three : (a b c : Bool) → Holds P (rule (rule (rule Readable a (RecordType p)) b (Field p)) c (Spare p))
     three a b c =

@@ -35,6 +35,11 @@ pub followed-none : (a : Answer) → followedBy a Readable ≡ a
 followed-none Readable = refl
 followed-none (Refused x) = refl
 
+-- it matters only where nothing was refused before
+pub followed-cong : (a : Answer) {b c : Answer} → (isReadable a ≡ true → b ≡ c) → followedBy a b ≡ followedBy a c
+followed-cong Readable h = h refl
+followed-cong (Refused x) h = refl
+
 -- ---- the first refusal, as a recursion
 
 pub refusal-zero : (f : ℕ → Answer) → firstRefusal 0 f ≡ Readable

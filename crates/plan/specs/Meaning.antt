@@ -10,7 +10,7 @@ use Rattle.records.specs.Bytes.{byte}
 use Rattle.plan.specs.Records.{recordAt, recordCount, typeAt, activityCount, durationIn, demandIn, availableIn}
 use Rattle.plan.specs.Causes.{isReadable, answerOf}
 
--- "It is readable when it meets none of causes 1 to 4", nor 12 of document 02
+-- "It is readable when it meets none of causes 1 to 4", nor 12 and 13 of document 02
 abbrev pub Readable : List ℕ → Type 0
 Readable s = isReadable (answerOf s) ≡ true
 

@@ -1,7 +1,7 @@
--- The numbers of the causes (01, Operations and causes, the table of causes; 12 is of document 02, change 2). Assumes nothing.
+-- The numbers of the causes (01, Operations and causes, the table of causes; 12 and 13 are of document 02, changes 2 and 3). Assumes nothing.
 use Prim.Native.Nat.{ℕ}
 use Rattle.plan.specs.declared.Cause.{Cause}
-use Rattle.plan.specs.declared.Cause.the-variants.{Length, RecordType, Field, MilestoneDemand, Spare}
+use Rattle.plan.specs.declared.Cause.the-variants.{Length, RecordType, Field, MilestoneDemand, Spare, RepeatedArc}
 use Rattle.plan.specs.declared.Told.{Told}
 
 -- "record's place, from 0"
@@ -15,3 +15,4 @@ toldBy (RecordType p) = atPlace 2 p
 toldBy (Field p) = atPlace 3 p
 toldBy (MilestoneDemand p) = atPlace 12 p
 toldBy (Spare p) = atPlace 4 p
+toldBy (RepeatedArc p) = atPlace 13 p

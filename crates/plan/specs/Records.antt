@@ -82,6 +82,15 @@ arcFields m r = isEnd m (byte r 1) && (isEnd m (byte r 2) && not (eqb (byte r 1)
 abbrev pub arcSpare : List ℕ → Bool
 arcSpare r = zeros (slice 3 24 r)
 
+-- two records of one type name one pair, from and to
+abbrev pub samePair : List ℕ → List ℕ → Bool
+samePair q r = eqb (byte q 0) (byte r 0) && (eqb (byte q 1) (byte r 1) && eqb (byte q 2) (byte r 2))
+
+-- "A pair repeated within the same type is now refused. The same pair as a job arc and an extra arc is still fine." (02, change 3): an earlier record of the same type names the pair of the
+-- record at place p
+unfoldable pub arcRepeats : List ℕ → ℕ → Bool
+arcRepeats s p = some p (λ x. samePair (recordAt s x) (recordAt s p))
+
 -- "Types stand in ascending order, with exactly one crew record.": after the crew record job arcs are due as long as there are any, then extra arcs
 abbrev pub jobCount : List ℕ → ℕ
 jobCount s = leading 3 (recordCount s - (activityCount s + 1)) (recordAt s (activityCount s + 1))

@@ -1,14 +1,14 @@
 // Arc records, types 3 and 4.
 ghost use mathlib.Core.Path.{_≡_};
-ghost use mathlib.Core.Bool.{true};
+ghost use mathlib.Core.Bool.{true, not, cond};
 ghost use Prim.Native.Nat.{_+_, _*_, _≤_};
-ghost use lib.ListN.{length};
+ghost use lib.ListN.{length, replicate};
 ghost use Rattle.words.specs.model.Loops.{upto};
-ghost use Rattle.records.specs.Bytes.{byte};
-ghost use Rattle.order.specs.Stored.{elements};
+ghost use Rattle.order.specs.Stored.{elements, cells};
+ghost use Rattle.plan.specs.declared.Cause.the-variants.{RepeatedArc};
 ghost use Rattle.plan.specs.Records.{isEnd, arcFields};
-ghost use Rattle.plan.specs.model.ArcRows.{withArc};
-ghost use Rattle.plan.specs.Causes.{arcCause, isReadable};
+ghost use Rattle.plan.specs.model.ArcRows.{ArcRecord, withArc, hasArc, arcsAfter};
+ghost use Rattle.plan.specs.Causes.{rule, arcCause, isReadable};
 ghost use Rattle.plan.specs.model.Phases.{putArc, arcsCause};
 use crate::Answer;
 use crate::Cause;
@@ -52,9 +52,19 @@ fn arc_cause(m: usize, r: &[u8], of: u8, place: usize) -> Answer
     rule(fields, all_zero(r, 3, 24), Cause::Spare(place))
 }
 
-// The arc of a record, whose ends are 1 to ELEMENTS.
+// Whether the rows have the arc of a record.
+fn has_arc(r: &[u8], rows: &Rows) -> bool
+    requires { ⌜ ArcRecord (now r) ⌝ }
+    ensures { λ b. ⌜ b ≡ hasArc (now (rows .entry)) (now (r .entry)) ⌝ }
+{
+    let i = index(r[1]) - 1;
+    let j = index(r[2]) - 1;
+    order::row(rows, i).has(j)
+}
+
+// The arc of a record.
 fn store_arc(r: &[u8], rows: &mut Rows)
-    requires { ⌜ (24 ≤ length (now r)) × (1 ≤ byte (now r) 1) × (byte (now r) 1 ≤ elements) × (1 ≤ byte (now r) 2) × (byte (now r) 2 ≤ elements) ⌝ }
+    requires { ⌜ ArcRecord (now r) ⌝ }
     ensures { λ _. ⌜ now (rows .exit) ≡ withArc (now (r .entry)) (now (rows .entry)) ⌝ }
 {
     let i = index(r[1]) - 1;
@@ -63,20 +73,35 @@ fn store_arc(r: &[u8], rows: &mut Rows)
     order::put_row(rows, i, arcs);
 }
 
-// Reads the first n records of t, which have to be arcs of a type; the first of them is at a place of the file. Each is looked at, and then its arc is stored:
-// the rows so far are the state in which the next one is looked at.
+// Reads a record that has to be an arc of a type, in the state of the rows so far: it is looked at, by itself and then for its pair among theirs, and its arc is stored.
+fn read_arc(m: usize, r: &[u8], of: u8, place: usize, rows: &mut Rows) -> Answer
+    requires { ⌜ (24 ≤ length (now r)) × (m ≤ elements) ⌝ }
+    ensures { λ a. ⌜ a ≡ rule (arcCause of place m (now (r .entry))) (not (hasArc (now (rows .entry)) (now (r .entry)))) (RepeatedArc place) ⌝ }
+    ensures { λ a. ⌜ now (rows .exit) ≡ cond (isReadable a) (arcsAfter of (now (r .entry)) (now (rows .entry))) (now (rows .entry)) ⌝ }
+{
+    let own = arc_cause(m, r, of, place);
+    if !is_readable(own) {
+        return own;
+    }
+    if has_arc(r, rows) {
+        return Answer::Refused(Cause::RepeatedArc(place));
+    }
+    store_arc(r, rows);
+    Answer::Readable
+}
+
+// Reads the first n records of t, which have to be arcs of a type; the first of them is at a place of the file. The rows are empty before them.
 pub fn read_arcs(m: usize, t: &[u8], of: u8, n: usize, place: usize, rows: &mut Rows) -> Answer
-    requires { ⌜ (24 * n ≤ length (now t)) × (place + n ≤ 2048) × (m ≤ elements) ⌝ }
+    requires { ⌜ (24 * n ≤ length (now t)) × (place + n ≤ 2048) × (m ≤ elements) × (now rows ≡ replicate (cells elements) 0) ⌝ }
     ensures { λ a. ⌜ a ≡ arcsCause of place m (now (t .entry)) n ⌝ }
     ensures { λ a. ⌜ (isReadable a ≡ true → now (rows .exit) ≡ upto (putArc of (now (t .entry))) n (now (rows .entry))) ⌝ }
 {
     let mut i: usize = 0;
     while i < n {
-        let answer = arc_cause(m, &t[24 * i..], of, place + i);
+        let answer = read_arc(m, &t[24 * i..], of, place + i, rows);
         if !is_readable(answer) {
             return answer;
         }
-        store_arc(&t[24 * i..], rows);
         i += 1;
     }
     Answer::Readable

@@ -38,6 +38,7 @@ pub enum Cause {
     Field(usize),
     MilestoneDemand(usize),
     Spare(usize),
+    RepeatedArc(usize),
 }
 
 // What a cause tells: its number in document 01, how many values are returned with it (0 or 1), and the place of the record, which is the value.

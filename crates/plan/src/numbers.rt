@@ -29,5 +29,6 @@ pub fn told_by(c: Cause) -> Told
         Cause::Field(p) => at_place(3, p),
         Cause::MilestoneDemand(p) => at_place(12, p),
         Cause::Spare(p) => at_place(4, p),
+        Cause::RepeatedArc(p) => at_place(13, p),
     }
 }

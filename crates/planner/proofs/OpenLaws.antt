@@ -22,7 +22,7 @@ use Rattle.plan.specs.Meaning.{Readable}
 use Rattle.plan.specs.model.Said.{Said}
 use Rattle.plan.proofs.Said.{said, durations-small}
 use Rattle.plan.specs.declared.Cause.{Cause as Unread}
-use Rattle.plan.specs.declared.Cause.the-variants.{Length, RecordType, Field, MilestoneDemand, Spare}
+use Rattle.plan.specs.declared.Cause.the-variants.{Length, RecordType, Field, MilestoneDemand, Spare, RepeatedArc}
 use Rattle.plan.specs.declared.Answer.{Answer}
 use Rattle.plan.specs.declared.Answer.the-variants as answer
 use Rattle.plan.specs.declared.Plan.{Plan}
@@ -129,7 +129,7 @@ every-open P s unread job whole =
 
 -- a reader's cause is known by its numbers: of this number, with this place, it is this one
 abbrev unreadBy : ℕ → ℕ → Unread
-unreadBy n p = cond (eqb n 1) Length (cond (eqb n 2) (RecordType p) (cond (eqb n 3) (Field p) (cond (eqb n 12) (MilestoneDemand p) (Spare p))))
+unreadBy n p = cond (eqb n 1) Length (cond (eqb n 2) (RecordType p) (cond (eqb n 3) (Field p) (cond (eqb n 12) (MilestoneDemand p) (cond (eqb n 4) (Spare p) (RepeatedArc p)))))
 
 unread-by : (u : Unread) → unreadBy (causeNumber (Unreadable u)) (getD (unreadNumbers u) 1 0) ≡ u
 unread-by Length = refl
@@ -137,6 +137,7 @@ unread-by (RecordType p) = refl
 unread-by (Field p) = refl
 unread-by (MilestoneDemand p) = refl
 unread-by (Spare p) = refl
+unread-by (RepeatedArc p) = refl
 
 pub unread-apart : (u v : Unread) → unreadNumbers u ≡ unreadNumbers v → u ≡ v
 unread-apart u v e = sym (unread-by u) ∙ ap (λ (xs : List ℕ). unreadBy (getD xs 0 0) (getD xs 1 0)) e ∙ unread-by v

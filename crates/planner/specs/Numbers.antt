@@ -15,7 +15,7 @@ use Rattle.planner.specs.declared.Refusal.{Refusal}
 abbrev pub plain : ℕ → ℕ → ℕ → ℕ → Refusal
 plain number values first second = record { number = number; values = values; first = first; second = second; set = noSet }
 
--- THE TABLE OF CAUSES, of which 1 to 4 and 12 are the reader's (`toldBy`); 11 is of document 02, change 1
+-- THE TABLE OF CAUSES, of which 1 to 4, 12 and 13 are the reader's (`toldBy`); 11 is of document 02, change 1
 abbrev pub refusalOf : Cause → Refusal
 refusalOf (Unreadable u) = plain (toldBy u .number) (toldBy u .values) (toldBy u .place) 0
 refusalOf (JobCircle i) = plain 5 1 i 0

@@ -1,4 +1,4 @@
--- The plans A to H, opened: what their bytes are read as, and which fault they have. Each is computed once, here; what an operation makes of a plan goes by these two
+-- The plans A to H and what is made of them, opened: what their bytes are read as, and which fault they have. Each is computed once, here; what an operation makes of a plan goes by these two
 -- alone (`opened-as`). Assumes nothing.
 use mathlib.Core.Path.{_≡_, refl, ap, _∙_}
 use mathlib.Core.List.{List, [], _∷_, _++_}
@@ -11,7 +11,7 @@ use Rattle.order.specs.Stored.{elements, row, putRow, rowTable, cells}
 use Rattle.order.specs.Rows.{grow, arcsFrom, arcsIn, circleIn}
 use Rattle.order.specs.Orders.{extended, circleOf, orderOf, orderIn, joinedRows}
 use Rattle.records.specs.Bytes.{field, zeros}
-use Rattle.plan.specs.Records.{leading, activityFields, demandsSome, crewFields, arcFields, demandsOf}
+use Rattle.plan.specs.Records.{leading, activityFields, demandsSome, crewFields, arcFields, arcRepeats, demandsOf}
 use Rattle.plan.specs.Meaning.{fileDuration, fileDemand, fileKinds, fileAvailable}
 use Rattle.plan.specs.model.ArcRows.{withArc, arcsAfter, arcsUpTo}
 use Rattle.plan.specs.model.Plans.{durationsOf, demandTable, availableOf, planOf}
@@ -20,12 +20,12 @@ use Rattle.plan.specs.model.Reads.{readOf}
 use Rattle.plan.specs.declared.Plan.{Plan}
 use Rattle.plan.specs.declared.Reading.{Reading}
 use Rattle.plan.specs.declared.Answer.the-variants as answer
-use Rattle.plan.specs.declared.Cause.the-variants.{MilestoneDemand}
+use Rattle.plan.specs.declared.Cause.the-variants.{MilestoneDemand, Spare, RepeatedArc}
 use Rattle.planner.specs.Open.{planIn, orderFor, unreadFault, readFault, orCircles, faultOf}
 use Rattle.planner.specs.declared.Cause.the-variants.{JobCircle, PlanCircle}
 use Rattle.planner.specs.declared.Fault.{Fault}
 use Rattle.planner.specs.declared.Fault.the-variants.{Fine, Refused}
-use Rattle.promises.specs.Cases.{planA, planB, planC, planD, planE, planEJob, planF, planG, planH}
+use Rattle.promises.specs.Cases.{planA, planB, planC, planD, planE, planEJob, planF, planG, planH, planABoth, planAPasted, planASpare, planEPasted, planCThrice}
 
 -- ---- the plans as tables
 
@@ -52,6 +52,9 @@ fourWith job extra = planWith (1 ∷ 2 ∷ 3 ∷ 1 ∷ []) (2 ∷ 2 ∷ 2 ∷ 2 
 
 abbrev pub inA : Plan
 inA = fourWith [] (2 ∷ 8 ∷ [])
+
+abbrev pub inABoth : Plan
+inABoth = fourWith (2 ∷ []) (2 ∷ 8 ∷ [])
 
 abbrev pub inB : Plan
 inB = fourWith [] (14 ∷ [])
@@ -84,6 +87,7 @@ Reads s q = readOf s ≡ record { plan = q; answer = answer.Readable }
 
 record AllRead : Type 0 where
   a : Reads planA inA
+  a-both : Reads planABoth inABoth
   b : Reads planB inB
   c : Reads planC inC
   d : Reads planD inD
@@ -95,16 +99,20 @@ record AllRead : Type 0 where
   h : Reads planH inH
 
 all-read : AllRead
-unfolding digit bit first some table row putRow rowTable cells field zeros leading activityFields demandsSome crewFields arcFields demandsOf fileDuration fileDemand fileKinds fileAvailable withArc arcsAfter arcsUpTo durationsOf demandTable availableOf planOf rule activityCause crewCause arcCause causeAt firstRefusal recordsCause isLength answerOf readOf
-all-read = record { a = refl; b = refl; c = refl; d = refl; e = refl; e-job = refl; f4 = refl; f5 = refl; g = refl; h = refl }
+unfolding digit bit first some table row putRow rowTable cells field zeros leading activityFields demandsSome crewFields arcFields arcRepeats demandsOf fileDuration fileDemand fileKinds fileAvailable withArc arcsAfter arcsUpTo durationsOf demandTable availableOf planOf rule activityCause crewCause arcCause causeAt firstRefusal recordsCause isLength answerOf readOf
+all-read = record { a = refl; a-both = refl; b = refl; c = refl; d = refl; e = refl; e-job = refl; f4 = refl; f5 = refl; g = refl; h = refl }
 
 -- and these are not
 pub record AllRefused : Type 0 where
   pub g : answerOf (planG 1) ≡ answer.Refused (MilestoneDemand 0)
+  pub a-pasted : answerOf planAPasted ≡ answer.Refused (RepeatedArc 7)
+  pub a-spare : answerOf planASpare ≡ answer.Refused (Spare 7)
+  pub e-pasted : answerOf planEPasted ≡ answer.Refused (RepeatedArc 7)
+  pub c-thrice : answerOf planCThrice ≡ answer.Refused (RepeatedArc 6)
 
 pub all-refused : AllRefused
-unfolding first some table field zeros leading activityFields demandsSome crewFields demandsOf rule activityCause crewCause causeAt firstRefusal recordsCause isLength answerOf
-all-refused = record { g = refl }
+unfolding first some table field zeros leading activityFields demandsSome crewFields arcFields arcRepeats demandsOf rule activityCause crewCause arcCause causeAt firstRefusal recordsCause isLength answerOf
+all-refused = record { g = refl; a-pasted = refl; a-spare = refl; e-pasted = refl; c-thrice = refl }
 
 -- ---- and so they are opened
 
@@ -126,6 +134,7 @@ reads-as {s} r e = record { plan = ap (λ (x : Reading). x .plan) r; fault = fau
 
 pub record AllOpened : Type 0 where
   pub a : OpenedAs planA inA Fine
+  pub a-both : OpenedAs planABoth inABoth Fine
   pub b : OpenedAs planB inB Fine
   pub c : OpenedAs planC inC Fine
   pub d : OpenedAs planD inD Fine
@@ -141,6 +150,7 @@ unfolding digit bit first table row rowTable cells grow arcsFrom arcsIn circleIn
 all-opened =
     record {
       a = reads-as (all-read .a) refl;
+      a-both = reads-as (all-read .a-both) refl;
       b = reads-as (all-read .b) refl;
       c = reads-as (all-read .c) refl;
       d = reads-as (all-read .d) refl;

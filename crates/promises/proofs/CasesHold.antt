@@ -43,7 +43,7 @@ use Rattle.planner.specs.declared.Cause.the-variants.{Lists}
 use Rattle.planner.specs.declared.Fault.{Fault}
 use Rattle.planner.specs.declared.CrewChecked.{CrewChecked}
 use Rattle.promises.specs.Ours.{ours}
-use Rattle.promises.specs.Cases.{Cases, planG}
+use Rattle.promises.specs.Cases.{Cases, planG, planAPasted, planASpare, planEPasted, planCThrice}
 use Rattle.promises.proofs.RefusalsHold.{unreadables}
 use Rattle.promises.proofs.CasePlans.{OpenedAs, all-opened, all-refused, opened-as}
 
@@ -134,4 +134,9 @@ cases =
       h-fits = crew-as (all-opened .h) (0 ∷ 0 ∷ 2 ∷ 2 ∷ 2 ∷ []) (1 ∷ 2 ∷ 0 ∷ 3 ∷ 1 ∷ []);
       h-worked = crew-as (all-opened .h) (0 ∷ 0 ∷ 2 ∷ 3 ∷ 3 ∷ []) (1 ∷ 2 ∷ 1 ∷ 3 ∷ 1 ∷ []);
       h-idle = crew-as (all-opened .h) (0 ∷ 0 ∷ 2 ∷ 2 ∷ 2 ∷ []) (1 ∷ 0 ∷ 0 ∷ 3 ∷ 1 ∷ []);
+      a-both = verdict-as (all-opened .a-both);
+      a-pasted = verdict-refused planAPasted (all-refused .a-pasted);
+      a-spare = verdict-refused planASpare (all-refused .a-spare);
+      e-pasted = verdict-refused planEPasted (all-refused .e-pasted);
+      c-thrice = verdict-refused planCThrice (all-refused .c-thrice);
     }

@@ -9,7 +9,7 @@ use lib.ListN.{length}
 use borrow.Author.Tests.{eqb-true, eq-eqb}
 use Rattle.words.proofs.Tests.{or-left, or-right, or-cases}
 use Rattle.plan.specs.declared.Cause.{Cause as Unread}
-use Rattle.plan.specs.declared.Cause.the-variants.{Length, RecordType, Field, MilestoneDemand, Spare}
+use Rattle.plan.specs.declared.Cause.the-variants.{Length, RecordType, Field, MilestoneDemand, Spare, RepeatedArc}
 use Rattle.plan.specs.declared.Answer.the-variants as answer
 use Rattle.schedule.specs.declared.Checked.{Checked}
 use Rattle.planner.specs.Faults.{orCause}
@@ -87,6 +87,7 @@ unread-tested (RecordType p) = refl
 unread-tested (Field p) = refl
 unread-tested (MilestoneDemand p) = refl
 unread-tested (Spare p) = refl
+unread-tested (RepeatedArc p) = refl
 
 pub unread-one : (u : Unread) → OneOf reading (causeNumber (Unreadable u))
 unread-one u = one-found reading (causeNumber (Unreadable u)) (unread-tested u)

@@ -4,7 +4,7 @@
 -- CrewCheckAnswers (crew check). Demand 3, THE PRICE-LIST SENTENCE, is PriceListHolds; it rests on FileNeeds (needs, sets and crews, in the
 -- file's own terms), FileFlows (flows) and OverloadShown (overload).
 -- CHANGE 1 of document 02, Sheet, is SheetHolds; it rests on SheetAnswers (what Sheet answers and leaves) and SheetPrinted (what is on the page).
--- CHANGE 2, Milestones, is MilestonesHold; it rests on plan's laws of 12 and on demand 2.
+-- CHANGE 2, Milestones, is MilestonesHold; it rests on plan's laws of 12 and on demand 2. CHANGE 3, No arc twice, is RepeatedArcsHold; it rests on plan's laws of 13.
 -- EqualFlowsHold: plans that say the same get equal flows and sheets. CasesHold: the starred cases, of the plans that CasePlans opens. HollowFail: the hollow planners keep no price list.
 -- What the other answers mean, in the file's own terms: CircleFaults (the opening's causes), CrewCheckMeaning (the crew check), AnswersWhen (which case has which answer).
 pub mod FileNeeds
@@ -26,6 +26,7 @@ pub mod SheetAnswers
 pub mod SheetPrinted
 pub mod SheetHolds
 pub mod MilestonesHold
+pub mod RepeatedArcsHold
 pub mod CasePlans
 pub mod CasesHold
 pub mod HollowFail

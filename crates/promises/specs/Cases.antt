@@ -53,6 +53,23 @@ planH =
     activityBytes 1 1 2 ++ (activityBytes 2 2 2 ++ (activityBytes 3 0 0 ++ (activityBytes 4 3 2 ++ (activityBytes 5 1 2 ++ (crewBytes 4
     ++ (arcBytes 4 1 3 ++ (arcBytes 4 2 3 ++ (arcBytes 4 3 4 ++ arcBytes 4 3 5))))))))
 
+-- plan A with its first arc as a job arc too
+abbrev pub planABoth : List ℕ
+planABoth = planC ++ (arcBytes 3 1 2 ++ (arcBytes 4 1 2 ++ arcBytes 4 2 4))
+
+-- plan A with both arcs pasted twice, plan E with its first arc pasted twice, plan C with one arc three times, and plan A with a copy of its first arc that has a spare byte
+abbrev pub planAPasted : List ℕ
+planAPasted = planA ++ (arcBytes 4 1 2 ++ arcBytes 4 2 4)
+
+abbrev pub planEPasted : List ℕ
+planEPasted = planE ++ arcBytes 4 1 2
+
+abbrev pub planCThrice : List ℕ
+planCThrice = planC ++ (arcBytes 3 1 2 ++ (arcBytes 3 1 2 ++ arcBytes 3 1 2))
+
+abbrev pub planASpare : List ℕ
+planASpare = planA ++ (4 ∷ 1 ∷ 2 ∷ 1 ∷ replicate 20 0)
+
 pub record Cases (P : Planner) : Type 0 where
   -- "*A accepted, need 4."
   pub a-accepted : verdictNumbers (P .verdict planA) ≡ 0 ∷ 4 ∷ 1 ∷ []
@@ -100,3 +117,10 @@ pub record Cases (P : Planner) : Type 0 where
   pub h-fits : crewCheckNumbers (P .crew-check planH (0 ∷ 0 ∷ 2 ∷ 2 ∷ 2 ∷ []) (1 ∷ 2 ∷ 0 ∷ 3 ∷ 1 ∷ [])) ≡ 0 ∷ []
   pub h-worked : crewCheckNumbers (P .crew-check planH (0 ∷ 0 ∷ 2 ∷ 3 ∷ 3 ∷ []) (1 ∷ 2 ∷ 1 ∷ 3 ∷ 1 ∷ [])) ≡ 10 ∷ 5 ∷ []
   pub h-idle : crewCheckNumbers (P .crew-check planH (0 ∷ 0 ∷ 2 ∷ 2 ∷ 2 ∷ []) (1 ∷ 0 ∷ 0 ∷ 3 ∷ 1 ∷ [])) ≡ 10 ∷ 5 ∷ []
+  -- "A pair repeated within the same type is now refused. The same pair as a job arc and an extra arc is still fine." (02, change 3)
+  pub a-both : verdictNumbers (P .verdict planABoth) ≡ 0 ∷ 4 ∷ 1 ∷ []
+  pub a-pasted : verdictNumbers (P .verdict planAPasted) ≡ 13 ∷ 7 ∷ []
+  -- "with the place of the later record, in each record after 4, hence before any circle"; of three copies the second is the first that repeats
+  pub a-spare : verdictNumbers (P .verdict planASpare) ≡ 4 ∷ 7 ∷ []
+  pub e-pasted : verdictNumbers (P .verdict planEPasted) ≡ 13 ∷ 7 ∷ []
+  pub c-thrice : verdictNumbers (P .verdict planCThrice) ≡ 13 ∷ 6 ∷ []

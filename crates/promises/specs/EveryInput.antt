@@ -18,9 +18,9 @@ abbrev pub OneOf : List ℕ → ℕ → Type 0
 OneOf [] n = ⊥
 OneOf (x ∷ xs) n = (n ≡ x) ⊎ OneOf xs n
 
--- "Check order: 1; then records in file order, 2, 3, 4 within each": the reader's numbers; 12 comes "in each record after 3 and before 4" (02, change 2)
+-- "Check order: 1; then records in file order, 2, 3, 4 within each": the reader's numbers; 12 comes "in each record after 3 and before 4" (02, change 2), 13 "in each record after 4" (02, change 3)
 abbrev pub reading : List ℕ
-reading = 1 ∷ 2 ∷ 3 ∷ 12 ∷ 4 ∷ []
+reading = 1 ∷ 2 ∷ 3 ∷ 12 ∷ 4 ∷ 13 ∷ []
 
 -- "then 5, 6.": the numbers that every operation can give
 abbrev pub opening : List ℕ

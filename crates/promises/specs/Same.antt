@@ -1,5 +1,5 @@
 -- "plans with the same activities, crew, set of job arcs and set of extra arcs get equal flows" (01, Flow), about a planner P (`EqualFlows P`): when two files
--- s and t say the same plan (the order of the arc records, and how often one stands there, are free), and what then is equal. It holds of ours:
+-- s and t say the same plan (the order of the arc records is free, and an arc may be of both types in both), and what then is equal. It holds of ours:
 -- `equal-flows` of proofs/EqualFlowsHold.antt. Assumes nothing.
 use mathlib.Core.Path.{_≡_}
 use mathlib.Core.List.{List}

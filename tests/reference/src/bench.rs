@@ -1,11 +1,11 @@
 //! One comparison for each operation: the library's reply against what the paper determines,
 //! every answer and every lent byte and number, and by the rules where the paper leaves it free.
 
-use crate::bytes::{hex, RECORD};
+use crate::bytes::{hex, JOB, RECORD};
 use crate::check;
 use crate::crew;
-use crate::planner::{Planner, Reply};
 use crate::model::{Case, Facts};
+use crate::planner::{Planner, Reply};
 use crate::random::Random;
 use crate::read::Refusal;
 use crate::tally::Tally;
@@ -89,10 +89,7 @@ impl Bench {
     pub fn verdict(&mut self, case: &Case) {
         let shown = self.set(case);
         let reply = self.planner.verdict(&case.bytes);
-        if let Ok(facts) = &case.facts {
-            let has = facts.plan.has_milestones();
-            self.tally.note(if has { "plan with milestones" } else { "plan without milestones" });
-        }
+        self.note_plan(case, reply.answer);
         let due = match &case.facts {
             Err(refusal) => refused(refusal),
             Ok(facts) => match facts.overloaded() {
@@ -101,6 +98,21 @@ impl Bench {
             },
         };
         self.settle(case, "Verdict", &reply, Ok(Due { answer: due, after: Vec::new() }));
+    }
+
+    /// What the number alone does not say: what sort of plan was read, and which arc is refused as 13.
+    fn note_plan(&mut self, case: &Case, verdict: u64) {
+        if let Ok(facts) = &case.facts {
+            let has = facts.plan.has_milestones();
+            self.tally.note(if has { "plan with milestones" } else { "plan without milestones" });
+            if !facts.plan.job.is_disjoint(&facts.plan.extra) {
+                self.tally.note("plan with a pair in both types");
+            }
+        }
+        if verdict & 255 == 13 {
+            let job = case.bytes.get(RECORD * (verdict >> 8) as usize) == Some(&JOB);
+            self.tally.note(if job { "13: a job arc" } else { "13: an extra arc" });
+        }
     }
 
     /// The set that goes with the verdict; returns it for the verdict's size.

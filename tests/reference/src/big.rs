@@ -2,8 +2,9 @@
 //! claim and proved both ways by what it shows: with each need as availability the flows prove
 //! that it is enough, with one less the set shown proves that it is not.
 
-use crate::bench::Bench;
+use crate::bench::{answer, Bench};
 use crate::bytes::{arc_record, Activity, Draft, EXTRA, RECORD};
+use crate::cases::expect;
 use crate::model::{ordered, Case, MOST_TRIED};
 use crate::read::{read, MOST_ACTIVITIES, MOST_BYTES};
 use crate::sweep::{add_circle, around, equal_flows, random_draft};
@@ -80,16 +81,17 @@ fn chain(bench: &mut Bench, full: &Draft) {
     bench.all(&Case::claimed(draft.bytes(), &[65_535; 8]));
 }
 
-/// 2,048 records are read, to the last byte of the last; one record more is not.
+/// 2,048 records are read, to the last byte of the last, which is held to the first of its type; one record more is not.
 fn most_records(bench: &mut Bench) {
     let arcs = MOST_BYTES / RECORD - MOST_ACTIVITIES - 1;
     let mut draft = greatest(MOST_ACTIVITIES);
     // All pairs upwards but the last 33, which leaves 64 unrelated to 31 and above.
     let pairs = (1..=64).flat_map(|to| (1..to).map(move |from| (from, to)));
-    draft.extra = pairs.take(arcs).collect();
+    draft.extra = pairs.clone().take(arcs).collect();
     bench.all(&Case::claimed(draft.bytes(), &[2 * 65_535; 8]));
-    // One chain, repeated until the file is full.
-    draft.extra = (1..64).map(|from| (from, from + 1)).cycle().take(arcs).collect();
+    // One chain of job arcs, and of its pairs, its own arcs among them, as many as there is room for as extra arcs.
+    draft.job = (1..64).map(|from| (from, from + 1)).collect();
+    draft.extra = pairs.take(arcs - draft.job.len()).collect();
     let mut file = draft.bytes();
     assert!(file.len() == MOST_BYTES);
     bench.all(&Case::claimed(file.clone(), &[65_535; 8]));
@@ -98,6 +100,11 @@ fn most_records(bench: &mut Bench) {
         bench.all(&Case::claimed(file.clone(), &[]));
     }
     file[MOST_BYTES - 1] = 0;
+    let mut again = file.clone();
+    again[MOST_BYTES - RECORD..].copy_from_slice(&arc_record(EXTRA, draft.extra[0]));
+    let due = answer(13, 2_047);
+    expect(bench, &again, "Verdict", |bench| bench.planner.verdict(&again).answer, due);
+    bench.all(&Case::claimed(again, &[65_535; 8]));
     file.extend(arc_record(EXTRA, (1, 2)));
     bench.all(&Case::claimed(file, &[]));
 }

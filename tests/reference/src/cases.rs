@@ -123,7 +123,9 @@ fn crews(bench: &mut Bench) {
     crew(bench, &a, &[0; 4], &[1; 5], answer(10, 4));
     crew(bench, &a, &[0; 4], &[1, 1, 0, 1], answer(10, 4));
     crew(bench, &a, &[0; 4], &[1; 4], broken(1, 2));
-    crew(bench, &four(&[(2, 4), (2, 3), (1, 4), (2, 3)]), &[0, 9, 9, 9], &[1; 4], broken(2, 3));
+    crew(bench, &four(&[(2, 4), (2, 3), (1, 4)]), &[0, 9, 9, 9], &[1; 4], broken(2, 3));
+    let in_both = Draft::of_one_kind(&FOUR, 4, &[(2, 3)], &[(2, 4), (2, 3), (1, 4)]);
+    crew(bench, &in_both, &[0, 9, 9, 9], &[1; 4], broken(2, 3));
     crew(bench, &Draft::of_one_kind(&FOUR, 4, &[(3, 4)], &[(1, 2)]), &[0; 4], &[1; 4], broken(1, 2));
     crew(bench, &Draft::of_one_kind(&[], 0, NO_ARCS, NO_ARCS), &[], &[], 0);
 }

@@ -1,9 +1,10 @@
-//! Valid files with bytes damaged, cut short, lengthened and with records moved about.
+//! Valid files with bytes damaged, cut short, lengthened, with records moved about and with arcs repeated.
 
 use crate::bench::Bench;
 use crate::bytes::{ACTIVITY, RECORD};
 use crate::model::Case;
 use crate::random::Random;
+use crate::read::is_arc;
 use crate::sweep::{around, random_draft};
 
 /// Damages `count` random files of at most 7 activities in every way below.
@@ -14,6 +15,7 @@ pub fn damaged_plans(bench: &mut Bench, count: usize) {
         several_bytes(bench, &file);
         no_duration(bench, &file);
         moved_records(bench, &file);
+        repeated_arcs(bench, &file);
     }
     let file = some_file(&mut bench.random);
     for length in 0..file.len() {
@@ -47,7 +49,7 @@ fn every_byte(bench: &mut Bench, file: &[u8]) {
     }
 }
 
-/// Two or three faults at once: the earlier record wins, and within it 2, 3, 12, 4.
+/// Two or three faults at once: the earlier record wins, and within it 2, 3, 12, 4, 13.
 fn several_bytes(bench: &mut Bench, file: &[u8]) {
     for _ in 0..300 {
         let mut damaged = file.to_vec();
@@ -80,7 +82,7 @@ fn no_duration(bench: &mut Bench, file: &[u8]) {
     }
 }
 
-/// Records swapped, doubled and left out: types and numbers out of order, no crew, two crews.
+/// Records swapped, doubled and left out: types and numbers out of order, no crew, two crews, an arc twice.
 fn moved_records(bench: &mut Bench, file: &[u8]) {
     for _ in 0..60 {
         let mut records: Vec<&[u8]> = file.chunks(RECORD).collect();
@@ -91,5 +93,24 @@ fn moved_records(bench: &mut Bench, file: &[u8]) {
             _ => drop(records.remove(one)),
         }
         bench.all(&Case::new(records.concat()));
+    }
+}
+
+/// Each arc record copied over each other one and put before it, alone and with one more byte damaged. Where both are of
+/// the same type that is 13 at the later of the two.
+fn repeated_arcs(bench: &mut Bench, file: &[u8]) {
+    let records: Vec<&[u8]> = file.chunks(RECORD).collect();
+    let arcs: Vec<usize> = (0..records.len()).filter(|&place| is_arc(records[place])).collect();
+    for (one, two) in arcs.iter().flat_map(|&one| arcs.iter().map(move |&two| (one, two))) {
+        let (mut over, mut more) = (records.clone(), records.clone());
+        over[two] = records[one];
+        more.insert(two, records[one]);
+        for mut damaged in [over.concat(), more.concat()] {
+            bench.all(&Case::new(damaged.clone()));
+            let byte = bench.random.pick(&[0, 1, 2, 3, 23]);
+            let within = bench.random.pick(&[one, two]);
+            damaged[RECORD * within + byte] = bench.random.pick(&[0, 1, 2, 3, 4, 5]);
+            bench.all(&Case::new(damaged));
+        }
     }
 }

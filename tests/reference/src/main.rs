@@ -11,16 +11,17 @@ mod check;
 mod crew;
 mod damage;
 #[allow(unsafe_code)]
-mod planner;
-#[allow(unsafe_code)]
 mod guard;
 mod milestones;
 mod model;
 mod paging;
 mod passing;
+#[allow(unsafe_code)]
+mod planner;
 mod random;
 mod read;
 mod readings;
+mod repeats;
 mod sheet;
 mod sheets;
 mod sweep;
@@ -36,6 +37,7 @@ const RANDOM_PLANS: usize = 6_000;
 const BIG_PLANS: usize = 60;
 const DAMAGED_PLANS: usize = 8;
 const PASSING_PLANS: usize = 800;
+const REPEATED_PLANS: usize = 400;
 
 fn seed() -> u64 {
     let given = std::env::args().nth(1).or_else(|| std::env::var("REFERENCE_SEED").ok());
@@ -58,6 +60,7 @@ fn main() -> ExitCode {
     part("crew sheets", &sheets::sheets);
     part("milestones", &milestones::milestones);
     part("milestones left out", &|bench| passing::passing(bench, PASSING_PLANS));
+    part("repeated arcs", &|bench| repeats::repeats(bench, REPEATED_PLANS));
     part("random plans", &|bench| sweep::random_plans(bench, RANDOM_PLANS));
     part("damaged plans", &|bench| damage::damaged_plans(bench, DAMAGED_PLANS));
     part("big plans", &|bench| big::big_plans(bench, BIG_PLANS));

@@ -1,4 +1,4 @@
-//! The independent reader: cause 1, then 2, 3, 12 and 4 record by record, in the order of the check list.
+//! The independent reader: cause 1, then 2, 3, 12, 4 and 13 record by record, in the order of the check list.
 
 use crate::bytes::{ACTIVITY, CREW, EXTRA, JOB, RECORD};
 use std::collections::BTreeSet;
@@ -38,7 +38,7 @@ impl Plan {
         (0..self.size()).any(|place| self.is_milestone(place))
     }
 
-    /// All arcs, each once, by from and then to.
+    /// All arcs, each once though it may be of both types, by from and then to.
     pub fn arcs(&self) -> BTreeSet<(usize, usize)> {
         self.job.union(&self.extra).copied().collect()
     }
@@ -50,6 +50,7 @@ pub fn read(file: &[u8]) -> Result<Plan, Refusal> {
     }
     let mut plan = Plan::default();
     let mut last = ACTIVITY;
+    let mut named = BTreeSet::new();
     for (place, record) in file.chunks(RECORD).enumerate() {
         let refuse = |number| Refusal { number, value: place as u64 };
         if !follows(last, record[0]) {
@@ -64,6 +65,10 @@ pub fn read(file: &[u8]) -> Result<Plan, Refusal> {
         }
         if !spare_is_zero(record) {
             return Err(refuse(4));
+        }
+        // Type, from and to: the same pair in the other type is another arc.
+        if is_arc(record) && !named.insert(&record[..3]) {
+            return Err(refuse(13));
         }
     }
     // Only the end of the file shows that the crew record never came.
@@ -112,6 +117,10 @@ fn take_arc(plan: &mut Plan, record: &[u8]) -> bool {
     let arcs = if record[0] == JOB { &mut plan.job } else { &mut plan.extra };
     arcs.insert((from, to));
     good
+}
+
+pub fn is_arc(record: &[u8]) -> bool {
+    record[0] == JOB || record[0] == EXTRA
 }
 
 fn takes_no_time(record: &[u8]) -> bool {

@@ -120,7 +120,7 @@ fn circles(bench: &mut Bench) {
     circle(&[(1, 3), (3, 4)], &[(4, 3)], answer(6, 3));
     circle(&[(4, 2), (3, 1)], &[(2, 5), (5, 4), (4, 1)], answer(6, 2));
     circle(&[(5, 4), (4, 3), (3, 2)], &[(2, 5)], answer(6, 2));
-    circle(&[(5, 4), (4, 3), (3, 2), (2, 1)], &[(5, 1), (5, 1)], accepted(5, 1));
+    circle(&[(5, 4), (4, 3), (3, 2), (2, 1)], &[(5, 1), (5, 4)], accepted(5, 1));
 }
 
 /// Two kinds overloaded, the second worse: the first is named, and its set and need are shown.

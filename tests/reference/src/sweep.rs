@@ -6,7 +6,7 @@ use crate::model::{needs_by_subsets, ordered, Case, MOST_TRIED};
 use crate::random::Random;
 use crate::read::read;
 
-/// Of each type, so that 64 activities, the crew, both types and some repetitions stay within 2,048 records.
+/// Of each type, so that 64 activities, the crew, both types and some arcs more stay within 2,048 records.
 const MOST_ARCS: usize = 980;
 
 pub fn random_plans(bench: &mut Bench, count: usize) {
@@ -25,7 +25,7 @@ pub fn random_plans(bench: &mut Bench, count: usize) {
 }
 
 /// Demands go up to `most`; in half of the plans some activities are milestones. Arcs run forward in a random order of
-/// the activities, so that their numbers say nothing, and some are repeated, in the same type or in the other.
+/// the activities, so that their numbers say nothing, and some are of both types. No type names a pair twice.
 pub fn random_draft(random: &mut Random, size: usize, most: u16) -> Draft {
     let kinds = random.between(1, 8) as u8;
     let highest = random.pick(&[1, 3, 10, most]);
@@ -67,17 +67,20 @@ fn random_arcs(random: &mut Random, line: &[u8]) -> Vec<Arc> {
     arcs
 }
 
+/// Repeats some arcs in the other type.
 fn repeat_some(random: &mut Random, job: &mut Vec<Arc>, extra: &mut Vec<Arc>) {
     for _ in 0..random.pick(&[0, 0, 1, 4]) {
-        let all = [job.as_slice(), extra.as_slice()].concat();
-        if !all.is_empty() {
-            let arc = random.pick(&all);
-            if random.percent(30) {
-                job.push(arc)
-            } else {
-                extra.push(arc)
-            }
+        let (arcs, others) = if random.percent(30) { (&*extra, &mut *job) } else { (&*job, &mut *extra) };
+        if !arcs.is_empty() {
+            add_arc(others, random.pick(arcs));
         }
+    }
+}
+
+/// Adds an arc to those of its type, where it is not among them.
+pub fn add_arc(arcs: &mut Vec<Arc>, arc: Arc) {
+    if !arcs.contains(&arc) {
+        arcs.push(arc);
     }
 }
 
@@ -92,11 +95,7 @@ pub fn add_circle(random: &mut Random, draft: &mut Draft) {
     let in_job = random.percent(40);
     for place in 0..round.len() {
         let arc = (round[place], round[(place + 1) % round.len()]);
-        if in_job || random.percent(30) {
-            draft.job.push(arc)
-        } else {
-            draft.extra.push(arc)
-        }
+        add_arc(if in_job || random.percent(30) { &mut draft.job } else { &mut draft.extra }, arc);
     }
 }
 
@@ -122,22 +121,22 @@ pub fn around(random: &mut Random, needs: &[u32]) -> [u16; 8] {
     available
 }
 
-/// The same arcs in another order and number, job and extra arcs apart, must give the same flows.
+/// The same arcs in another order, job and extra arcs apart, must give the same flows.
 pub fn equal_flows(bench: &mut Bench, draft: &Draft) {
     let mut other = draft.clone();
     for arcs in [&mut other.job, &mut other.extra] {
-        if !arcs.is_empty() && bench.random.percent(70) {
-            arcs.push(bench.random.pick(arcs));
-        }
         bench.random.shuffle(arcs);
     }
+    same_flows(bench, &draft.bytes(), &other.bytes(), draft.kinds);
+}
+
+pub fn same_flows(bench: &mut Bench, file: &[u8], twin: &[u8], kinds: u8) {
     let lent = vec![0xA7; 24 * 2145];
-    let (file, twin) = (draft.bytes(), other.bytes());
-    for kind in 1..=draft.kinds as u64 {
-        let (one, two) = (bench.planner.flow(&file, kind, &lent), bench.planner.flow(&twin, kind, &lent));
+    for kind in 1..=kinds as u64 {
+        let (one, two) = (bench.planner.flow(file, kind, &lent), bench.planner.flow(twin, kind, &lent));
         // Only accepted plans have flows; the rest is compared elsewhere.
         let equal = one.answer & 255 != 0 || (one.answer, one.after) == (two.answer, two.after);
         let outcome = if equal { Ok(()) } else { Err(format!("kind {kind}: another flow after reordering arcs")) };
-        bench.tally.count(&file, "Flow of equal plans", outcome);
+        bench.tally.count(file, "Flow of equal plans", outcome);
     }
 }

@@ -9,7 +9,7 @@ pub const BROKEN: u64 = 254;
 pub const OVERLOAD: u64 = 255;
 
 /// What every operation refuses of a file by itself, in the order in which it is tested.
-const FILE: [u64; 7] = [1, 2, 3, 12, 4, 5, 6];
+const FILE: [u64; 8] = [1, 2, 3, 12, 4, 13, 5, 6];
 /// The operations, each with what else it answers.
 const OTHERS: [(&str, &[u64]); 7] = [
     ("Verdict", &[7, 0]),
@@ -21,7 +21,7 @@ const OTHERS: [(&str, &[u64]); 7] = [
     ("Crew check", &[10, BROKEN, OVERLOAD, 0]),
 ];
 /// What a number alone does not say.
-const NOTES: [&str; 11] = [
+const NOTES: [&str; 14] = [
     "no overload",
     "sheet of one page",
     "sheet of more pages",
@@ -33,6 +33,9 @@ const NOTES: [&str; 11] = [
     "crew with milestones overloads",
     "plan with milestones",
     "plan without milestones",
+    "13: a job arc",
+    "13: an extra arc",
+    "plan with a pair in both types",
 ];
 
 #[derive(Default)]

@@ -1,5 +1,6 @@
 -- How the code goes about it: the steps of the loops that fill the plan's arrays, and the phases of a file. Only proofs need this: that it comes to
 -- `readOf` is `file-read` of proofs/Phases.antt. Assumes nothing.
+use mathlib.Core.Bool.{not}
 use mathlib.Core.List.{List}
 use Prim.Native.Nat.{ℕ, zero, suc, _+_, _-_, _*_}
 use lib.ListN.{set, drop, replicate}
@@ -9,12 +10,12 @@ use Rattle.records.specs.Bytes.{byte}
 use Rattle.order.specs.Stored.{elements, cells}
 use Rattle.plan.specs.declared.Answer.{Answer}
 use Rattle.plan.specs.declared.Answer.the-variants.{Readable, Refused}
-use Rattle.plan.specs.declared.Cause.the-variants.{RecordType}
+use Rattle.plan.specs.declared.Cause.the-variants.{RecordType, RepeatedArc}
 use Rattle.plan.specs.declared.Reading.{Reading}
-use Rattle.plan.specs.Records.{recordAt, leading, durationIn, demandIn, availableIn}
+use Rattle.plan.specs.Records.{recordAt, leading, arcRepeats, durationIn, demandIn, availableIn}
 use Rattle.plan.specs.model.ArcRows.{arcsAfter}
 use Rattle.plan.specs.model.Plans.{emptyPlan}
-use Rattle.plan.specs.Causes.{activityCause, crewCause, arcCause, firstRefusal}
+use Rattle.plan.specs.Causes.{rule, activityCause, crewCause, arcCause, firstRefusal}
 
 abbrev pub putDuration : List ℕ → ℕ → List ℕ → List ℕ
 putDuration s i durations = set durations i (durationIn (recordAt s i))
@@ -30,9 +31,9 @@ putDemands s i demands = upto (putDemand (recordAt s i) i) 8 demands
 abbrev pub putArc : ℕ → List ℕ → ℕ → List ℕ → List ℕ
 putArc type t i rows = arcsAfter type (recordAt t i) rows
 
--- the cause of record i of t, whose first record is at a place of the file, as an arc of a type among m activities
+-- the cause of record i of t, whose first record is at a place of the file, as an arc of a type among m activities; the earlier records are those of t
 abbrev pub arcIn : ℕ → ℕ → ℕ → List ℕ → ℕ → Answer
-arcIn type place m t i = arcCause type (place + i) m (recordAt t i)
+arcIn type place m t i = rule (arcCause type (place + i) m (recordAt t i)) (not (arcRepeats t i)) (RepeatedArc (place + i))
 
 -- the first cause among its first n records
 abbrev pub arcsCause : ℕ → ℕ → ℕ → List ℕ → ℕ → Answer

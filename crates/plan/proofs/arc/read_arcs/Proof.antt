@@ -1,18 +1,17 @@
--- `plan::arc::read_arcs` meets its contract: no record before the place of the loop is refused, and their arcs are stored. Assumes nothing.
-use mathlib.Core.Path.{_≡_}
+-- `plan::arc::read_arcs` meets its contract: no record before the place of the loop is refused, and their arcs are stored, so that they tell which arc is repeated. Assumes nothing.
+use mathlib.Core.Path.{_≡_, _∙_}
 use mathlib.Core.Bool.{true}
-use Prim.Native.Nat.{ℕ, _+_, _-_, _≤_, _<_}
+use Prim.Native.Nat.{ℕ, _-_, _≤_, _<_}
 use native.Mathlib.Omega.{arith}
 use borrow.Author.Needs.{needs}
 use Rattle.words.specs.model.Loops.{upto}
 use Rattle.words.proofs.Loops.{up-none, up-again, up-end}
-use Rattle.words.proofs.Tests.{clash}
-use Rattle.plan.specs.Records.{recordAt}
+use Rattle.words.proofs.Tests.{clash, cond-true}
 use Rattle.plan.specs.Causes.{isReadable}
 use Rattle.plan.specs.model.Phases.{putArc, arcIn}
 use Rattle.records.proofs.Steps.{rest-of}
-use Rattle.plan.proofs.ReaderLoops.{told-not, record-left, refusal-stop, refusal-again, refusal-end, accepted, arc-stored}
-use Rattle.plan.proofs.RecordRules.{arc-kept}
+use Rattle.plan.proofs.ReaderLoops.{told, told-not, record-left, refusal-stop, refusal-again, refusal-end}
+use Rattle.plan.proofs.RepeatedArcs.{looked-up}
 use Rattle.plan.proofs.arc.read_arcs.Statement.{statement}
 use Rattle.plan.proofs.arc.read_arcs.Tie as tie
 
@@ -26,46 +25,37 @@ abbrev μ-loop : tie.MeasureT-loop
 loop-holds : tie.Need-loop-holds Inv-loop μ-loop
 loop-holds c = ((up-none _ _, omega arith), λ k l. absurd (omega arith))
 
-arc-cause-requires : tie.Need-arc-cause-requires Inv-loop μ-loop
-arc-cause-requires c κs =
-    let b = c .before .before in
-    let a = b .before .before .args in
-    record-left (a .n) (b .loop .i) (a .t .now) (omega arith) (omega arith)
+read-arc-requires : tie.Need-read-arc-requires Inv-loop μ-loop
+read-arc-requires c κs =
+    let b = c .before .before .before in
+    let start = b .before .before in
+    let a = start .args in
+    (record-left (a .n) (b .loop .i) (a .t .now) (omega arith) (omega arith), start .pre .2)
 
 returns : tie.Need-returns Inv-loop μ-loop
 returns c =
-    let b = c .before .before .before .before .before in
-    let a = b .before .before .args in (
-      refusal-stop (a .n) (arcIn (a .of) (a .place) (a .m) (a .t .now)) (b .loop .i) (b .loop .inv .1)
-          (rw rest-of at (c .before .before .arc-cause .ensures)) (c .before .is-readable .ensures) (omega arith) (c .if1 .taken),
-      λ e. clash e (told-not (c .before .is-readable .ensures) (c .if1 .taken)),
-    )
-
-store-arc-requires : tie.Need-store-arc-requires Inv-loop μ-loop
-store-arc-requires c κs =
-    let test = c .before .before in
-    let b = test .before .before .before .before .before in
-    let start = b .before .before in
-    let a = start .args in
-    let r = recordAt (a .t .now) (b .loop .i) in
-    let found = accepted (rw rest-of at (test .before .before .arc-cause .ensures)) (test .before .is-readable .ensures) (test .if1 .left) in
-    let K = arc-kept (a .of) (a .place + b .loop .i) (a .m) r found in
-    let few = start .pre .2 in
-    let left = record-left (a .n) (b .loop .i) (a .t .now) (omega arith) (omega arith) in
-    (left, rw rest-of (K .from-low), rw rest-of (omega (arith, K .from-high)), rw rest-of (K .to-low), rw rest-of (omega (arith, K .to-high)))
-
-loop-again : tie.Need-loop-again Inv-loop μ-loop
-loop-again c =
-    let test = c .before .before .before in
-    let b = test .before .before .before .before .before in
+    let b = c .before .before .before .before .before .before in
     let start = b .before .before in
     let a = start .args in
     let i = b .loop .i in
-    let answer = rw rest-of at (test .before .before .arc-cause .ensures) in
-    let found = accepted answer (test .before .is-readable .ensures) (test .if1 .left) in
-    let stored = arc-stored (a .of) (a .place + i) (a .m) (recordAt (a .t .now) i) (b .loop .rows) found (rw rest-of at (c .store-arc .ensures)) in (
-      up-again (putArc (a .of) (a .t .now)) (a .n) i (a .rows .now) (omega arith) (b .loop .inv .0) stored,
-      refusal-again (a .n) (arcIn (a .of) (a .place) (a .m) (a .t .now)) i (b .loop .inv .1) answer (test .before .is-readable .ensures) (test .if1 .left),
+    let inv = b .loop .inv in
+    let found = rw rest-of at (c .before .before .read-arc .ensures .0) ∙ looked-up (a .of) (a .place) (a .m) (a .t .now) i (start .pre .2) (start .pre .3) (inv .0 .0) (inv .1) in (
+      refusal-stop (a .n) (arcIn (a .of) (a .place) (a .m) (a .t .now)) i (inv .1) found (c .before .is-readable .ensures) (omega arith) (c .if1 .taken),
+      λ e. clash e (told-not (c .before .is-readable .ensures) (c .if1 .taken)),
+    )
+
+loop-again : tie.Need-loop-again Inv-loop μ-loop
+loop-again c =
+    let b = c .before .before .before .before .before .before in
+    let start = b .before .before in
+    let a = start .args in
+    let i = b .loop .i in
+    let inv = b .loop .inv in
+    let read = c .before .before .read-arc .ensures in
+    let found = rw rest-of at (read .0) ∙ looked-up (a .of) (a .place) (a .m) (a .t .now) i (start .pre .2) (start .pre .3) (inv .0 .0) (inv .1) in
+    let stored = rw rest-of at (read .1 ∙ cond-true _ _ (told (c .before .is-readable .ensures) (c .if1 .left))) in (
+      up-again (putArc (a .of) (a .t .now)) (a .n) i (a .rows .now) (omega arith) (inv .0) stored,
+      refusal-again (a .n) (arcIn (a .of) (a .place) (a .m) (a .t .now)) i (inv .1) found (c .before .is-readable .ensures) (c .if1 .left),
     )
 
 returns-2 : tie.Need-returns-2 Inv-loop μ-loop
@@ -88,14 +78,9 @@ read-arcs-spec =
     (λ c. search needs)
     (λ c. search needs)
     (λ c. search needs)
-    arc-cause-requires
+    read-arc-requires
     (λ c κs. search needs)
     returns
-    (λ c. search needs)
-    (λ c. search needs)
-    (λ c. search needs)
-    (λ c. search needs)
-    store-arc-requires
     (λ c. search needs)
     (λ c. search needs)
     loop-again

@@ -1,5 +1,5 @@
 -- `plan::file::read_rest` meets its contract: what follows each answer is what the definition has follow it. Assumes nothing.
-use mathlib.Core.Path.{_≡_}
+use mathlib.Core.Path.{_≡_, refl}
 use Prim.Native.Nat.{suc, _-_}
 use native.Mathlib.Omega.{arith}
 use borrow.Author.Needs.{needs}
@@ -67,6 +67,15 @@ returns-5 c =
     (then-on (simp (rest-of, count .leading-records .ensures .0) at (extras .read-arcs2 .ensures .0)) (last .before .is-readable3 .ensures) (last .if4 .left)
     (simp (index .index .ensures .0, c .available .ensures, job, extra, rest-of, count .leading-records .ensures .0)))))
 
+-- the rows are empty before the records of their type
+read-arcs-requires : tie.Need-read-arcs-requires
+unfolding cells
+read-arcs-requires c κs = (search needs, search needs, search needs, refl)
+
+read-arcs-requires-2 : tie.Need-read-arcs-requires-2
+unfolding cells
+read-arcs-requires-2 c κs = (search needs, search needs, search needs, refl)
+
 pub read-rest-spec : {M : Type 1} → statement M
 read-rest-spec =
     tie.close
@@ -83,7 +92,7 @@ read-rest-spec =
     (λ c. search needs)
     (λ c κs. search needs)
     (λ c. search needs)
-    (λ c κs. search needs)
+    read-arcs-requires
     (λ c κs. search needs)
     (λ c κs. search needs)
     returns-3
@@ -95,7 +104,7 @@ read-rest-spec =
     (λ c. search needs)
     (λ c. search needs)
     (λ c. search needs)
-    (λ c κs. search needs)
+    read-arcs-requires-2
     (λ c κs. search needs)
     (λ c κs. search needs)
     returns-4
