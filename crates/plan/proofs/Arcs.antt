@@ -64,7 +64,7 @@ pub arcs-start : (s : List ℕ) (type : ℕ) → arcsUpTo s type 0 ≡ replicate
 unfolding arcsUpTo
 arcs-start s type = refl
 
--- the same of the first n records
+-- the first n records of a file: where none is of the type, and whatever they are
 pub arcs-none-before : (s : List ℕ) (type n : ℕ) → ((i : ℕ) → i < n → typeAt s i ≢ type) → arcsUpTo s type n ≡ replicate (cells elements) 0
 arcs-none-before s type n h =
     ap (arcsUpTo s type) (sym (zero-add n)) ∙ arcs-none s type 0 n (λ i l. subst (λ (x : ℕ). typeAt s x ≢ type) (sym (zero-add i)) (h i l)) ∙ arcs-start s type

@@ -17,10 +17,10 @@ use Rattle.plan.specs.Causes.{rule, activityCause, isLength, answerOf}
 use Rattle.plan.specs.Numbers.{toldBy}
 use Rattle.plan.specs.Meaning.{Readable as IsReadable, Milestone, fileDuration, fileDemand}
 use Rattle.plan.specs.Refused.{FirstFault, DemandingMilestone}
-use Rattle.plan.proofs.RecordRules.{rule-kept, rule-before, Holds, at-activity, cause-holds}
+use Rattle.plan.proofs.RecordRules.{rule-kept, rule-before, at-activity, cause-holds}
 use Rattle.plan.proofs.Parts.{activities-within, activity-fine}
 use Rattle.plan.proofs.Said.{readable-faultless}
-use Rattle.plan.proofs.Refused.{refused-at, fault-refused}
+use Rattle.plan.proofs.Refused.{refused-holds, fault-refused}
 
 -- ---- the rule: what is demanded is demanded for some time
 
@@ -66,10 +66,8 @@ demanding-refused s p D =
 pub refused-demanding : (s : List ℕ) (p : ℕ) → answerOf s ≡ Refused (MilestoneDemand p) → DemandingMilestone s p
 unfolding fileDuration fileDemand
 refused-demanding s p e =
-    let w = refused-at s (MilestoneDemand p) (λ q. omega arith) (λ q. omega arith) e in
-    let F = w .1 .1 in
-    subst (Holds Means) (F .fault)
-    (cause-holds Means s (w .1 .0) (λ q. absurd (omega arith)) (λ q. absurd (omega arith)) (at-record (w .0) (w .1 .0) F) (λ q. absurd (omega arith)) (λ _ _ _ q. absurd (omega arith))) refl refl
+    refused-holds Means s (MilestoneDemand p) (λ q. omega arith) (λ q. omega arith) e
+    (λ legal q F. cause-holds Means s q (λ x. absurd (omega arith)) (λ x. absurd (omega arith)) (at-record legal q F) (λ x. absurd (omega arith)) (λ _ _ _ x. absurd (omega arith))) refl refl
   where
     Means : Cause → Type 0
     Means c = toldBy c .number ≡ 12 → toldBy c .place ≡ p → DemandingMilestone s p

@@ -11,7 +11,7 @@ use borrow.Author.Count.{below-more}
 use borrow.Author.Tests.{eq-eqb, ne-eqb, lt-ltb, le-ltb, not-true, not-false}
 use Rattle.words.specs.Members.{first}
 use Rattle.words.proofs.Tests.{clash, cond-true, cond-false}
-use Rattle.words.proofs.Firsts.{first-stop, first-end}
+use Rattle.words.proofs.Firsts.{first-none, first-stop, first-end}
 use Rattle.records.specs.Bytes.{byte}
 use Rattle.order.specs.Stored.{elements}
 use Rattle.plan.specs.declared.Answer.{Answer}
@@ -68,28 +68,37 @@ leading-done type n i t h = let z : n - i ≡ 0 = omega arith in rw z
 
 -- ---- a loop that looks for the first refusal among f 0, .., f (n - 1)
 
-abbrev refuses : (ℕ → Answer) → ℕ → Bool
+abbrev pub refuses : (ℕ → Answer) → ℕ → Bool
 refuses f i = not (isReadable (f i))
 
 module _ (n : ℕ) (f : ℕ → Answer) where
   -- at i, where none before it is refused: `answer` is what the code finds there, and `b` what its test says of it
   module _ (i : ℕ) (none : (k : ℕ) → k < i → isReadable (f k) ≡ true) where
     module _ {answer : Answer} {b : Bool} (found : answer ≡ f i) (test : b ≡ isReadable answer) where
+      pub refusal-here : i < n → not b ≡ true → i ≡ first n (refuses f)
+      refusal-here l e = first-stop n (refuses f) i (λ k m. ap not (none k m)) l (ap not (told-not (test ∙ ap isReadable found) e))
+
       pub refusal-stop : i < n → not b ≡ true → answer ≡ firstRefusal n f
       unfolding firstRefusal
       refusal-stop l e =
-          let p = first-stop n (refuses f) i (λ k m. ap not (none k m)) l (ap not (told-not (test ∙ ap isReadable found) e)) in
+          let p = refusal-here l e in
           found ∙ ap f p ∙ sym (cond-true (f (first n (refuses f))) Readable (lt-ltb (first n (refuses f)) n (omega arith)))
 
       pub refusal-again : not b ≡ false → (k : ℕ) → k < i + 1 → isReadable (f k) ≡ true
       refusal-again e = below-more (λ k. isReadable (f k) ≡ true) i none (told (test ∙ ap isReadable found) e)
 
+    pub refusal-none : n ≤ i → i ≤ n → n ≡ first n (refuses f)
+    refusal-none l h = first-end n (refuses f) i (λ k m. ap not (none k m)) (omega arith)
+
     pub refusal-end : n ≤ i → i ≤ n → Readable ≡ firstRefusal n f
     unfolding firstRefusal
     refusal-end l h =
-        let e : i ≡ n = omega arith in
-        let p = first-end n (refuses f) i (λ k m. ap not (none k m)) e in
+        let p = refusal-none l h in
         sym (cond-false (f (first n (refuses f))) Readable (le-ltb (first n (refuses f)) n (omega arith)))
+
+-- where nothing is refused, all of them are passed
+pub refusal-passed : (n : ℕ) (f : ℕ → Answer) → isReadable (firstRefusal n f) ≡ true → first n (refuses f) ≡ n
+refusal-passed n f e = first-none n (refuses f) .1 (λ i l. ap not (all-readable n f e i l))
 
 -- ---- what follows an answer: `answer` is what the code found, `b` what its test said of it, and q what the code then gave
 

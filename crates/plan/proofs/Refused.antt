@@ -1,5 +1,5 @@
 -- What a refusal means in plain words, and which files are refused and read. Assumes nothing.
-use mathlib.Core.Path.{_≡_, refl, sym, ap, _∙_}
+use mathlib.Core.Path.{_≡_, refl, sym, ap, _∙_, subst}
 use mathlib.Core.Bool.{Bool, true, false, not, _&&_, false≢true}
 use mathlib.Core.List.{List}
 use mathlib.Core.Logic.{_⊎_, inl, inr, ⊎-elim, _↔_, _≢_}
@@ -22,6 +22,7 @@ use Rattle.plan.specs.Meaning
 use Rattle.plan.specs.Refused.{WrongLength, FirstFault, CrewMissing}
 use Rattle.plan.proofs.Refusals.{first-refused, all-readable}
 use Rattle.plan.proofs.Places.{leading-ends}
+use Rattle.plan.proofs.RecordRules.{Holds}
 use Rattle.plan.proofs.Parts.{crew-missing, crew-there, crew-or-missing, activity-typed}
 
 -- ---- the length
@@ -80,15 +81,17 @@ refused-means s c e =
     (λ t. inr (records-refused s c t (sym (answer-records s t) ∙ e)))
     (λ t. let h = sym (refused-length s t) ∙ e in inl (record { wrong = t; cause = cc h }))
 
--- a cause that is neither the length nor a record's type is the first fault of a record
-pub refused-at : (s : List ℕ) (c : Cause) → toldBy c .number ≢ 1 → toldBy c .number ≢ 2 → answerOf s ≡ Refused c
-    → (isLength (length s) ≡ true) × ((p : ℕ) × FirstFault s p (Refused c))
-refused-at s c one two e =
+-- a cause that is neither the length nor a record's type is the first fault of a record, and what holds of the cause of that record holds of it
+pub refused-holds : (P : Cause → Type 0) (s : List ℕ) (c : Cause) → toldBy c .number ≢ 1 → toldBy c .number ≢ 2 → answerOf s ≡ Refused c
+    → (isLength (length s) ≡ true → (p : ℕ) → FirstFault s p (Refused c) → Holds P (causeAt s p)) → P c
+refused-holds P s c one two e at =
     let number : Cause → ℕ = λ d. toldBy d .number in
     ⊎-elim
     (λ w. absurd (one (ap number (w .cause))))
     (⊎-elim
-    (λ w. (holds (isLength (length s)) (λ t. let h = sym (refused-length s t) ∙ e in let q : Length ≡ c = cc h in one (ap number (sym q))), w))
+    (λ w.
+    let legal = holds (isLength (length s)) (λ t. let h = sym (refused-length s t) ∙ e in let q : Length ≡ c = cc h in one (ap number (sym q))) in
+    subst (Holds P) (w .1 .fault) (at legal (w .0) (w .1)))
     (λ w. absurd (two (ap number (w .cause)))))
     (refused-means s c e)
 

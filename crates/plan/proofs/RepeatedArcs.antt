@@ -21,13 +21,13 @@ use Rattle.plan.specs.Meaning.{Readable, Names}
 use Rattle.plan.specs.Refused.{FirstFault, RepeatedPair}
 use Rattle.plan.specs.model.ArcRows.{hasArc}
 use Rattle.plan.specs.model.Phases.{putArc, arcIn}
-use Rattle.plan.proofs.RecordRules.{rule-before, rule-breaks, rule-cong, Holds, ArcKept, arc-kept, arc-among, at-arc, cause-holds}
+use Rattle.plan.proofs.RecordRules.{rule-before, rule-breaks, rule-cong, ArcKept, arc-kept, arc-among, at-arc, cause-holds}
 use Rattle.plan.proofs.Arcs.{arcs-run-whole}
 use Rattle.plan.proofs.Parts.{Faultless, crew-fine, arc-new, no-arc}
 use Rattle.plan.proofs.Repeats.{repeats-says}
 use Rattle.plan.proofs.NamedArcs.{means}
 use Rattle.plan.proofs.Said.{readable-faultless}
-use Rattle.plan.proofs.Refused.{refused-at, fault-refused}
+use Rattle.plan.proofs.Refused.{refused-holds, fault-refused}
 
 -- ---- THE ROWS SO FAR tell it: where no record of t before i has a cause, and the rows are their arcs, what is looked up among the rows is what the definition asks of the records
 
@@ -65,10 +65,8 @@ repeated-refused s p R =
 
 pub refused-repeated : (s : List ℕ) (p : ℕ) → answerOf s ≡ Refused (RepeatedArc p) → RepeatedPair s p
 refused-repeated s p e =
-    let w = refused-at s (RepeatedArc p) (λ q. omega arith) (λ q. omega arith) e in
-    let F = w .1 .1 in
-    subst (Holds Means) (F .fault)
-    (cause-holds Means s (w .1 .0) (λ q. absurd (omega arith)) (λ q. absurd (omega arith)) (λ _ _ _ q. absurd (omega arith)) (λ q. absurd (omega arith)) (at-record (w .0) (w .1 .0) F)) refl refl
+    refused-holds Means s (RepeatedArc p) (λ q. omega arith) (λ q. omega arith) e
+    (λ legal q F. cause-holds Means s q (λ x. absurd (omega arith)) (λ x. absurd (omega arith)) (λ _ _ _ x. absurd (omega arith)) (λ x. absurd (omega arith)) (at-record legal q F)) refl refl
   where
     Means : Cause → Type 0
     Means c = toldBy c .number ≡ 13 → toldBy c .place ≡ p → RepeatedPair s p

@@ -1,6 +1,6 @@
 // Arc records, types 3 and 4.
 ghost use mathlib.Core.Path.{_≡_};
-ghost use mathlib.Core.Bool.{true, not, cond};
+ghost use mathlib.Core.Bool.{not, cond};
 ghost use Prim.Native.Nat.{_+_, _*_, _≤_};
 ghost use lib.ListN.{length, replicate};
 ghost use Rattle.words.specs.model.Loops.{upto};
@@ -9,7 +9,7 @@ ghost use Rattle.plan.specs.declared.Cause.the-variants.{RepeatedArc};
 ghost use Rattle.plan.specs.Records.{isEnd, arcFields};
 ghost use Rattle.plan.specs.model.ArcRows.{ArcRecord, withArc, hasArc, arcsAfter};
 ghost use Rattle.plan.specs.Causes.{rule, arcCause, isReadable};
-ghost use Rattle.plan.specs.model.Phases.{putArc, arcsCause};
+ghost use Rattle.plan.specs.model.Phases.{putArc, arcsCause, arcsFine};
 use crate::Answer;
 use crate::Cause;
 use crate::checks::is_readable;
@@ -94,7 +94,7 @@ fn read_arc(m: usize, r: &[u8], of: u8, place: usize, rows: &mut Rows) -> Answer
 pub fn read_arcs(m: usize, t: &[u8], of: u8, n: usize, place: usize, rows: &mut Rows) -> Answer
     requires { ⌜ (24 * n ≤ length (now t)) × (place + n ≤ 2048) × (m ≤ elements) × (now rows ≡ replicate (cells elements) 0) ⌝ }
     ensures { λ a. ⌜ a ≡ arcsCause of place m (now (t .entry)) n ⌝ }
-    ensures { λ a. ⌜ (isReadable a ≡ true → now (rows .exit) ≡ upto (putArc of (now (t .entry))) n (now (rows .entry))) ⌝ }
+    ensures { λ _. ⌜ now (rows .exit) ≡ upto (putArc of (now (t .entry))) (arcsFine of place m (now (t .entry)) n) (now (rows .entry)) ⌝ }
 {
     let mut i: usize = 0;
     while i < n {

@@ -5,6 +5,7 @@ use mathlib.Core.List.{List}
 use Prim.Native.Nat.{ℕ, zero, suc, _+_, _-_, _*_}
 use lib.ListN.{set, drop, replicate}
 use Rattle.words.specs.model.Loops.{upto}
+use Rattle.words.specs.Members.{first}
 use Rattle.words.specs.Tables.{table}
 use Rattle.records.specs.Bytes.{byte}
 use Rattle.order.specs.Stored.{elements, cells}
@@ -15,7 +16,7 @@ use Rattle.plan.specs.declared.Reading.{Reading}
 use Rattle.plan.specs.Records.{recordAt, leading, arcRepeats, durationIn, demandIn, availableIn}
 use Rattle.plan.specs.model.ArcRows.{arcsAfter}
 use Rattle.plan.specs.model.Plans.{emptyPlan}
-use Rattle.plan.specs.Causes.{rule, activityCause, crewCause, arcCause, firstRefusal}
+use Rattle.plan.specs.Causes.{rule, isReadable, activityCause, crewCause, arcCause, firstRefusal}
 
 abbrev pub putDuration : List ℕ → ℕ → List ℕ → List ℕ
 putDuration s i durations = set durations i (durationIn (recordAt s i))
@@ -38,6 +39,10 @@ arcIn type place m t i = rule (arcCause type (place + i) m (recordAt t i)) (not 
 -- the first cause among its first n records
 abbrev pub arcsCause : ℕ → ℕ → ℕ → List ℕ → ℕ → Answer
 arcsCause type place m t n = firstRefusal n (arcIn type place m t)
+
+-- and how many of them stand before the first that has one
+abbrev pub arcsFine : ℕ → ℕ → ℕ → List ℕ → ℕ → ℕ
+arcsFine type place m t n = first n (λ i. not (isReadable (arcIn type place m t i)))
 
 -- ---- the phases
 

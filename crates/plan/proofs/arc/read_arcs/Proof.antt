@@ -1,16 +1,16 @@
 -- `plan::arc::read_arcs` meets its contract: no record before the place of the loop is refused, and their arcs are stored, so that they tell which arc is repeated. Assumes nothing.
-use mathlib.Core.Path.{_≡_, _∙_}
+use mathlib.Core.Path.{_≡_, ap, _∙_}
 use mathlib.Core.Bool.{true}
 use Prim.Native.Nat.{ℕ, _-_, _≤_, _<_}
 use native.Mathlib.Omega.{arith}
 use borrow.Author.Needs.{needs}
 use Rattle.words.specs.model.Loops.{upto}
 use Rattle.words.proofs.Loops.{up-none, up-again, up-end}
-use Rattle.words.proofs.Tests.{clash, cond-true}
+use Rattle.words.proofs.Tests.{cond-true, cond-false}
 use Rattle.plan.specs.Causes.{isReadable}
 use Rattle.plan.specs.model.Phases.{putArc, arcIn}
 use Rattle.records.proofs.Steps.{rest-of}
-use Rattle.plan.proofs.ReaderLoops.{told, told-not, record-left, refusal-stop, refusal-again, refusal-end}
+use Rattle.plan.proofs.ReaderLoops.{told, told-not, record-left, refusal-here, refusal-stop, refusal-again, refusal-none, refusal-end}
 use Rattle.plan.proofs.RepeatedArcs.{looked-up}
 use Rattle.plan.proofs.arc.read_arcs.Statement.{statement}
 use Rattle.plan.proofs.arc.read_arcs.Tie as tie
@@ -39,9 +39,15 @@ returns c =
     let a = start .args in
     let i = b .loop .i in
     let inv = b .loop .inv in
-    let found = rw rest-of at (c .before .before .read-arc .ensures .0) ∙ looked-up (a .of) (a .place) (a .m) (a .t .now) i (start .pre .2) (start .pre .3) (inv .0 .0) (inv .1) in (
-      refusal-stop (a .n) (arcIn (a .of) (a .place) (a .m) (a .t .now)) i (inv .1) found (c .before .is-readable .ensures) (omega arith) (c .if1 .taken),
-      λ e. clash e (told-not (c .before .is-readable .ensures) (c .if1 .taken)),
+    let read = c .before .before .read-arc .ensures in
+    let test = c .before .is-readable .ensures in
+    let f = arcIn (a .of) (a .place) (a .m) (a .t .now) in
+    let found = rw rest-of at (read .0) ∙ looked-up (a .of) (a .place) (a .m) (a .t .now) i (start .pre .2) (start .pre .3) (inv .0 .0) (inv .1) in (
+      refusal-stop (a .n) f i (inv .1) found test (omega arith) (c .if1 .taken),
+      read .1
+          ∙ cond-false _ _ (told-not test (c .if1 .taken))
+          ∙ inv .0 .0
+          ∙ ap (λ (k : ℕ). upto (putArc (a .of) (a .t .now)) k (a .rows .now)) (refusal-here (a .n) f i (inv .1) found test (omega arith) (c .if1 .taken)),
     )
 
 loop-again : tie.Need-loop-again Inv-loop μ-loop
@@ -61,9 +67,11 @@ loop-again c =
 returns-2 : tie.Need-returns-2 Inv-loop μ-loop
 returns-2 c =
     let b = c .before in
-    let a = b .before .before .args in (
-      refusal-end (a .n) (arcIn (a .of) (a .place) (a .m) (a .t .now)) (b .loop .i) (b .loop .inv .1) (omega arith) (omega arith),
-      λ e. up-end (putArc (a .of) (a .t .now)) (a .n) (b .loop .i) (a .rows .now) (omega arith) (b .loop .inv .0),
+    let a = b .before .before .args in
+    let f = arcIn (a .of) (a .place) (a .m) (a .t .now) in (
+      refusal-end (a .n) f (b .loop .i) (b .loop .inv .1) (omega arith) (omega arith),
+      up-end (putArc (a .of) (a .t .now)) (a .n) (b .loop .i) (a .rows .now) (omega arith) (b .loop .inv .0)
+          ∙ ap (λ (k : ℕ). upto (putArc (a .of) (a .t .now)) k (a .rows .now)) (refusal-none (a .n) f (b .loop .i) (b .loop .inv .1) (omega arith) (omega arith)),
     )
 
 pub read-arcs-spec : {M : Type 1} → statement M

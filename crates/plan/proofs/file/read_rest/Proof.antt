@@ -6,7 +6,7 @@ use borrow.Author.Needs.{needs}
 use Rattle.order.specs.Stored.{cells}
 use Rattle.plan.specs.model.Phases.{restOf}
 use Rattle.records.proofs.Steps.{rest-of}
-use Rattle.plan.proofs.ReaderLoops.{told, then-on, then-refused}
+use Rattle.plan.proofs.ReaderLoops.{refusal-passed, accepted, then-on, then-refused}
 use Rattle.plan.proofs.file.read_rest.Statement.{statement}
 use Rattle.plan.proofs.file.read_rest.Tie as tie
 
@@ -59,8 +59,10 @@ returns-5 c =
     let crew = count .before .before .before .before in
     let a = crew .before .before .before .before .args in
     let e : a .n ≡ suc (a .n - 1) = omega arith in
-    let job = jobs .read-arcs .ensures .1 (told (extras .before .before .before .before .is-readable2 .ensures) (extras .before .before .before .if3 .left)) in
-    let extra = extras .read-arcs2 .ensures .1 (told (last .before .is-readable3 .ensures) (last .if4 .left)) in
+    let no-job = refusal-passed _ _ (accepted (jobs .read-arcs .ensures .0) (extras .before .before .before .before .is-readable2 .ensures) (extras .before .before .before .if3 .left)) in
+    let no-extra = refusal-passed _ _ (accepted (extras .read-arcs2 .ensures .0) (last .before .is-readable3 .ensures) (last .if4 .left)) in
+    let job = rw no-job at (jobs .read-arcs .ensures .1) in
+    let extra = rw no-extra at (extras .read-arcs2 .ensures .1) in
     rw e
     (then-on (crew .crew-cause .ensures) (count .before .before .before .is-readable .ensures) (count .before .before .if2 .left)
     (then-on (simp (rest-of, count .leading-records .ensures .0) at (jobs .read-arcs .ensures .0)) (extras .before .before .before .before .is-readable2 .ensures) (extras .before .before .before .if3 .left)
