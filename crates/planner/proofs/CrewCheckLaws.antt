@@ -1,9 +1,9 @@
--- Crew check: its cause 10, in the file's own terms too (`works-listed`), and what it answers. Assumes nothing.
+-- Crew check: its cause 10 and what is occupied, in the file's own terms too (`works-listed`, `crew-occupied`), and what it answers. Assumes nothing.
 use mathlib.Core.Path.{_≡_, refl, sym, ap, _∙_}
 use mathlib.Core.Bool.{Bool, true, false, not, _||_}
 use mathlib.Core.List.{List}
 use mathlib.Core.Logic.{_↔_, _≢_}
-use Prim.Native.Nat.{ℕ, _≤_, _<_}
+use Prim.Native.Nat.{ℕ, _+_, _*_, _≤_, _<_}
 use native.Mathlib.Omega.{arith}
 use lib.Dec.{eqb, ltb}
 use lib.ListN.{length, getD}
@@ -11,16 +11,21 @@ use borrow.Author.Tests.{eq-eqb, ne-eqb, eqb-true, eqb-false, le-ltb, ltb-false}
 use Rattle.words.specs.Members.{some}
 use Rattle.words.proofs.Firsts.{some-here, some-none}
 use Rattle.words.proofs.Tests.{by-test, fails, clash, cond-true, cond-false}
+use Rattle.order.specs.Stored.{elements}
 use Rattle.plan.specs.Records.{activityCount}
-use Rattle.plan.specs.Meaning.{Readable, fileDuration}
+use Rattle.plan.specs.Meaning.{Readable, fileDuration, fileDemand}
+use Rattle.flow_math.specs.Need.{weight}
+use Rattle.flow_math.specs.Crew.{active}
+use Rattle.flow_math.proofs.Need.{weight-same}
+use Rattle.flow_math.proofs.Crew.{occupied-weight}
 use Rattle.schedule.specs.Lists.{at}
-use Rattle.schedule.specs.Checks.{checkOf}
+use Rattle.schedule.specs.Checks.{checkOf, occupied}
 use Rattle.schedule.specs.model.Arrays.{crewNet, workOf, Listed}
 use Rattle.schedule.specs.declared.Checked.{Checked}
 use Rattle.planner.specs.Faults.{isFine, orCause}
 use Rattle.planner.specs.Open.{planIn, faultOf, Opens}
-use Rattle.planner.specs.CrewCheck.{misworked, someMisworked, badLists, crewCheckFault, crewFound, checkedOf, crewCheckAnswer}
-use Rattle.planner.specs.Times.{Workable}
+use Rattle.planner.specs.CrewCheck.{misworked, someMisworked, badLists, crewCheckFault, crewWork, crewFound, checkedOf, crewCheckAnswer}
+use Rattle.planner.specs.Times.{Workable, crewOccupies}
 use Rattle.planner.specs.model.Opening.{openedOf}
 use Rattle.planner.specs.declared.Cause.the-variants.{Lists}
 use Rattle.planner.specs.declared.Fault.{Fault}
@@ -95,6 +100,17 @@ works-listed s worked r all =
           fits-work (getD (planIn s .duration) i 0) (getD worked i 0) .1
           ((λ z. W .milestones i h (sym (file i h) ∙ z)), (λ n. W .others i h (λ z. n (file i h ∙ z)))))),
     )
+
+-- WHAT THE CREW OCCUPIES, by the plan's demands, is what it occupies by the file's
+pub crew-occupied : (s starts worked : List ℕ) → Readable s → length starts ≡ activityCount s → (t k : ℕ) → k < 8
+    → occupied (crewWork s starts worked) t k ≡ crewOccupies s k (at starts) (at worked) t
+crew-occupied s starts worked r all t k h =
+    let d : ℕ → ℕ = λ i. at (planIn s .demand) (elements * k + i) in
+    let S : ℕ → Bool = active (at starts) (at worked) t in
+    occupied-weight (length starts) d (at starts) (at worked) t
+    ∙ weight-same (length starts) d (fileDemand s k) S (λ i l. said-in s r .demand k i h (omega (arith, said-in s r .count)))
+    ∙ ap (λ (n : ℕ). weight n (fileDemand s k) S) all
+    ∙ sym (occupied-weight (activityCount s) (fileDemand s k) (at starts) (at worked) t)
 
 -- the crew check goes on: the plan opens, and the lists are right
 pub crew-fine : (s starts worked : List ℕ) → isFine (crewCheckFault s starts worked) ≡ true

@@ -1,20 +1,16 @@
 -- What Crew check answers, in the file's own terms, in both directions. Assumes nothing.
 use mathlib.Core.Path.{_≡_, sym, ap, _∙_}
-use mathlib.Core.Bool.{Bool, false}
+use mathlib.Core.Bool.{false}
 use mathlib.Core.List.{List, [], _∷_}
 use mathlib.Core.Logic.{_↔_, Iff·rfl, Iff·trans, Iff·and, by-cases}
-use Prim.Native.Nat.{ℕ, zero, suc, _+_, _*_, _≤_, _<_}
+use Prim.Native.Nat.{ℕ, zero, suc, _+_, _≤_, _<_}
 use native.Mathlib.Omega.{arith}
 use native.Mathlib.Decide.{decLt}
 use lib.ListN.{length}
 use Rattle.words.proofs.Tests.{holds}
-use Rattle.order.specs.Stored.{elements}
-use Rattle.plan.specs.Meaning.{Readable, fileKinds, fileDemand, fileAvailable}
+use Rattle.plan.specs.Meaning.{Readable, fileKinds, fileAvailable}
 use Rattle.plan.specs.Records.{activityCount}
-use Rattle.flow_math.specs.Need.{weight}
-use Rattle.flow_math.specs.Crew.{active}
-use Rattle.flow_math.proofs.Need.{weight-same}
-use Rattle.flow_math.proofs.Crew.{occupied-weight, none-occupied as none-at-first}
+use Rattle.flow_math.proofs.Crew.{none-occupied as none-at-first}
 use Rattle.schedule.specs.Checks.{Work, occupied, Enough, FirstOver}
 use Rattle.schedule.specs.Lists.{at}
 use Rattle.schedule.specs.declared.Checked.{Checked}
@@ -22,8 +18,8 @@ use Rattle.schedule.specs.declared.Checked.the-variants.{Fits, Broken, Overload
 use Rattle.planner.specs.Open.{planIn, Opens}
 use Rattle.planner.specs.CrewCheck.{badLists, crewWork, crewFound, crewCheckAnswer}
 use Rattle.planner.specs.Times.{crewOccupies}
-use Rattle.planner.proofs.OpenLaws.{said-in, opens-readable}
-use Rattle.planner.proofs.CrewCheckLaws.{bad-work, lists-fine, works-listed}
+use Rattle.planner.proofs.OpenLaws.{opens-readable}
+use Rattle.planner.proofs.CrewCheckLaws.{bad-work, lists-fine, works-listed, crew-occupied}
 use Rattle.planner.proofs.QuotedNeeds.{count-in, kinds-in, kinds-few, available-in}
 use Rattle.planner.specs.declared.CrewChecked.the-variants.{Found}
 use Rattle.planner.specs.Answers.{foundNumbers, crewCheckNumbers}
@@ -80,13 +76,7 @@ module _ (s : List ℕ) (o : Opens s) (starts worked : List ℕ) where
     -- ---- more is occupied than there is: by the plan's demands, which are the file's
 
     occupied-in : (t k : ℕ) → k < 8 → occupied (crewWork s starts worked) t k ≡ crewOccupies s k (at starts) (at worked) t
-    occupied-in t k h =
-        let d : ℕ → ℕ = λ i. at (planIn s .demand) (elements * k + i) in
-        let S : ℕ → Bool = active (at starts) (at worked) t in
-        occupied-weight (length starts) d (at starts) (at worked) t
-        ∙ weight-same (length starts) d (fileDemand s k) S (λ i l. said-in s readable .demand k i h (omega (arith, l, starts-count)))
-        ∙ ap (λ (n : ℕ). weight n (fileDemand s k) S) (R .starts-all)
-        ∙ sym (occupied-weight (activityCount s) (fileDemand s k) (at starts) (at worked) t)
+    occupied-in = crew-occupied s starts worked readable (R .starts-all)
 
     kind-in : {k : ℕ} → k < fileKinds s → k < 8
     kind-in h = omega (arith, h, kinds-in s readable, kinds-few s)
