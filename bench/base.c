@@ -13,12 +13,13 @@ void yaffledesk_bench_orders(const uint64_t job[64], const uint64_t extra[64], u
 void yaffledesk_bench_earliest(const uint64_t arcs[64], const uint32_t duration[64], uint32_t starts[64]);
 uint64_t yaffledesk_bench_crew_check(const uint64_t arcs[64], const uint32_t demand[512], const uint32_t available[8], const uint32_t *starts, size_t m, const uint32_t *worked, size_t n);
 
-enum { RECORDS = 2048, ROUNDS = 401, BATCH = 20, MOST = 2 };
+enum { RECORDS = 2048, ROUNDS = 401, BATCH = 20 };
 
 // Aligned: by where these happen to lie, the proved reader takes 21 or 31 us.
 static _Alignas(4096) uint8_t file[24 * RECORDS];
 static _Alignas(4096) plain_plan plain, proved;
 static uint32_t starts[64], plain_starts[64], crew[64];
+static uint32_t crowd[64], shift[64]; // a crew without arcs: one more starts in each period, and each is at work for 64
 static uint64_t jobs[64], both[64], plain_jobs[64], plain_both[64], joined[64], complete[64];
 static const uint64_t none[64];
 static uint64_t alone[64]; // extra arcs without job arcs
@@ -73,6 +74,8 @@ static void earliest_ours(void) { yaffledesk_bench_earliest(complete, proved.dur
 static void earliest_plain(void) { plain_earliest(complete, plain.duration, plain_starts); }
 static void check_ours(void) { sink += yaffledesk_bench_crew_check(joined, proved.demand, plain.available, crew, 64, proved.duration, 64); }
 static void check_plain(void) { sink += plain_crew_check(joined, plain.demand, plain.available, crew, plain.duration, 64).found; }
+static void crowd_ours(void) { sink += yaffledesk_bench_crew_check(none, proved.demand, plain.available, crowd, 64, shift, 64); }
+static void crowd_plain(void) { sink += plain_crew_check(none, plain.demand, plain.available, crowd, shift, 64).found; }
 
 static int compare(const void *a, const void *b) {
     double x = *(const double *)a, y = *(const double *)b;
@@ -128,22 +131,27 @@ int main(void) {
     same("plan order", both, plain_both, sizeof both);
     same("starts", starts, plain_starts, sizeof starts);
     plain_earliest(joined, plain.duration, crew); // the file's own earliest starts, which fit: the check looks at everything
+    for (int i = 0; i < 64; i++) crowd[i] = scrambled(i), shift[i] = 64;
     uint64_t found = plain_crew_check(joined, plain.demand, plain.available, crew, plain.duration, 64).found;
     if (found != 0 || yaffledesk_bench_crew_check(joined, proved.demand, plain.available, crew, 64, proved.duration, 64) != 0) printf("MISMATCH: crew check\n"), exit(1);
+    found = plain_crew_check(none, plain.demand, plain.available, crowd, shift, 64).found;
+    if (found != 0 || yaffledesk_bench_crew_check(none, proved.demand, plain.available, crowd, 64, shift, 64) != 0) printf("MISMATCH: crew check of a crowd\n"), exit(1);
 
     struct {
         const char *what;
         void (*ours)(void), (*plain)(void);
+        int most; // times plain C
         int (*place)(int);
     } rows[] = {
-        {"read 2,048 records", read_ours, read_plain, 0},
-        {"both orders, 1,983 arcs", orders_ours, orders_plain, 0},
-        {"open: read and both orders", open_ours, open_plain, 0},
-        {"earliest starts, 2,016 arcs", earliest_ours, earliest_plain, 0},
-        {"crew check, 64 x 8", check_ours, check_plain, 0},
-        {"both orders, 2,016 extra arcs, numbered along", alone_ours, alone_plain, along},
-        {"the same, scrambled", alone_ours, alone_plain, scrambled},
-        {"the same, against", alone_ours, alone_plain, against},
+        {"read 2,048 records", read_ours, read_plain, 2, 0},
+        {"both orders, 1,983 arcs", orders_ours, orders_plain, 2, 0},
+        {"open: read and both orders", open_ours, open_plain, 2, 0},
+        {"earliest starts, 2,016 arcs", earliest_ours, earliest_plain, 2, 0},
+        {"crew check, 64 x 8", check_ours, check_plain, 1, 0},
+        {"the same without arcs, half of them at work", crowd_ours, crowd_plain, 1, 0},
+        {"both orders, 2,016 extra arcs, numbered along", alone_ours, alone_plain, 2, along},
+        {"the same, scrambled", alone_ours, alone_plain, 2, scrambled},
+        {"the same, against", alone_ours, alone_plain, 2, against},
     };
     int missed = 0;
     printf("| what | proved, us | plain C, us | ratio |\n|---|--:|--:|--:|\n");
@@ -152,8 +160,8 @@ int main(void) {
         if (rows[i].place != 0) number(rows[i].place);
         measure(rows[i].ours, rows[i].plain, &mine, &its);
         printf("| %s | %.2f | %.2f | %.2f |\n", rows[i].what, mine, its, mine / its);
-        missed += mine / its > MOST || (i == 2 && mine > 60);
+        missed += mine / its > rows[i].most || (i == 2 && mine > 60);
     }
-    printf("wanted: at most %d times plain C each, and opening under 60 us: %s\n", MOST, missed ? "not met" : "met");
+    printf("wanted: at most 2 times plain C each, the crew checks at most 1 time, and opening under 60 us: %s\n", missed ? "not met" : "met");
     return missed != 0;
 }

@@ -95,13 +95,14 @@ void plain_earliest(const uint64_t arcs[64], const uint32_t duration[64], uint32
     }
 }
 
+// The load of period t in the order of the paper: who is started by t - 1, and then finished no sooner than t, adds its demands, kind by kind.
 static size_t exceeded(const uint32_t demand[512], const uint32_t available[8], const uint32_t *starts, const uint32_t *worked, size_t m, uint64_t t) {
-    for (size_t k = 0; k < 8; k++) {
-        uint64_t used = 0;
-        for (size_t i = 0; i < m; i++)
-            if (starts[i] < t && t <= (uint64_t)starts[i] + worked[i]) used += demand[64 * k + i];
-        if (used > available[k]) return k;
-    }
+    uint64_t load[8] = {0};
+    for (size_t i = 0; i < m; i++)
+        if (starts[i] <= t - 1 && (uint64_t)starts[i] + worked[i] >= t)
+            for (size_t k = 0; k < 8; k++) load[k] += demand[64 * k + i];
+    for (size_t k = 0; k < 8; k++)
+        if (load[k] > available[k]) return k;
     return 8;
 }
 

@@ -5,6 +5,7 @@
 -- file's own terms), FileFlows (flows) and OverloadShown (overload).
 -- CHANGE 1 of document 02, Sheet, is SheetHolds; it rests on SheetAnswers (what Sheet answers and leaves) and SheetPrinted (what is on the page).
 -- CHANGE 2, Milestones, is MilestonesHold; it rests on plan's laws of 12 and on demand 2. CHANGE 3, No arc twice, is RepeatedArcsHold; it rests on plan's laws of 13.
+-- CHANGE 4, Period load in the paper's order, is `loads` of PaperHolds; it rests on PeriodLoads.
 -- EqualFlowsHold: plans that say the same get equal flows and sheets. CasesHold: the starred cases, of the plans that CasePlans opens. HollowFail: the hollow planners keep no price list.
 -- What the other answers mean, in the file's own terms: CircleFaults (the opening's causes), CrewCheckMeaning (the crew check), AnswersWhen (which case has which answer).
 pub mod FileNeeds
@@ -19,6 +20,7 @@ pub mod EveryInputHolds
 pub mod EarliestStarts
 pub mod CrewCheckAnswers
 pub mod CircleCauses
+pub mod PeriodLoads
 pub mod PaperHolds
 pub mod RefusalsHold
 pub mod DemandsHold

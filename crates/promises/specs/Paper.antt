@@ -1,19 +1,23 @@
 -- DEMAND 2 of document 00, about a planner P: "Order, flows, earliest starts and the crew check are those of the paper on resource flows that 01 condenses.", in
 -- the file's own terms, for every readable plan (`PaperSentence P`). Ours meets it: `paper` of proofs/PaperHolds.antt. What is at work and what is occupied in a
--- period is here what it is in demand 3: `crewOccupies` of Times. Quotations are from document 01. Assumes nothing.
+-- period is here what it is in demand 3: `crewOccupies` of Times. By which steps it is added up is `LoadSentence L` (02, change 4); ours meets it: `loads`, beside `paper`.
+-- Quotations are from document 01, where no other is named. Assumes nothing.
 use mathlib.Core.Path.{_≡_}
+use mathlib.Core.Bool.{Bool, true, cond, _&&_}
 use mathlib.Core.List.{List, [], _∷_}
 use mathlib.Core.Logic.{_⊎_, _↔_}
-use Prim.Native.Nat.{ℕ, _+_, _≤_, _<_}
+use Prim.Native.Nat.{ℕ, _+_, _-_, _^_, _≤_, _<_}
 use lib.ListN.{length, getD, drop}
+use Rattle.words.specs.Sums.{sum}
 use Rattle.order.specs.Before.{Before, Acyclic}
 use Rattle.records.specs.Bytes.{AreBytes}
-use Rattle.plan.specs.Meaning.{Readable, JobArc, FileArc, fileKinds, fileAvailable, fileDuration}
+use Rattle.plan.specs.Meaning.{Readable, JobArc, FileArc, fileKinds, fileDemand, fileAvailable, fileDuration}
 use Rattle.plan.specs.Records.{activityCount}
 use Rattle.schedule.specs.Lists.{LargestOr0, FinishOf, at}
 use Rattle.schedule.specs.declared.Checked.the-variants.{Fits, Broken, Overload}
 use Rattle.kinds.specs.Reading.{unitsRead}
 use Rattle.flow_math.specs.Breaks.{FirstBroken}
+use Rattle.flow_math.specs.Crew.{active}
 use Rattle.planner.specs.File.{FileFlow}
 use Rattle.planner.specs.Times.{arcWeight, KeepsArcs, Workable, crewOccupies}
 use Rattle.planner.specs.declared.Output.the-variants.{Written}
@@ -115,6 +119,39 @@ pub record CrewCheck (P : Planner) (s starts worked : List ℕ) : Type 0 where
   -- "If none, find the first period, then lowest kind, whose occupied sum exceeds the availability."
   pub overload : RightLists s starts worked → (t k : ℕ)
       → (P .crew-check s starts worked ≡ Found (Overload t (k + 1))) ↔ (KeepsArcs s (at starts) (at worked) × FirstOverload s starts worked t k)
+
+-- ---- the load of a period: "its steps shall follow the text of section 1 of source document 000: started by t−1, then finished no sooner than t, then added kind by kind"
+-- (02, change 4)
+
+-- THE STEPS of a planner: a test of a start and a time; one of a start, a worked duration and a period; and the load that is so added, by a plan, starts, worked durations and
+-- a period, a number for each kind. No operation answers them, so they are no part of a Planner. Ours are `ourSteps` of Ours.
+pub record LoadSteps : Type 0 where
+  pub started-by : ℕ → ℕ → Bool
+  pub finished-no-sooner : ℕ → ℕ → ℕ → Bool
+  pub load : List ℕ → List ℕ → List ℕ → ℕ → List ℕ
+
+-- activity i + 1 passes both tests in period t, the one by t − 1 and then the one by t
+abbrev pub passes : LoadSteps → List ℕ → List ℕ → ℕ → ℕ → Bool
+passes L starts worked t i = L .started-by (at starts i) (t - 1) && L .finished-no-sooner (at starts i) (at worked i) t
+
+pub record PeriodLoad (L : LoadSteps) (s starts worked : List ℕ) (t : ℕ) : Type 0 where
+  -- "A(s, t) = {i ∈ N : s_i ≤ (t − 1)
+  pub started : (i : ℕ) → i < activityCount s → (L .started-by (at starts i) (t - 1) ≡ true) ↔ (at starts i ≤ t - 1)
+  -- ∧ s_i + d_i ≥ t}, the activities that are active during period t" (000, section 1)
+  pub finished : (i : ℕ) → i < activityCount s → (L .finished-no-sooner (at starts i) (at worked i) t ≡ true) ↔ (t ≤ at starts i + at worked i)
+  -- "an activity passes both tests exactly when it is at work,
+  pub at-work : (i : ℕ) → i < activityCount s → passes L starts worked t i ≡ active (at starts) (at worked) t i
+  -- and the load so added
+  pub added : (k : ℕ) → k < fileKinds s → at (L .load s starts worked t) k ≡ sum (activityCount s) (λ i. cond (passes L starts worked t i) (fileDemand s k i) 0)
+  -- is the paper's sum for every period and kind": what is occupied, by which the crew check answers (`IsOver`) and of which demand 3 speaks
+  pub paper-sum : (k : ℕ) → k < fileKinds s → at (L .load s starts worked t) k ≡ crewOccupies s k (at starts) (at worked) t
+  -- "Sums never wrap.": neither the load, nor start plus duration, which are 32-bit, in the 64 bits of the code
+  pub load-fits : (k : ℕ) → k < fileKinds s → at (L .load s starts worked t) k < 2 ^ 64
+  pub finish-fits : (i : ℕ) → at starts i < 2 ^ 32 → at worked i < 2 ^ 32 → at starts i + at worked i < 2 ^ 64
+
+-- "for all starts and durations the crew check takes", in every period t = 1, 2, ..
+abbrev pub LoadSentence : LoadSteps → Type 0
+LoadSentence L = (s : List ℕ) → AreBytes s → Readable s → (starts worked : List ℕ) → RightLists s starts worked → (t : ℕ) → 1 ≤ t → PeriodLoad L s starts worked t
 
 -- ---- the sentence
 

@@ -1,20 +1,22 @@
 -- Only for the proofs of the code: the first period is found among those that follow a start. Assumes nothing.
-use mathlib.Core.Path.{_≡_, refl, sym, ap, ap₂, subst}
-use mathlib.Core.Bool.{Bool, true, false, cond, _&&_}
+use mathlib.Core.Path.{_≡_, refl, sym, ap, _∙_, subst}
+use mathlib.Core.Bool.{true, false, cond}
 use mathlib.Core.Logic.{_⊎_, inl, inr, ⊎-elim, by-cases}
 use mathlib.Core.List.{List, []}
 use Prim.Native.Nat.{ℕ, suc, _+_, _≤_, _<_}
 use native.Mathlib.Nat.{not-suc-le-zero}
 use native.Mathlib.Decide.{decLt}
 use native.Mathlib.Omega.{arith}
-use lib.Dec.{ltb, leb, eqb}
-use borrow.Author.Tests.{ltb-true, ltb-false, eqb-true, eqb-false, lt-ltb, le-ltb, le-leb, lt-leb}
+use lib.Dec.{ltb, eqb}
+use borrow.Author.Tests.{ltb-true, ltb-false, eqb-true, eqb-false}
 use borrow.Author.Count.{below-more}
 use Rattle.words.proofs.Tests.{clash, cond-has}
-use Rattle.schedule.specs.Checks.{Work, occupied, exceeds, overloaded, firstPeriod}
+use Rattle.schedule.specs.Checks.{Work, exceeds, overloaded, firstPeriod}
+use Rattle.schedule.specs.PeriodLoad.{loadOf}
 use Rattle.schedule.specs.model.Arrays.{workOf}
 use Rattle.schedule.specs.Lists.{at}
 use Rattle.schedule.specs.model.Levels.{Best, soonerOf}
+use Rattle.schedule.proofs.PeriodLoads.{load-kind}
 use Rattle.schedule.proofs.Periods.{period-follows, period-none, period-over, period-first}
 
 -- ---- the sooner of two periods
@@ -85,19 +87,8 @@ module _ (c : Work) where
       go (no n) (yes l) q = clash (B .real l) (period-none c (omega arith) best)
       go (no n) (no m) q = omega arith
 
--- ---- the code's tests
+-- ---- the code's test
 
--- the share of one who is at work, who has not started, and who has finished
-pub share-in : (s d t x : ℕ) → s < t → t ≤ s + d → cond (ltb s t && leb t (s + d)) x 0 ≡ x
-share-in s d t x p q = ap₂ (λ (a b : Bool). cond (a && b) x 0) (lt-ltb s t p) (le-leb t (s + d) q)
-
-pub share-early : (s d t x : ℕ) → t ≤ s → cond (ltb s t && leb t (s + d)) x 0 ≡ 0
-share-early s d t x p = ap (λ (a : Bool). cond (a && leb t (s + d)) x 0) (le-ltb s t p)
-
-pub share-late : (s d t x : ℕ) → s < t → s + d < t → cond (ltb s t && leb t (s + d)) x 0 ≡ 0
-share-late s d t x p q = ap₂ (λ (a b : Bool). cond (a && b) x 0) (lt-ltb s t p) (lt-leb t (s + d) q)
-
--- what is occupied does not go by what there is, so the code's test of one kind has it without
-pub exceeds-by :
-    (d a s w : List ℕ) (t k : ℕ) {x : ℕ} → x ≡ occupied (workOf d [] s w) t k → exceeds (workOf d a s w) t k ≡ ltb (at a k) x
-exceeds-by d a s w t k e = ap (λ (x : ℕ). ltb (at a k) x) (sym e)
+-- what is occupied does not go by what there is, so the code has the load without
+pub exceeds-by : (d a s w : List ℕ) (t k : ℕ) {l : List ℕ} → 1 ≤ t → k < 8 → l ≡ loadOf (workOf d [] s w) t → exceeds (workOf d a s w) t k ≡ ltb (at a k) (at l k)
+exceeds-by d a s w t k one h e = ap (λ (x : ℕ). ltb (at a k) x) (sym (ap (λ (l : List ℕ). at l k) e ∙ load-kind (workOf d [] s w) t k one h))

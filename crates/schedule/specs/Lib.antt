@@ -5,4 +5,5 @@ pub mod Lists
 pub mod Network
 pub mod Starts
 pub mod Checks
+pub mod PeriodLoad
 pub mod model

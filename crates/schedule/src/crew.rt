@@ -1,17 +1,17 @@
 // The crew check: the first broken arc, or else the first period with the lowest kind of which more is occupied than there is.
 ghost use mathlib.Core.Path.{_≡_};
-ghost use mathlib.Core.Bool.{cond, _&&_};
-ghost use mathlib.Core.List.{[]};
-ghost use Prim.Native.Nat.{_+_, _^_, _<_};
-ghost use lib.Dec.{ltb, leb};
+ghost use mathlib.Core.Bool.{_&&_};
+ghost use Prim.Native.Nat.{_≤_, _<_};
+ghost use lib.Dec.{ltb};
 ghost use lib.ListN.{length};
 ghost use Rattle.words.specs.Bits.{bit};
-ghost use Rattle.schedule.specs.Checks.{occupied, brokenTo, brokenFrom, lowestKind, firstPeriod, checkOf};
+ghost use Rattle.schedule.specs.Checks.{brokenTo, brokenFrom, lowestKind, firstPeriod, checkOf};
 ghost use Rattle.schedule.specs.model.Arrays.{crewNet, workOf, Listed};
 ghost use Rattle.schedule.specs.Lists.{at};
 ghost use Rattle.schedule.specs.model.Levels.{soonerOf};
 ghost use Rattle.order.specs.Stored.{elements, numberOf};
 use crate::Checked;
+use crate::load::period_load;
 use order::ELEMENTS;
 use order::Rows;
 use order::Set;
@@ -59,39 +59,6 @@ fn broken_from(rows: &Rows, starts: &[u32], worked: &[u32]) -> usize
     m
 }
 
-// What an activity occupies in period t: its demand while it is at work.
-fn share(start: u32, worked: u32, t: u64, demand: u32) -> u64
-    ensures { λ r. ⌜ (r ≡ cond (ltb start t && leb t (start + worked)) demand 0) × (r < 2 ^ 32) ⌝ }
-{
-    let s = words::wide(start);
-    let d = words::wide(worked);
-    if s < t {
-        if t <= s + d { words::wide(demand) } else { 0 }
-    } else {
-        0
-    }
-}
-
-// What is occupied of kind k in period t; what is available plays no part in it.
-fn occupied_at(
-    demands: &[u32; 8 * ELEMENTS],
-    starts: &[u32],
-    worked: &[u32],
-    t: u64,
-    k: usize,
-) -> u64
-    requires { ⌜ Listed (now starts) (now worked) ⌝ }
-    requires { ⌜ k < 8 ⌝ }
-    ensures { λ r. ⌜ r ≡ occupied (workOf (now (demands .entry)) [] (now (starts .entry)) (now (worked .entry))) t k ⌝ }
-{
-    let m = starts.len();
-    let mut used: u64 = 0;
-    for i in 0..m {
-        used = used + share(starts[i], worked[i], t, demands[ELEMENTS * k + i]);
-    }
-    used
-}
-
 // The lowest kind that is exceeded in period t, or 8.
 fn lowest_kind(
     demands: &[u32; 8 * ELEMENTS],
@@ -101,10 +68,12 @@ fn lowest_kind(
     t: u64,
 ) -> usize
     requires { ⌜ Listed (now starts) (now worked) ⌝ }
+    requires { ⌜ 1 ≤ t ⌝ }
     ensures { λ r. ⌜ r ≡ lowestKind (workOf (now (demands .entry)) (now (available .entry)) (now (starts .entry)) (now (worked .entry))) t ⌝ }
 {
+    let load = period_load(demands, starts, worked, t);
     for k in 0..8usize {
-        if words::wide(available[k]) < occupied_at(demands, starts, worked, t, k) {
+        if words::wide(available[k]) < load[k] {
             return k;
         }
     }

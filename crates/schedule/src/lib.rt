@@ -1,6 +1,7 @@
 // Earliest starts and the crew check, over arcs, durations and starts alone. The element i is activity i + 1.
 mod crew;
 mod early;
+mod load;
 
 pub use crew::crew_check;
 pub use early::earliest;

@@ -16,6 +16,7 @@ mod milestones;
 mod model;
 mod paging;
 mod passing;
+mod periods;
 #[allow(unsafe_code)]
 mod planner;
 mod random;
@@ -57,6 +58,7 @@ fn main() -> ExitCode {
     part("plans A to F", &cases::plans_a_to_f);
     part("open points", &readings::readings);
     part("bounds", &big::bounds);
+    part("periods", &periods::periods);
     part("crew sheets", &sheets::sheets);
     part("milestones", &milestones::milestones);
     part("milestones left out", &|bench| passing::passing(bench, PASSING_PLANS));
