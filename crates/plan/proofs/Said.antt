@@ -127,11 +127,16 @@ pub durations-small : (s : List ℕ) → AreBytes s → (i : ℕ) → getD (plan
 unfolding planOf durationsOf fileDuration
 durations-small s small = table-least elements 65535 _ (λ i. cond-least (ltb i (activityCount s)) (fileDuration s i) 65535 (λ t. field-small s small i 2))
 
+-- a demand in the file, of any kind and at any place
+pub file-demand-small : (s : List ℕ) → AreBytes s → (k i : ℕ) → fileDemand s k i ≤ 65535
+unfolding fileDemand
+file-demand-small s small k i = field-small s small i (4 + 2 * k)
+
 pub demands-small : (s : List ℕ) → AreBytes s → (i : ℕ) → getD (planOf s .demand) i 0 ≤ 65535
-unfolding planOf demandTable fileDemand
+unfolding planOf demandTable
 demands-small s small =
     table-least (8 * elements) 65535 _
-    (λ x. cond-least (ltb (x % elements) (activityCount s)) (fileDemand s (x / elements) (x % elements)) 65535 (λ t. field-small s small (x % elements) (4 + 2 * (x / elements))))
+    (λ x. cond-least (ltb (x % elements) (activityCount s)) (fileDemand s (x / elements) (x % elements)) 65535 (λ t. file-demand-small s small (x / elements) (x % elements)))
 
 pub available-small : (s : List ℕ) → AreBytes s → (k : ℕ) → getD (planOf s .available) k 0 ≤ 65535
 unfolding planOf availableOf fileAvailable

@@ -57,6 +57,10 @@ module _ (s : List ℕ) (e : Readable s) where
   pub kinds-in : planIn s .kinds ≡ fileKinds s
   kinds-in = said-in s e .kinds
 
+  -- a kind of the file is one of the eight that a plan has room for
+  pub kind-in : {k : ℕ} → k < fileKinds s → k < 8
+  kind-in h = omega (arith, h, kinds-in, kinds-few s)
+
   pub available-in : (k : ℕ) → k < 8 → availableFor (planIn s) k ≡ fileAvailable s k
   available-in = said-in s e .available
 

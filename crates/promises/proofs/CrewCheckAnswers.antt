@@ -20,7 +20,7 @@ use Rattle.planner.specs.CrewCheck.{badLists, crewWork, crewFound, crewCheckAns
 use Rattle.planner.specs.Times.{crewOccupies}
 use Rattle.planner.proofs.OpenLaws.{opens-readable}
 use Rattle.planner.proofs.CrewCheckLaws.{bad-work, lists-fine, works-listed, crew-occupied}
-use Rattle.planner.proofs.QuotedNeeds.{count-in, kinds-in, kinds-few, available-in}
+use Rattle.planner.proofs.QuotedNeeds.{count-in, kinds-in, kind-in, available-in}
 use Rattle.planner.specs.declared.CrewChecked.the-variants.{Found}
 use Rattle.planner.specs.Answers.{foundNumbers, crewCheckNumbers}
 use Rattle.promises.specs.Ours.{ours}
@@ -78,14 +78,11 @@ module _ (s : List ℕ) (o : Opens s) (starts worked : List ℕ) where
     occupied-in : (t k : ℕ) → k < 8 → occupied (crewWork s starts worked) t k ≡ crewOccupies s k (at starts) (at worked) t
     occupied-in = crew-occupied s starts worked readable (R .starts-all)
 
-    kind-in : {k : ℕ} → k < fileKinds s → k < 8
-    kind-in h = omega (arith, h, kinds-in s readable, kinds-few s)
-
     available-at : (k : ℕ) → k < 8 → at (planIn s .available) k ≡ fileAvailable s k
     available-at = available-in s readable
 
     never-over : Enough (crewWork s starts worked) → NeverOver s starts worked
-    never-over n t k p h = omega (arith, n t k (kind-in h), occupied-in t k (kind-in h), available-at k (kind-in h))
+    never-over n t k p h = omega (arith, n t k (kind-in s readable h), occupied-in t k (kind-in s readable h), available-at k (kind-in s readable h))
 
     -- what is not over in the periods from 1 on and the file's kinds is not over at all
     not-over : (t : ℕ) → (1 ≤ t → (k : ℕ) → k < fileKinds s → crewOccupies s k (at starts) (at worked) t ≤ fileAvailable s k)
@@ -106,7 +103,7 @@ module _ (s : List ℕ) (o : Opens s) (starts worked : List ℕ) where
           period = p;
           kind = h;
           over = omega (arith, F .over, occupied-in t k (F .kind), available-at k (F .kind));
-          sooner = λ u x q l b. omega (arith, F .quiet u l x (kind-in b), occupied-in u x (kind-in b), available-at x (kind-in b));
+          sooner = λ u x q l b. omega (arith, F .quiet u l x (kind-in s readable b), occupied-in u x (kind-in s readable b), available-at x (kind-in s readable b));
           lower = λ x l.
               let b : x < 8 = omega (arith, l, F .kind) in
               omega (arith, F .lowest x l, occupied-in t x b, available-at x b);
@@ -114,7 +111,7 @@ module _ (s : List ℕ) (o : Opens s) (starts worked : List ℕ) where
 
     first-over : (t k : ℕ) → FirstOverload s starts worked t k → FirstOver (crewWork s starts worked) t k
     first-over t k F =
-        let h = kind-in (F .kind) in
+        let h = kind-in s readable (F .kind) in
         record {
           kind = h;
           over = omega (arith, F .over, occupied-in t k h, available-at k h);

@@ -40,7 +40,7 @@ use Rattle.planner.specs.declared.Decision.the-variants.{Accepted, Refused}
 use Rattle.planner.specs.declared.Output.the-variants.{Written}
 use Rattle.planner.proofs.FaultLaws.{fine-is, short-none}
 use Rattle.planner.proofs.OutputLaws.{output-is-fine, lent-front}
-use Rattle.planner.proofs.QuotedNeeds.{kinds-in, kinds-few, available-in}
+use Rattle.planner.proofs.QuotedNeeds.{kinds-in, kind-in, available-in}
 use Rattle.promises.specs.Planner.{Planner}
 use Rattle.promises.specs.Ours.{ours}
 use Rattle.promises.specs.PriceList.{quotedNeed, PriceList, PriceListSentence}
@@ -198,7 +198,7 @@ available-written s r free k h =
     lent-front (needsFault s n) (table (planIn s .kinds) (availableFor (planIn s))) (replicate (fileKinds s) 0) f k
     (omega (arith, l, length-table (planIn s .kinds) (availableFor (planIn s))))
     ∙ getD-table (planIn s .kinds) (availableFor (planIn s)) k 0 l
-    ∙ available-in s r k (omega (arith, l, kinds-few s))
+    ∙ available-in s r k (kind-in s r h)
 
 unweighed : (test : List ℕ → Bool) (seven : List ℕ → Cause) → Unweighed (sevenUnweighed test seven)
 unweighed test seven s t rs fs rt ft e w =

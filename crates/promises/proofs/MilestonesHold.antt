@@ -17,7 +17,7 @@ use Rattle.flow_math.specs.Crew.{active}
 use Rattle.flow_math.proofs.Crew.{active-says}
 use Rattle.kinds.specs.Reading.{unitsRead}
 use Rattle.planner.specs.declared.Output.the-variants.{Written}
-use Rattle.planner.proofs.QuotedNeeds.{kinds-in, kinds-few}
+use Rattle.planner.proofs.QuotedNeeds.{kind-in}
 use Rattle.promises.specs.Ours.{ours}
 use Rattle.promises.specs.Paper.{Paper}
 use Rattle.promises.specs.Milestones.{Twelve, Milestones, NoMilestone, MilestoneSentence}
@@ -48,7 +48,7 @@ module _ (s : List ℕ) (small : AreBytes s) (r : Readable s) (free : Acyclic (F
           arith,
           sum-term (activityCount s + 2) (λ x. unitsRead n (ours .flow (k + 1) .left s out) x (i + 1)) u b,
           says .flows k out n e .into i l,
-          milestone-idle s r i k l (omega (arith, h, kinds-in s r, kinds-few s)) z,
+          milestone-idle s r i k l (kind-in s r h) z,
         )
 
     none-out : (k : ℕ) → k < fileKinds s → (out : List ℕ) (n : ℕ) → ours .flow (k + 1) .answer s (length out) ≡ Written n
@@ -58,7 +58,7 @@ module _ (s : List ℕ) (small : AreBytes s) (r : Readable s) (free : Acyclic (F
           arith,
           sum-term (activityCount s + 2) (unitsRead n (ours .flow (k + 1) .left s out) (i + 1)) v b,
           says .flows k out n e .out i l,
-          milestone-idle s r i k l (omega (arith, h, kinds-in s r, kinds-few s)) z,
+          milestone-idle s r i k l (kind-in s r h) z,
         )
 
     pub milestone : Milestones ours s i

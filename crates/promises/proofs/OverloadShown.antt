@@ -25,7 +25,7 @@ use Rattle.planner.specs.declared.Output.the-variants.{Written}
 use Rattle.planner.proofs.FaultLaws.{short-none}
 use Rattle.planner.proofs.OutputLaws.{output-fine, lent-front}
 use Rattle.planner.proofs.OpenLaws.{opens-readable}
-use Rattle.planner.proofs.QuotedNeeds.{kinds-few, kinds-in, available-in}
+use Rattle.planner.proofs.QuotedNeeds.{kinds-in, kind-in, available-in}
 use Rattle.promises.proofs.FileNeeds.{set-unrelated, set-demands, set-members}
 
 module _ (s : List ℕ) (small : AreBytes s) (o : Opens s) where
@@ -33,7 +33,7 @@ module _ (s : List ℕ) (small : AreBytes s) (o : Opens s) where
   readable = opens-readable s o
 
   pub few : {k : ℕ} → k < fileKinds s → (k < planIn s .kinds) × (k < 8)
-  few h = (omega (arith, h, kinds-in s readable), omega (arith, h, kinds-in s readable, kinds-few s))
+  few h = (omega (arith, h, kinds-in s readable), kind-in s readable h)
 
   -- ---- NEEDS WRITES THE NEED OF EACH KIND, whatever is lent, if it is long enough
 
