@@ -134,7 +134,7 @@ pub extern "C" fn yaffledesk_bench_crew_check(
     worked: &[u32],
 ) -> u64
     requires { ⌜ Listed (now starts) (now worked) ⌝ }
-    ensures { λ r. ⌜ r ≡ numberOf (checkOf (crewNet (now (arcs .entry)) (now (starts .entry)) (now (worked .entry))) (workOf (now (demand .entry)) (now (available .entry)) (now (starts .entry)) (now (worked .entry)))) ⌝ }
+    ensures { λ r. ⌜ r ≡ numberOf (checkOf (crewNet (now (arcs .entry)) (byDuration (now (worked .entry))) (now (starts .entry))) (workOf (now (demand .entry)) (now (available .entry)) (now (starts .entry)) (now (worked .entry)))) ⌝ }
 {
     number(schedule::crew_check(arcs, demand, available, starts, worked))
 }

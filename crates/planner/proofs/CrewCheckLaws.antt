@@ -25,7 +25,7 @@ use Rattle.schedule.specs.declared.Checked.{Checked}
 use Rattle.planner.specs.Faults.{isFine, orCause}
 use Rattle.planner.specs.Open.{planIn, faultOf, Opens}
 use Rattle.planner.specs.CrewCheck.{misworked, someMisworked, badLists, crewCheckFault, crewWork, crewFound, checkedOf, crewCheckAnswer}
-use Rattle.planner.specs.Times.{Workable, crewOccupies}
+use Rattle.planner.specs.Times.{arcWeight, Workable, crewOccupies}
 use Rattle.planner.specs.model.Opening.{openedOf}
 use Rattle.planner.specs.declared.Cause.the-variants.{Lists}
 use Rattle.planner.specs.declared.Fault.{Fault}
@@ -137,7 +137,7 @@ module _ (s starts worked : List ℕ) {o : Opened} (held : o ≡ openedOf s) whe
 
   -- beside a fault it does not matter what was found
   pub answered : {f : Fault} {b : Bool} (x : Checked) {r : CrewChecked} → Ends (crewCheckFault s starts worked) f b → r ≡ checkedOf f x
-      → (isFine (crewCheckFault s starts worked) ≡ true → x ≡ checkOf (crewNet (o .rows) starts worked) (workOf (o .plan .demand) (o .plan .available) starts worked))
+      → (isFine (crewCheckFault s starts worked) ≡ true → x ≡ checkOf (crewNet (o .rows) (arcWeight s (at worked)) starts) (workOf (o .plan .demand) (o .plan .available) starts worked))
       → r ≡ crewCheckAnswer s starts worked
   unfolding crewFound
   answered x e q h = q ∙ ap (λ (y : Fault). checkedOf y x) (e .fault) ∙ same (crewCheckFault s starts worked) (λ t. h t ∙ rw held)

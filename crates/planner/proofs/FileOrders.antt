@@ -1,5 +1,5 @@
 -- What the definitions of the operations mean, in the file's own terms: the arcs, the two orders, the starts. Assumes nothing.
-use mathlib.Core.Path.{_≡_, sym}
+use mathlib.Core.Path.{_≡_, refl, sym}
 use mathlib.Core.List.{List}
 use mathlib.Core.Logic.{⊎-elim, _↔_, Iff·rfl, Iff·trans}
 use Prim.Native.Nat.{ℕ, _≤_, _<_, _+_}
@@ -14,13 +14,13 @@ use Rattle.order.proofs.Represents.{represents-same}
 use Rattle.order.proofs.Orders.{direct-order, direct-joined, order-strict}
 use Rattle.schedule.specs.Network.{Keeps}
 use Rattle.schedule.specs.Lists.{LargestOr0, FinishOf, at}
-use Rattle.schedule.specs.model.Arrays.{netOf, byDuration}
+use Rattle.schedule.specs.model.Arrays.{netOf}
 use Rattle.schedule.proofs.Arrays as arrays
 use Rattle.schedule.proofs.Starts as earliest
 use Rattle.plan.specs.Meaning.{Readable, JobArc, ExtraArc, FileArc, fileDuration}
 use Rattle.planner.specs.Open.{planIn, rowsOf, jobOrder, planOrder, Opens}
 use Rattle.planner.specs.Starts.{firstStarts, endStart}
-use Rattle.planner.specs.Times.{KeepsArcs}
+use Rattle.planner.specs.Times.{arcWeight, KeepsArcs}
 use Rattle.planner.proofs.OpenLaws.{said-in, opens-readable, opens-plan}
 
 -- ---- the arcs of the rows are the arcs of the file
@@ -65,13 +65,17 @@ module _ (s : List ℕ) (o : Opens s) (x : ℕ → ℕ) (same : (i : ℕ) → i 
   finish : (i : ℕ) → i < planIn s .count → at (firstStarts s) i + at (planIn s .duration) i ≡ x i + fileDuration s i
   finish i l = omega (arith, same i l, said-in s readable .duration i l)
 
+  -- the weight of an arc, by the plan's durations
+  abbrev weight : ℕ → ℕ → ℕ
+  weight = arcWeight s (at (planIn s .duration))
+
   -- they keep every arc of the file
   pub starts-keep : KeepsArcs s x (fileDuration s)
   starts-keep i j a =
       let h = arc-ends s readable i j a in
       omega (
         arith,
-        arrays.starts-keep (rowsOf s) (byDuration (planIn s .duration)) (opens-plan s o) i j (plan-arcs s readable i j .1 a),
+        arrays.starts-keep (rowsOf s) weight (opens-plan s o) i j (plan-arcs s readable i j .1 a),
         finish i (h .0),
         same j (h .1),
       )
@@ -79,9 +83,9 @@ module _ (s : List ℕ) (o : Opens s) (x : ℕ → ℕ) (same : (i : ℕ) → i 
   -- whatever keeps every arc of the file starts each activity no earlier
   pub starts-least : (y : ℕ → ℕ) → KeepsArcs s y (fileDuration s) → (i : ℕ) → i < planIn s .count → x i ≤ y i
   starts-least y k i h =
-      omega (arith, same i h, arrays.starts-least (rowsOf s) (byDuration (planIn s .duration)) y keeps i (omega (arith, said-in s readable .few)))
+      omega (arith, same i h, arrays.starts-least (rowsOf s) weight y keeps i (omega (arith, said-in s readable .few)))
     where
-      keeps : Keeps (netOf (rowsOf s) (byDuration (planIn s .duration))) y
+      keeps : Keeps (netOf (rowsOf s) weight) y
       keeps a b d =
           let f = plan-arcs s readable a b .0 d in
           omega (arith, k a b f, said-in s readable .duration a (arc-ends s readable a b f .0))
@@ -92,7 +96,7 @@ module _ (s : List ℕ) (o : Opens s) (x : ℕ → ℕ) (same : (i : ℕ) → i 
       let before = before-same (plan-arcs s readable) in
       earliest.largest-same (sym (same j h)) (λ i. before i j)
       (λ i b. finish i (before-within (planIn s .count) (arc-ends s readable) (before i j .0 b) .0))
-      (arrays.starts-largest (rowsOf s) (planIn s .duration) (opens-plan s o) j (omega (arith, said-in s readable .few)))
+      (arrays.starts-largest (rowsOf s) weight (at (planIn s .duration)) (λ i k. refl) (opens-plan s o) j (omega (arith, said-in s readable .few)))
 
   -- THE END STARTS AT THE LARGEST FINISH OF ALL, OR AT 0
   pub end-largest : (e : ℕ) → e ≡ endStart s → LargestOr0 (FinishOf (λ i. i < planIn s .count) x (fileDuration s)) e

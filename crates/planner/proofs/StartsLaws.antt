@@ -80,7 +80,7 @@ numbers-fit s bytes o i =
     m = planIn s .count
 
     fit : FinishesFit (firstStarts s) (byDuration (planIn s .duration))
-    fit = starts-fit (rowsOf s) (byDuration (planIn s .duration)) (λ i j. opens-small s bytes o i)
+    fit = starts-fit (rowsOf s) (byDuration (planIn s .duration)) 65535 (omega arith) (λ i j. opens-small s bytes o i)
 
     last : getD (withEnd m (firstStarts s) (endStart s)) m 0 < 2 ^ 32
     last =
@@ -123,4 +123,4 @@ module _ (s out : List ℕ) {o : Opened} (held : o ≡ openedOf s) where
     pub fits : AreBytes s → {first : List ℕ} → first ≡ startsOf (o .rows) (byDuration (o .plan .duration)) → FinishesFit first (byDuration (o .plan .duration))
     fits bytes q =
         subst (λ (xs : List ℕ). FinishesFit xs (byDuration (o .plan .duration))) (sym q)
-        (starts-fit (o .rows) (byDuration (o .plan .duration)) (λ i j. small bytes i))
+        (starts-fit (o .rows) (byDuration (o .plan .duration)) 65535 (omega arith) (λ i j. small bytes i))

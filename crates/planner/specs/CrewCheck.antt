@@ -5,9 +5,12 @@ use Prim.Native.Nat.{ℕ}
 use lib.Dec.{ltb, eqb}
 use lib.ListN.{length, getD}
 use Rattle.words.specs.Members.{some}
+use Rattle.schedule.specs.Lists.{at}
+use Rattle.schedule.specs.Network.{Network}
 use Rattle.schedule.specs.Checks.{Work, checkOf}
 use Rattle.schedule.specs.model.Arrays.{crewNet, workOf}
 use Rattle.schedule.specs.declared.Checked.{Checked}
+use Rattle.planner.specs.Times.{arcWeight}
 use Rattle.planner.specs.Faults.{orCause}
 use Rattle.planner.specs.Open.{planIn, rowsOf, faultOf}
 use Rattle.planner.specs.declared.Cause.the-variants.{Lists}
@@ -37,9 +40,13 @@ crewCheckFault s starts worked = orCause (faultOf s) (badLists (planIn s .count)
 abbrev pub crewWork : List ℕ → List ℕ → List ℕ → Work
 crewWork s starts worked = workOf (planIn s .demand) (planIn s .available) starts worked
 
+-- and the arcs that it has to keep: the plan's, each with what it asks in the worked durations
+abbrev pub crewArcs : List ℕ → List ℕ → List ℕ → Network
+crewArcs s starts worked = crewNet (rowsOf s) (arcWeight s (at worked)) starts
+
 -- "fits, broken arc, or overload with period .. and kind"
 unfoldable pub crewFound : List ℕ → List ℕ → List ℕ → Checked
-crewFound s starts worked = checkOf (crewNet (rowsOf s) starts worked) (crewWork s starts worked)
+crewFound s starts worked = checkOf (crewArcs s starts worked) (crewWork s starts worked)
 
 abbrev pub checkedOf : Fault → Checked → CrewChecked
 checkedOf fault.Fine found = Found found

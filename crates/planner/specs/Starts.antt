@@ -6,10 +6,11 @@ use lib.Dec.{ltb}
 use lib.ListN.{length, getD}
 use Rattle.words.specs.Tables.{table}
 use Rattle.schedule.specs.Starts.{endOf}
-use Rattle.schedule.specs.model.Arrays.{byDuration, startsOf}
+use Rattle.schedule.specs.model.Arrays.{startsOf}
 use Rattle.schedule.specs.Lists.{at}
 use Rattle.planner.specs.Faults.{orShort}
 use Rattle.planner.specs.Open.{planIn, rowsOf, faultOf}
+use Rattle.planner.specs.Times.{arcWeight}
 use Rattle.planner.specs.Output.{outputOf, lentAfter}
 use Rattle.planner.specs.declared.Fault.{Fault}
 use Rattle.planner.specs.declared.Output.{Output}
@@ -28,7 +29,7 @@ startsAnswer s n = outputOf (startsFault s n) (needed s)
 
 -- the earliest starts of all elements, by the plan's arcs and the file's durations
 abbrev pub firstStarts : List ℕ → List ℕ
-firstStarts s = startsOf (rowsOf s) (byDuration (planIn s .duration))
+firstStarts s = startsOf (rowsOf s) (arcWeight s (at (planIn s .duration)))
 
 -- the start of the end
 abbrev pub endStart : List ℕ → ℕ

@@ -58,7 +58,7 @@ starting q =
 abbrev checking : Plan → Fault → List ℕ → List ℕ → CrewChecked
 checking q f starts worked =
     checkedOf (orCause f (badLists (q .count) (q .duration) starts worked) (Lists (q .count)))
-    (checkOf (crewNet (rowsFor q) starts worked) (workOf (q .demand) (q .available) starts worked))
+    (checkOf (crewNet (rowsFor q) (byDuration worked) starts) (workOf (q .demand) (q .available) starts worked))
 
 module _ {s : List ℕ} {q : Plan} {f : Fault} (o : OpenedAs s q f) where
   verdict-as : verdictNumbers (ours .verdict s) ≡ verdictNumbers (verdictOf (orOverloaded f q) (q .count) (q .kinds))

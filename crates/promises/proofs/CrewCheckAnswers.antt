@@ -17,7 +17,7 @@ use Rattle.schedule.specs.declared.Checked.{Checked}
 use Rattle.schedule.specs.declared.Checked.the-variants.{Fits, Broken, Overload}
 use Rattle.planner.specs.Open.{planIn, Opens}
 use Rattle.planner.specs.CrewCheck.{badLists, crewWork, crewFound, crewCheckAnswer}
-use Rattle.planner.specs.Times.{crewOccupies}
+use Rattle.planner.specs.Times.{arcWeight, crewOccupies}
 use Rattle.planner.proofs.OpenLaws.{opens-readable}
 use Rattle.planner.proofs.CrewCheckLaws.{bad-work, lists-fine, works-listed, crew-occupied}
 use Rattle.planner.proofs.QuotedNeeds.{count-in, kinds-in, kind-in, available-in}
@@ -121,7 +121,7 @@ module _ (s : List ℕ) (o : Opens s) (starts worked : List ℕ) where
               omega (arith, F .lower x l, occupied-in t x b, available-at x b);
         }
 
-  pub crew-check : CrewCheck ours s starts worked
+  pub crew-check : CrewCheck ours s (arcWeight s) starts worked
   crew-check =
       record {
         ten = (

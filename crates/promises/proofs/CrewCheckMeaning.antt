@@ -11,24 +11,23 @@ use Rattle.words.proofs.Sums.{sum-zero}
 use Rattle.words.proofs.Tests.{cond-least}
 use Rattle.order.specs.Stored.{elements}
 use Rattle.flow_math.specs.Crew as crew
+use Rattle.flow_math.specs.Breaks.{FirstBroken}
 use Rattle.flow_math.proofs.Kept.{keeps-same, first-same}
 use Rattle.schedule.specs.Network.{Arc}
 use Rattle.schedule.specs.Checks.{atWork, occupied, Enough, FirstOver}
-use Rattle.schedule.specs.model.Arrays.{crewNet, byDuration}
 use Rattle.schedule.specs.Lists.{at}
 use Rattle.schedule.specs.declared.Checked.the-variants.{Fits, Broken, Overload}
 use Rattle.schedule.proofs.Answers.{fits-says, broken-says, over-says}
-use Rattle.planner.specs.Open.{planIn, rowsOf, Opens}
-use Rattle.planner.specs.CrewCheck.{crewWork, crewFound}
+use Rattle.planner.specs.Open.{planIn, Opens}
+use Rattle.planner.specs.CrewCheck.{crewWork, crewArcs, crewFound}
 use Rattle.plan.specs.Meaning.{FileArc}
-use Rattle.planner.specs.Times.{KeepsArcs}
-use Rattle.promises.specs.Paper.{FirstBrokenArc}
+use Rattle.planner.specs.Times.{arcWeight, KeepsArcs}
 use Rattle.planner.proofs.OpenLaws.{said-in, opens-readable, count-few}
 use Rattle.planner.proofs.FileOrders.{plan-arcs, arc-ends}
 
 module _ (s starts worked : List ℕ) (o : Opens s) (all : length starts ≡ planIn s .count) where
   -- the arcs that the crew check looks at are the file's
-  crew-arcs : (i j : ℕ) → Arc (crewNet (rowsOf s) starts worked) i j ↔ FileArc s i j
+  crew-arcs : (i j : ℕ) → Arc (crewArcs s starts worked) i j ↔ FileArc s i j
   crew-arcs i j =
       let e = opens-readable s o in (
         (λ a. plan-arcs s e i j .0 (record { from = short (a .from); to = short (a .to); drawn = a .drawn })),
@@ -42,20 +41,20 @@ module _ (s starts worked : List ℕ) (o : Opens s) (all : length starts ≡ pla
   pub finds-fits : (crewFound s starts worked ≡ Fits) ↔ (KeepsArcs s (at starts) (at worked) × Enough (crewWork s starts worked))
   unfolding crewFound
   finds-fits =
-      Iff·trans (fits-says (crewNet (rowsOf s) starts worked) (crewWork s starts worked))
-      (Iff·and (keeps-same (at starts) (byDuration worked) crew-arcs) Iff·rfl)
+      Iff·trans (fits-says (crewArcs s starts worked) (crewWork s starts worked))
+      (Iff·and (keeps-same (at starts) (arcWeight s (at worked)) crew-arcs) Iff·rfl)
 
   -- A BROKEN ARC: it is the first of the file's, by from and then to
-  pub finds-broken : (i j : ℕ) → (crewFound s starts worked ≡ Broken (i + 1) (j + 1)) ↔ FirstBrokenArc s (at starts) (at worked) i j
+  pub finds-broken : (i j : ℕ) → (crewFound s starts worked ≡ Broken (i + 1) (j + 1)) ↔ FirstBroken (FileArc s) (at starts) (arcWeight s (at worked)) i j
   unfolding crewFound
-  finds-broken i j = Iff·trans (broken-says (crewNet (rowsOf s) starts worked) (crewWork s starts worked) i j) (first-same crew-arcs)
+  finds-broken i j = Iff·trans (broken-says (crewArcs s starts worked) (crewWork s starts worked) i j) (first-same crew-arcs)
 
   -- AN OVERLOAD: every arc is kept, the period is the first, and the kind the lowest in it
   pub finds-over : (t k : ℕ) → (crewFound s starts worked ≡ Overload t (k + 1)) ↔ (KeepsArcs s (at starts) (at worked) × FirstOver (crewWork s starts worked) t k)
   unfolding crewFound
   finds-over t k =
-      Iff·trans (over-says (crewNet (rowsOf s) starts worked) (crewWork s starts worked) t k)
-      (Iff·and (keeps-same (at starts) (byDuration worked) crew-arcs) Iff·rfl)
+      Iff·trans (over-says (crewArcs s starts worked) (crewWork s starts worked) t k)
+      (Iff·and (keeps-same (at starts) (arcWeight s (at worked)) crew-arcs) Iff·rfl)
 
   -- nothing is demanded of a kind that the file does not have, so the kind shown is one of the file's
   pub none-occupied : (t k : ℕ) → planIn s .kinds ≤ k → k < 8 → occupied (crewWork s starts worked) t k ≡ 0

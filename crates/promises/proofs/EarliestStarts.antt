@@ -11,7 +11,7 @@ use Rattle.plan.specs.Records.{activityCount}
 use Rattle.schedule.specs.Lists.{LargestOr0, FinishOf, at}
 use Rattle.planner.specs.Open.{planIn, Opens}
 use Rattle.planner.specs.Starts.{needed, firstStarts, endStart, startNumbers, startsOut}
-use Rattle.planner.specs.Times.{KeepsArcs}
+use Rattle.planner.specs.Times.{arcWeight, KeepsArcs}
 use Rattle.planner.specs.declared.Output.the-variants.{Written}
 use Rattle.planner.proofs.OpenLaws.{opens-readable}
 use Rattle.planner.proofs.StartsLaws.{before-end, at-end, length-numbers}
@@ -65,7 +65,7 @@ module _ (s : List ℕ) (o : Opens s) (out : List ℕ) (h : activityCount s + 1 
       (λ F. omega (arith, F .finish, least y k (F .element) (F .picked), below (F .element) (F .picked)))
       (end .reached)
 
-  pub earliest-starts : EarliestStarts ours s out
+  pub earliest-starts : EarliestStarts ours s (arcWeight s) out
   earliest-starts =
       record {
         answers = starts-written s (length out) o fits ∙ ap (λ (n : ℕ). Written (n + 1)) m;

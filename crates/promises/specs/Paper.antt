@@ -16,10 +16,11 @@ use Rattle.plan.specs.Records.{activityCount}
 use Rattle.schedule.specs.Lists.{LargestOr0, FinishOf, at}
 use Rattle.schedule.specs.declared.Checked.the-variants.{Fits, Broken, Overload}
 use Rattle.kinds.specs.Reading.{unitsRead}
+use Rattle.flow_math.specs.Kept.{Keeps}
 use Rattle.flow_math.specs.Breaks.{FirstBroken}
 use Rattle.flow_math.specs.Crew.{active}
 use Rattle.planner.specs.File.{FileFlow}
-use Rattle.planner.specs.Times.{arcWeight, KeepsArcs, Workable, crewOccupies}
+use Rattle.planner.specs.Times.{arcWeight, Workable, crewOccupies}
 use Rattle.planner.specs.declared.Output.the-variants.{Written}
 use Rattle.planner.specs.declared.CrewChecked.the-variants.{Found}
 use Rattle.planner.specs.Answers.{verdictNumbers, outputNumbers, crewCheckNumbers}
@@ -60,9 +61,15 @@ pub record Circles (P : Planner) (s : List ℕ) : Type 0 where
   pub six : (i : ℕ) → Acyclic (JobArc s) → Lowest (FileArc s) i → EveryGives P s (6 ∷ (i + 1) ∷ [])
   pub six-means : (i : ℕ) → SomeGives P s (6 ∷ (i + 1) ∷ []) → Acyclic (JobArc s) × Lowest (FileArc s) i
 
+-- ---- the rule by which an arc is kept
+
+-- in the durations w, how long after the start of i the arc from i to j lets j start. `arcWeight s` is the file's
+abbrev pub Rule : Type 0
+Rule = (ℕ → ℕ) → ℕ → ℕ → ℕ
+
 -- ---- earliest starts, as Starts writes them to what it is lent: number i is the start of activity i + 1, and number m that of the end
 
-pub record EarliestStarts (P : Planner) (s out : List ℕ) : Type 0 where
+pub record EarliestStarts (P : Planner) (s : List ℕ) (rule : Rule) (out : List ℕ) : Type 0 where
   -- "Starts: m+1 numbers, activities 1 to m and then the end."
   pub answers : P .starts .answer s (length out) ≡ Written (activityCount s + 1)
   -- "An activity starts at the largest finish (start plus duration) of those before it, or at 0;
@@ -70,10 +77,10 @@ pub record EarliestStarts (P : Planner) (s out : List ℕ) : Type 0 where
   -- the end starts at the largest finish of all, or at 0."
   pub end : LargestOr0 (FinishOf (λ i. i < activityCount s) (at (P .starts .left s out)) (fileDuration s)) (getD (P .starts .left s out) (activityCount s) 0)
   -- "Every schedule that keeps the arcs with the file's durations starts each no earlier.": nor the end, and the starts themselves are such a schedule
-  pub least : (x : ℕ → ℕ) → KeepsArcs s x (fileDuration s) → (i : ℕ) → i < activityCount s → getD (P .starts .left s out) i 0 ≤ x i
-  pub end-least : (x : ℕ → ℕ) → KeepsArcs s x (fileDuration s) → (last : ℕ) → ((i : ℕ) → i < activityCount s → x i + fileDuration s i ≤ last)
+  pub least : (x : ℕ → ℕ) → Keeps (FileArc s) x (rule (fileDuration s)) → (i : ℕ) → i < activityCount s → getD (P .starts .left s out) i 0 ≤ x i
+  pub end-least : (x : ℕ → ℕ) → Keeps (FileArc s) x (rule (fileDuration s)) → (last : ℕ) → ((i : ℕ) → i < activityCount s → x i + fileDuration s i ≤ last)
       → getD (P .starts .left s out) (activityCount s) 0 ≤ last
-  pub keep : KeepsArcs s (at (P .starts .left s out)) (fileDuration s)
+  pub keep : Keeps (FileArc s) (at (P .starts .left s out)) (rule (fileDuration s))
   -- "Numbers go to the front of the lent 32-bit slice, ..; the rest is unchanged"
   pub rest : drop (activityCount s + 1) (P .starts .left s out) ≡ drop (activityCount s + 1) out
   pub room : length (P .starts .left s out) ≡ length out
@@ -104,21 +111,17 @@ pub record FirstOverload (s starts worked : List ℕ) (t k : ℕ) : Type 0 where
   pub sooner : (u x : ℕ) → 1 ≤ u → u < t → x < fileKinds s → NotOver s starts worked u x
   pub lower : (x : ℕ) → x < k → NotOver s starts worked t x
 
--- "the first arc i to j, by from and then to, with start of i plus its duration greater than the start of j"
-abbrev pub FirstBrokenArc : List ℕ → (ℕ → ℕ) → (ℕ → ℕ) → ℕ → ℕ → Type 0
-FirstBrokenArc s x w = FirstBroken (FileArc s) x (arcWeight s w)
-
-pub record CrewCheck (P : Planner) (s starts worked : List ℕ) : Type 0 where
+pub record CrewCheck (P : Planner) (s : List ℕ) (rule : Rule) (starts worked : List ℕ) : Type 0 where
   -- "lists not m long, or a worked duration 0 | 10 | m"; a milestone's is 0, and 10 is given where it is not
   pub ten : (crewCheckNumbers (P .crew-check s starts worked) ≡ 10 ∷ activityCount s ∷ []) ↔ (RightLists s starts worked → ⊥)
   -- "fits": exactly when every arc is kept, and no period of any kind is over
-  pub fits : RightLists s starts worked → (P .crew-check s starts worked ≡ Found Fits) ↔ (KeepsArcs s (at starts) (at worked) × NeverOver s starts worked)
+  pub fits : RightLists s starts worked → (P .crew-check s starts worked ≡ Found Fits) ↔ (Keeps (FileArc s) (at starts) (rule (at worked)) × NeverOver s starts worked)
   -- "find the first arc i to j, by from and then to, with start of i plus its duration greater than the start of j."
   pub broken : RightLists s starts worked → (i j : ℕ)
-      → (P .crew-check s starts worked ≡ Found (Broken (i + 1) (j + 1))) ↔ FirstBrokenArc s (at starts) (at worked) i j
+      → (P .crew-check s starts worked ≡ Found (Broken (i + 1) (j + 1))) ↔ FirstBroken (FileArc s) (at starts) (rule (at worked)) i j
   -- "If none, find the first period, then lowest kind, whose occupied sum exceeds the availability."
   pub overload : RightLists s starts worked → (t k : ℕ)
-      → (P .crew-check s starts worked ≡ Found (Overload t (k + 1))) ↔ (KeepsArcs s (at starts) (at worked) × FirstOverload s starts worked t k)
+      → (P .crew-check s starts worked ≡ Found (Overload t (k + 1))) ↔ (Keeps (FileArc s) (at starts) (rule (at worked)) × FirstOverload s starts worked t k)
 
 -- ---- the load of a period: "its steps shall follow the text of section 1 of source document 000: started by t−1, then finished no sooner than t, then added kind by kind"
 -- (02, change 4)
@@ -158,8 +161,8 @@ LoadSentence L = (s : List ℕ) → AreBytes s → Readable s → (starts worked
 pub record Paper (P : Planner) (s : List ℕ) : Type 0 where
   -- "For kind k, a flow gives each pair (i, j) a whole number of units (000, equations 1 and 2).": the records that Flow writes, read back
   pub flows : (k : ℕ) (out : List ℕ) (n : ℕ) → P .flow (k + 1) .answer s (length out) ≡ Written n → FileFlow s k (unitsRead n (P .flow (k + 1) .left s out))
-  pub starts : (out : List ℕ) → activityCount s + 1 ≤ length out → EarliestStarts P s out
-  pub crews : (starts worked : List ℕ) → CrewCheck P s starts worked
+  pub starts : (out : List ℕ) → activityCount s + 1 ≤ length out → EarliestStarts P s (arcWeight s) out
+  pub crews : (starts worked : List ℕ) → CrewCheck P s (arcWeight s) starts worked
 
 abbrev pub PaperSentence : Planner → Type 0
 PaperSentence P = (s : List ℕ) → AreBytes s → Readable s → Circles P s × (Acyclic (FileArc s) → Paper P s)

@@ -15,7 +15,7 @@ use Rattle.flow_math.specs.Breaks.{FirstBroken}
 use Rattle.flow_math.proofs.Kept.{is-broken, not-broken}
 use Rattle.schedule.specs.Network.{Network, Arc, Schedule, Keeps}
 use Rattle.schedule.specs.Checks.{breaks, brokenTo, brokenFrom}
-use Rattle.schedule.specs.model.Arrays.{crewNet}
+use Rattle.schedule.specs.model.Arrays.{byDuration, crewNet}
 use Rattle.schedule.specs.Lists.{at}
 
 module _ (g : Network) (s : Schedule) where
@@ -56,5 +56,5 @@ module _ (g : Network) (s : Schedule) where
 
 -- the code's test of one arc, with the finish of i at hand
 pub breaks-by :
-    (R S D : List ℕ) (i j f : ℕ) {b : Bool} → f ≡ at S i + at D i → b ≡ (after R i j && ltb (at S j) f) → breaks (crewNet R S D) (at S) i j ≡ b
+    (R S D : List ℕ) (i j f : ℕ) {b : Bool} → f ≡ at S i + at D i → b ≡ (after R i j && ltb (at S j) f) → breaks (crewNet R (byDuration D) S) (at S) i j ≡ b
 breaks-by R S D i j f e r = ap (λ (x : ℕ). after R i j && ltb (at S j) x) (sym e) ∙ sym r

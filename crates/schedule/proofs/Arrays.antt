@@ -1,8 +1,8 @@
 -- What the list of earliest starts is worth: the laws of Starts.antt for arcs that are given as rows. Assumes nothing.
-use mathlib.Core.Path.{_≡_, refl, sym}
+use mathlib.Core.Path.{_≡_, sym}
 use mathlib.Core.List.{List}
 use mathlib.Core.Logic.{Iff·rfl}
-use Prim.Native.Nat.{ℕ, _*_, _≤_, _<_}
+use Prim.Native.Nat.{ℕ, _+_, _*_, _^_, _≤_, _<_}
 use native.Mathlib.Omega.{arith}
 use native.Mathlib.Decide.{decLt}
 use lib.ListN.{length, List·getD-eq-default}
@@ -14,7 +14,7 @@ use Rattle.order.proofs.Before.{before-within, drawn-within}
 use Rattle.schedule.specs.Network.{Schedule, Keeps}
 use Rattle.schedule.specs.Starts.{earliestOf}
 use Rattle.schedule.specs.Lists.{LargestOr0, FinishOf, at}
-use Rattle.schedule.specs.model.Arrays.{netOf, byDuration, startsOf, FinishesFit}
+use Rattle.schedule.specs.model.Arrays.{netOf, startsOf, FinishesFit}
 use Rattle.schedule.proofs.Starts.{earliest-least, earliest-bound, earliest-keeps, earliest-largest, largest-same}
 use Rattle.schedule.proofs.Ranks.{ranked}
 use Rattle.order.specs.Stored.{elements}
@@ -32,7 +32,7 @@ module _ (rows : List ℕ) (weight : ℕ → ℕ → ℕ) where
   pub starts-least : (s : Schedule) → Keeps (netOf rows weight) s → (j : ℕ) → j < elements → at (startsOf rows weight) j ≤ s j
   starts-least s k j l = omega (arith, starts-at j l, earliest-least (netOf rows weight) s k j l)
 
-  -- THEY FIT 32 BITS: each is at most elements times the largest weight
+  -- each is at most elements times the largest weight
   pub starts-bound : (b : ℕ) → ((i j : ℕ) → weight i j ≤ b) → (i : ℕ) → at (startsOf rows weight) i ≤ elements * b
   starts-bound b a i = go (decLt i elements)
     where
@@ -42,9 +42,9 @@ module _ (rows : List ℕ) (weight : ℕ → ℕ → ℕ) where
           let e : at (startsOf rows weight) i ≡ 0 = List·getD-eq-default (startsOf rows weight) 0 (omega (arith, starts-long)) in
           omega arith
 
-  -- and so do their finishes: what `end_start` asks of the starts that `earliest` gave
-  pub starts-fit : ((i j : ℕ) → weight i j ≤ 65535) → FinishesFit (startsOf rows weight) weight
-  starts-fit a i j l = omega (arith, a i j, starts-bound 65535 a i)
+  -- THEY FIT 32 BITS with a weight added, where elements + 1 times the largest weight does
+  pub starts-fit : (b : ℕ) → (elements + 1) * b < 2 ^ 32 → ((i j : ℕ) → weight i j ≤ b) → FinishesFit (startsOf rows weight) weight
+  starts-fit b h a i j l = omega (arith, a i j, starts-bound b a i)
 
   module _ (free : Acyclic (Direct rows)) where
     -- THEY KEEP EVERY ARC
@@ -53,11 +53,11 @@ module _ (rows : List ℕ) (weight : ℕ → ℕ → ℕ) where
         omega (arith, starts-at i (a .from), starts-at j (a .to), earliest-keeps (netOf rows weight) (ranked rows weight free) i j a)
 
 -- "An activity starts at the largest finish (start plus duration) of those before it, or at 0"
+-- where each weight is the duration alone
 pub starts-largest :
-    (rows durations : List ℕ) → Acyclic (Direct rows) → (j : ℕ) → j < elements
-    → LargestOr0 (FinishOf (λ i. Before (Direct rows) i j) (at (startsOf rows (byDuration durations))) (at durations)) (at (startsOf rows (byDuration durations)) j)
-starts-largest rows durations free j l =
-    let W = byDuration durations in
-    largest-same (sym (starts-at rows W j l)) (λ i. Iff·rfl)
-    (λ i b. omega (arith, starts-at rows W i (before-within elements (drawn-within elements (after rows)) b .0)))
-    (earliest-largest (netOf rows W) (at durations) (ranked rows W free) (λ i k. refl) j l)
+    (rows : List ℕ) (weight : ℕ → ℕ → ℕ) (d : ℕ → ℕ) → ((i j : ℕ) → weight i j ≡ d i) → Acyclic (Direct rows) → (j : ℕ) → j < elements
+    → LargestOr0 (FinishOf (λ i. Before (Direct rows) i j) (at (startsOf rows weight)) d) (at (startsOf rows weight) j)
+starts-largest rows weight d alone free j l =
+    largest-same (sym (starts-at rows weight j l)) (λ i. Iff·rfl)
+    (λ i b. omega (arith, starts-at rows weight i (before-within elements (drawn-within elements (after rows)) b .0)))
+    (earliest-largest (netOf rows weight) d (ranked rows weight free) alone j l)

@@ -3,7 +3,7 @@ use mathlib.Core.Path.{_≡_, refl, sym, _∙_, ap, ap₂}
 use mathlib.Core.Bool.{Bool, true, false, cond, not, _&&_, _||_}
 use mathlib.Core.List.{List}
 use mathlib.Core.Logic.{⊎-elim, _≢_, _↔_}
-use Prim.Native.Nat.{ℕ, zero, suc, _+_, _-_, _*_, _≤_, _<_}
+use Prim.Native.Nat.{ℕ, zero, suc, _+_, _-_, _*_, _^_, _≤_, _<_}
 use native.Mathlib.Nat.{not-suc-le-zero}
 use native.Mathlib.Omega.{arith}
 use lib.Bits.{bitOr, or-zero-r}
@@ -171,13 +171,13 @@ by-none g =
     is-table elements (λ i. cond (bit 0 i) (earliestOf g i) 0) (replicate elements 0) 0 refl λ i l. getD-replicate elements i 0 0 l ∙ sym (cond-false (earliestOf g i) 0 (bit-zero i))
 
 module _ (rows : List ℕ) (weight : ℕ → ℕ → ℕ) where
-  -- no finish passes 32 bits
-  pub by-fits : (done : ℕ) → ((i j : ℕ) → weight i j ≤ 65535) → FinishesFit (startsBy (netOf rows weight) done) weight
-  by-fits done a i j l =
+  -- no start and weight together pass 32 bits
+  pub by-fits : (done b : ℕ) → (elements + 1) * b < 2 ^ 32 → ((i j : ℕ) → weight i j ≤ b) → FinishesFit (startsBy (netOf rows weight) done) weight
+  by-fits done b h a i j l =
       omega (
         arith,
         by-at (netOf rows weight) done i l,
-        cond-least (bit done i) (earliestOf (netOf rows weight) i) (elements * 65535) (λ e. earliest-bound (netOf rows weight) 65535 (λ k m x. a k m) i l),
+        cond-least (bit done i) (earliestOf (netOf rows weight) i) (elements * b) (λ e. earliest-bound (netOf rows weight) b (λ k m x. a k m) i l),
         a i j,
       )
 

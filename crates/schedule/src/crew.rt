@@ -6,7 +6,7 @@ ghost use lib.Dec.{ltb};
 ghost use lib.ListN.{length};
 ghost use Rattle.words.specs.Bits.{bit};
 ghost use Rattle.schedule.specs.Checks.{brokenTo, brokenFrom, lowestKind, firstPeriod, checkOf};
-ghost use Rattle.schedule.specs.model.Arrays.{crewNet, workOf, Listed};
+ghost use Rattle.schedule.specs.model.Arrays.{byDuration, crewNet, workOf, Listed};
 ghost use Rattle.schedule.specs.Lists.{at};
 ghost use Rattle.schedule.specs.model.Levels.{soonerOf};
 ghost use Rattle.order.specs.Stored.{elements, numberOf};
@@ -32,7 +32,7 @@ fn breaks_at(row: Set, j: usize, finish: u64, next: u32) -> bool
 fn broken_to(rows: &Rows, starts: &[u32], worked: &[u32], i: usize) -> usize
     requires { ⌜ Listed (now starts) (now worked) ⌝ }
     requires { ⌜ i < length (now starts) ⌝ }
-    ensures { λ r. ⌜ r ≡ brokenTo (crewNet (now (rows .entry)) (now (starts .entry)) (now (worked .entry))) (at (now (starts .entry))) i ⌝ }
+    ensures { λ r. ⌜ r ≡ brokenTo (crewNet (now (rows .entry)) (byDuration (now (worked .entry))) (now (starts .entry))) (at (now (starts .entry))) i ⌝ }
 {
     let row = order::row(rows, i);
     let finish = words::wide(starts[i]) + words::wide(worked[i]);
@@ -48,7 +48,7 @@ fn broken_to(rows: &Rows, starts: &[u32], worked: &[u32], i: usize) -> usize
 // The first element from which an arc is broken, or m.
 fn broken_from(rows: &Rows, starts: &[u32], worked: &[u32]) -> usize
     requires { ⌜ Listed (now starts) (now worked) ⌝ }
-    ensures { λ r. ⌜ r ≡ brokenFrom (crewNet (now (rows .entry)) (now (starts .entry)) (now (worked .entry))) (at (now (starts .entry))) ⌝ }
+    ensures { λ r. ⌜ r ≡ brokenFrom (crewNet (now (rows .entry)) (byDuration (now (worked .entry))) (now (starts .entry))) (at (now (starts .entry))) ⌝ }
 {
     let m = starts.len();
     for i in 0..m {
@@ -124,7 +124,7 @@ pub fn crew_check(
     worked: &[u32],
 ) -> Checked
     requires { ⌜ Listed (now starts) (now worked) ⌝ }
-    ensures { λ r. ⌜ r ≡ checkOf (crewNet (now (rows .entry)) (now (starts .entry)) (now (worked .entry))) (workOf (now (demands .entry)) (now (available .entry)) (now (starts .entry)) (now (worked .entry))) ⌝ }
+    ensures { λ r. ⌜ r ≡ checkOf (crewNet (now (rows .entry)) (byDuration (now (worked .entry))) (now (starts .entry))) (workOf (now (demands .entry)) (now (available .entry)) (now (starts .entry)) (now (worked .entry))) ⌝ }
 {
     let from = broken_from(rows, starts, worked);
     if from < starts.len() {

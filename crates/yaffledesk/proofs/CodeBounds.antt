@@ -17,13 +17,12 @@ use Rattle.order.specs.Sets.{member}
 use Rattle.plan.specs.Records.{activities}
 use Rattle.schedule.specs.Network.{Network}
 use Rattle.schedule.specs.Checks.{Work, brokenTo, brokenFrom, lowestKind, firstPeriod, checkOf}
-use Rattle.schedule.specs.model.Arrays.{crewNet}
 use Rattle.schedule.specs.declared.Checked.{Checked}
 use Rattle.schedule.specs.declared.Checked.the-variants.{Fits, Broken, Overload}
 use Rattle.schedule.proofs.Arcs.{broken-first, broken-to-first}
 use Rattle.schedule.proofs.Periods.{lowest-first, period-bound}
 use Rattle.planner.specs.Numbers.{refusalOf}
-use Rattle.planner.specs.Open.{planIn, rowsOf}
+use Rattle.planner.specs.Open.{planIn}
 use Rattle.planner.specs.Faults.{isFine}
 use Rattle.planner.specs.Output.{outputOf}
 use Rattle.planner.specs.Need.{isOverloaded}
@@ -33,7 +32,7 @@ use Rattle.planner.specs.Starts.{needed, startsFault, startsAnswer}
 use Rattle.planner.specs.Flow.{flowFault, flowCount, flowAnswer}
 use Rattle.planner.specs.Sheet.{sheetPages, sheetFault, sheetAnswer}
 use Rattle.planner.specs.Overload.{overloadFault, overCount, overloadAnswer}
-use Rattle.planner.specs.CrewCheck.{crewCheckFault, crewWork, crewFound, checkedOf, crewCheckAnswer}
+use Rattle.planner.specs.CrewCheck.{crewCheckFault, crewWork, crewArcs, crewFound, checkedOf, crewCheckAnswer}
 use Rattle.planner.specs.declared.Fault.{Fault}
 use Rattle.planner.specs.declared.Output.{Output}
 use Rattle.planner.specs.declared.Refusal.{Refusal}
@@ -119,7 +118,7 @@ crew-small s starts worked fit =
     crew-by (crewCheckFault s starts worked) (crewFound s starts worked) (crew-refuses s starts worked)
     (λ e.
     let w = crew-fine s starts worked e in
-    check-small (crewNet (rowsOf s) starts worked) (crewWork s starts worked) (omega (arith, w .1, count-few s)) (omega arith) (λ i l. fit i))
+    check-small (crewArcs s starts worked) (crewWork s starts worked) (omega (arith, w .1, count-few s)) (omega arith) (λ i l. fit i))
 
 -- an answer that is equal to a small one is small
 pub same-small : {o : Output} (p : Output) → o ≡ p → outputCode p < 2 ^ 64 → outputCode o < 2 ^ 64

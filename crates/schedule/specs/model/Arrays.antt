@@ -40,9 +40,9 @@ pub record Listed (starts worked : List ℕ) : Type 0 where
   pub few : length starts ≤ elements
   pub paired : length worked ≡ length starts
 
--- the network of m elements, with the worked durations as weights
-abbrev pub crewNet : List ℕ → List ℕ → List ℕ → Network
-crewNet rows starts worked = record { elements = length starts; arc = after rows; weight = byDuration worked }
+-- the network of as many elements as there are starts
+abbrev pub crewNet : List ℕ → (ℕ → ℕ → ℕ) → List ℕ → Network
+crewNet rows weight starts = record { elements = length starts; arc = after rows; weight = weight }
 
 -- the work of the crew: the demand of the element i for kind k stands at elements * k + i
 abbrev pub workOf : List ℕ → List ℕ → List ℕ → List ℕ → Work

@@ -3,7 +3,7 @@ use mathlib.Core.Path.{_≡_}
 use native.Mathlib.Omega.{arith}
 use borrow.Author.Needs.{needs}
 use Rattle.schedule.specs.Checks.{brokenFrom}
-use Rattle.schedule.specs.model.Arrays.{crewNet, workOf}
+use Rattle.schedule.specs.model.Arrays.{byDuration, crewNet, workOf}
 use Rattle.schedule.specs.Lists.{at}
 use Rattle.schedule.proofs.Arcs.{broken-to-first}
 use Rattle.schedule.proofs.Periods.{lowest-first}
@@ -17,7 +17,7 @@ add-t13 c =
     let s = b .before .before .before .args in
     let S = s .starts .now in
     let D = s .worked .now in
-    omega (arith, c .broken-to .ensures, broken-to-first (crewNet (s .rows .now) S D) (at S) (b .broken-from .result) .within)
+    omega (arith, c .broken-to .ensures, broken-to-first (crewNet (s .rows .now) (byDuration D) S) (at S) (b .broken-from .result) .within)
 
 returns : tie.Need-returns
 returns c =
@@ -25,7 +25,7 @@ returns c =
     let s = b .before .before .before .args in
     let S = s .starts .now in
     let D = s .worked .now in
-    let G = crewNet (s .rows .now) S D in
+    let G = crewNet (s .rows .now) (byDuration D) S in
     let W = workOf (s .demands .now) (s .available .now) S D in
     let f : b .broken-from .result ≡ brokenFrom G (at S) = b .broken-from .ensures in
     check-broken G W (b .broken-from .result) (c .broken-to .result) f (omega arith)
@@ -45,7 +45,7 @@ returns-2 c =
     let s = b .before .before .before .args in
     let S = s .starts .now in
     let D = s .worked .now in
-    let G = crewNet (s .rows .now) S D in
+    let G = crewNet (s .rows .now) (byDuration D) S in
     let W = workOf (s .demands .now) (s .available .now) S D in
     let f : b .broken-from .result ≡ brokenFrom G (at S) = b .broken-from .ensures in
     check-over G W (b .broken-from .result) (c .before .before .first-period .result) (c .lowest-kind .result) f (omega arith) (c .before .before .first-period .ensures) (omega arith) (c .lowest-kind .ensures)
@@ -56,7 +56,7 @@ returns-3 c =
     let s = b .before .before .before .args in
     let S = s .starts .now in
     let D = s .worked .now in
-    let G = crewNet (s .rows .now) S D in
+    let G = crewNet (s .rows .now) (byDuration D) S in
     let W = workOf (s .demands .now) (s .available .now) S D in
     let f : b .broken-from .result ≡ brokenFrom G (at S) = b .broken-from .ensures in
     check-fits G W (b .broken-from .result) (c .before .first-period .result) f (omega arith) (c .before .first-period .ensures) (omega arith)

@@ -41,7 +41,7 @@ place-requires : tie.Need-place-requires Inv-loop μ-loop
 place-requires c κs =
     let a = c .before .before .before .before .before .before in
     let W = byDuration (a .before .args .durations .now) in
-    subst (λ (l : List ℕ). FinishesFit l W) (sym (a .loop .inv .1)) (by-fits (a .before .args .rows .now) W (numberOf (a .loop .done)) (λ i j. a .before .pre .1 i))
+    subst (λ (l : List ℕ). FinishesFit l W) (sym (a .loop .inv .1)) (by-fits (a .before .args .rows .now) W (numberOf (a .loop .done)) 65535 (omega arith) (λ i j. a .before .pre .1 i))
 
 loop-again : tie.Need-loop-again Inv-loop μ-loop
 loop-again c =

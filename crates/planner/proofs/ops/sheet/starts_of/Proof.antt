@@ -2,6 +2,7 @@
 use mathlib.Core.Path.{refl, sym, _∙_, subst}
 use mathlib.Core.List.{List}
 use Prim.Native.Nat.{ℕ}
+use native.Mathlib.Omega.{arith}
 use borrow.Author.Needs.{needs}
 use Rattle.schedule.specs.model.Arrays.{byDuration, FinishesFit}
 use Rattle.schedule.proofs.Arrays.{starts-fit}
@@ -13,7 +14,7 @@ end-start-requires c κs =
     let e = c .before .before in
     let start = e .before .before .before in
     let d = byDuration (start .args .q .duration) in
-    (start .pre .0, subst (λ (xs : List ℕ). FinishesFit xs d) (sym (e .earliest .ensures)) (starts-fit (start .args .rows .now) d (λ i j. start .pre .2 i)))
+    (start .pre .0, subst (λ (xs : List ℕ). FinishesFit xs d) (sym (e .earliest .ensures)) (starts-fit (start .args .rows .now) d 65535 (omega arith) (λ i j. start .pre .2 i)))
 
 returns : tie.Need-returns
 returns c =
