@@ -36,7 +36,7 @@ static int read_crew(const uint8_t *r, plain_plan *p) {
 static int read_arc(const uint8_t *r, int due, plain_plan *p) {
     if (r[0] != due) return 2;
     if (r[1] == 0 || r[1] > p->count || r[2] == 0 || r[2] > p->count || r[1] == r[2]) return 3;
-    if (spare(r, 3, 24)) return 4;
+    if (r[3] != 0 || spare(r, 6, 24)) return 4; // between these is the wait
     uint64_t *row = (due == 3 ? p->job : p->extra) + r[1] - 1, to = (uint64_t)1 << (r[2] - 1);
     if (*row & to) return 13; // the pair again
     *row |= to;
@@ -68,6 +68,15 @@ int plain_read(const uint8_t *s, size_t n, plain_plan *p, size_t *place) {
     return 0;
 }
 
+void plain_waits(const uint8_t *s, size_t n, uint32_t waits[4096]) {
+    memset(waits, 0, 4096 * sizeof *waits);
+    for (const uint8_t *r = s; r < s + n; r += 24) {
+        if (r[0] != 3 && r[0] != 4) continue;
+        uint32_t *wait = waits + 64 * (r[2] - 1) + (r[1] - 1);
+        if (*wait < half(r + 4)) *wait = half(r + 4);
+    }
+}
+
 void plain_order(const uint64_t arcs[64], uint64_t rows[64]) {
     memcpy(rows, arcs, 64 * sizeof *rows);
     for (int k = 0; k < 64; k++) {
@@ -77,7 +86,7 @@ void plain_order(const uint64_t arcs[64], uint64_t rows[64]) {
     }
 }
 
-void plain_earliest(const uint64_t arcs[64], const uint32_t duration[64], uint32_t starts[64]) {
+void plain_earliest(const uint64_t arcs[64], const uint32_t duration[64], const uint32_t waits[4096], uint32_t starts[64]) {
     int waiting[64] = {0}, ready[64], count = 0;
     memset(starts, 0, 64 * sizeof *starts);
     for (int i = 0; i < 64; i++)
@@ -89,7 +98,8 @@ void plain_earliest(const uint64_t arcs[64], const uint32_t duration[64], uint32
         uint32_t finish = starts[i] + duration[i];
         for (uint64_t w = arcs[i]; w != 0; w &= w - 1) {
             int j = __builtin_ctzll(w);
-            if (starts[j] < finish) starts[j] = finish;
+            uint32_t start = finish + waits[64 * j + i];
+            if (starts[j] < start) starts[j] = start;
             if (--waiting[j] == 0) ready[count++] = j;
         }
     }
@@ -106,10 +116,10 @@ static size_t exceeded(const uint32_t demand[512], const uint32_t available[8], 
     return 8;
 }
 
-plain_checked plain_crew_check(const uint64_t arcs[64], const uint32_t demand[512], const uint32_t available[8], const uint32_t *starts, const uint32_t *worked, size_t m) {
+plain_checked plain_crew_check(const uint64_t arcs[64], const uint32_t waits[4096], const uint32_t demand[512], const uint32_t available[8], const uint32_t *starts, const uint32_t *worked, size_t m) {
     for (size_t i = 0; i < m; i++)
         for (size_t j = 0; j < m; j++)
-            if ((arcs[i] >> j & 1) && (uint64_t)starts[i] + worked[i] > starts[j]) return (plain_checked){1, i + 1, j + 1};
+            if ((arcs[i] >> j & 1) && (uint64_t)starts[i] + worked[i] + waits[64 * j + i] > starts[j]) return (plain_checked){1, i + 1, j + 1};
     uint64_t best = 0;
     for (size_t i = 0; i < m; i++) {
         uint64_t t = (uint64_t)starts[i] + 1; // the load rises only where somebody starts

@@ -17,7 +17,9 @@ typedef struct {
 
 // The number of the cause, 0 where the file is readable; its place goes to *place.
 int plain_read(const uint8_t *s, size_t n, plain_plan *p, size_t *place);
+// The waits of a readable file: that on the arc from i to j at 64 * j + i, the longer one where a job arc and an extra arc share the pair, 0 where there is no arc.
+void plain_waits(const uint8_t *s, size_t n, uint32_t waits[4096]);
 void plain_order(const uint64_t arcs[64], uint64_t rows[64]);
-void plain_earliest(const uint64_t arcs[64], const uint32_t duration[64], uint32_t starts[64]);
-plain_checked plain_crew_check(const uint64_t arcs[64], const uint32_t demand[512], const uint32_t available[8], const uint32_t *starts, const uint32_t *worked, size_t m);
+void plain_earliest(const uint64_t arcs[64], const uint32_t duration[64], const uint32_t waits[4096], uint32_t starts[64]);
+plain_checked plain_crew_check(const uint64_t arcs[64], const uint32_t waits[4096], const uint32_t demand[512], const uint32_t available[8], const uint32_t *starts, const uint32_t *worked, size_t m);
 #endif

@@ -79,7 +79,7 @@ inline void put_activities(PlanFile &file, Random &random) {
     }
 }
 
-// About half of the arcs are job arcs, which stand before the extra ones. A pair that stands twice is one of each type.
+// About half of the arcs are job arcs, which stand before the extra ones. A pair that stands twice is one of each type. Two arcs of three have a wait, of up to 999 periods: the verdict reads none.
 inline void put_arcs(PlanFile &file, std::vector<Arc> arcs, Random &random) {
     Rows job{}, extra{};
     const auto first_extra = std::partition(arcs.begin(), arcs.end(), [&](const Arc &arc) {
@@ -89,8 +89,11 @@ inline void put_arcs(PlanFile &file, std::vector<Arc> arcs, Random &random) {
         return in_job;
     });
     uint8_t *record = &file.bytes[(file.count + 1) * RECORD];
-    for (auto arc = arcs.begin(); arc != arcs.end(); ++arc, record += RECORD)
+    for (auto arc = arcs.begin(); arc != arcs.end(); ++arc, record += RECORD) {
+        const uint32_t place = uint32_t(arc - arcs.begin());
         record[0] = arc < first_extra ? 3 : 4, record[1] = uint8_t(arc->first + 1), record[2] = uint8_t(arc->second + 1);
+        put_half(record + 4, place % 3 == 0 ? 0 : 1 + 37 * place % 999);
+    }
 }
 
 // Three plans of four are accepted: each kind has its need available, or up to a sixteenth more. In the fourth, one kind has less than its need.

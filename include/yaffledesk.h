@@ -13,8 +13,14 @@
  * Milestones. An activity of duration 0 in the file is a milestone, and has no demands. It is never at work, so that no flow and no
  * set names it, and it passes order on as any activity does.
  *
- * Arcs. No two job arcs name the same pair, and no two extra arcs do. The same pair may be a job arc and an extra arc, and i to j is
- * another pair than j to i.
+ * Arcs. No two job arcs name the same pair, whatever their waits, and no two extra arcs do. The same pair may be a job arc and an
+ * extra arc, and i to j is another pair than j to i.
+ *
+ * Waits. Bytes 4 and 5 of an arc record of either type are its wait, 0 to 65,535 periods, lowest byte first; byte 3 and bytes 6 to 23
+ * are spare. The arc from i to j is kept where the start of i, its duration and the wait together are at most the start of j. Where a
+ * pair is a job arc and an extra arc, both waits bind: the longer one decides. Earliest starts, crew check and the starts on a crew
+ * sheet go by the waits. Verdict, set, needs, overload record and flow do not read them: plans that differ only in waits get the same
+ * of these, byte for byte.
  *
  * Lent memory. An operation that writes is lent memory as a pointer and a length, and the length counts elements: bytes where
  * the pointer is to uint8_t, numbers where it is to uint32_t. More than needed may be lent. What is written stands at the
@@ -57,7 +63,7 @@ enum {
     YAFFLEDESK_NO_PAGE = 11,          /* page not 1 to the count of pages; rest: that count */
 
     /* The two findings of the crew check. */
-    YAFFLEDESK_BROKEN_ARC = 254,      /* a broken arc; YAFFLEDESK_BROKEN_FROM, _TO */
+    YAFFLEDESK_BROKEN_ARC = 254,      /* a broken arc: one that is not kept with its wait; YAFFLEDESK_BROKEN_FROM, _TO */
     YAFFLEDESK_CREW_OVERLOAD = 255    /* more at work than available; YAFFLEDESK_CREW_KIND, _PERIOD */
 };
 
@@ -109,8 +115,9 @@ uint64_t yaffledesk_set(const uint8_t *plan, size_t len);
  * Never 7. */
 uint64_t yaffledesk_needs(const uint8_t *plan, size_t len, uint32_t *out, size_t out_len);
 
-/* Writes the earliest starts of activities 1 to m and then of the end. 0: how many numbers were written, m + 1. Else the file's
- * numbers, then 9 (needs m + 1 numbers). Never 7. */
+/* Writes the earliest starts of activities 1 to m and then of the end. They are the least with which every arc is kept, with its wait
+ * and the file's durations; the end starts at the largest finish, a start and its duration without any wait. 0: how many numbers were
+ * written, m + 1. Else the file's numbers, then 9 (needs m + 1 numbers). Never 7. */
 uint64_t yaffledesk_starts(const uint8_t *plan, size_t len, uint32_t *out, size_t out_len);
 
 /* Writes the flow of a kind as flow records, ascending by from, then to. 0: how many records were written, possibly none. Else the
@@ -127,10 +134,11 @@ uint64_t yaffledesk_sheet(const uint8_t *plan, size_t len, uint64_t kind, uint64
  * the file's numbers, then 9 (needs 24 bytes, whether the plan is overloaded or not). Never 7. */
 uint64_t yaffledesk_overload(const uint8_t *plan, size_t len, uint8_t *out, size_t out_len);
 
-/* Does a crew that works these starts and durations keep every arc, and fit what is available? Entry i - 1 of each list is activity
- * i's; the durations are those worked, not the file's: 0 of a milestone, 1 or more of every other activity. 0: it fits, rest 0. Else
- * the file's numbers, then 10, then 254 with the first broken arc by from, then to, then 255 with the first overloaded period and its
- * lowest overloaded kind. Never 7. Nothing is written. */
+/* Does a crew that works these starts and durations keep every arc with its wait, and fit what is available? Entry i - 1 of each list is
+ * activity i's; the durations are those worked, not the file's: 0 of a milestone, 1 or more of every other activity. The waits are the
+ * file's and are added to the durations worked; a wait occupies nobody. No sum wraps. 0: it fits, rest 0. Else the file's numbers, then
+ * 10, then 254 with the first broken arc by from, then to, then 255 with the first overloaded period and its lowest overloaded kind.
+ * Never 7. Nothing is written. */
 uint64_t yaffledesk_crew_check(const uint8_t *plan, size_t len, const uint32_t *starts, size_t starts_len,
                                const uint32_t *durations, size_t durations_len);
 
@@ -194,8 +202,8 @@ static inline int yaffledesk_has(uint64_t set, unsigned i) {
  *     first line   1-4: KIND   6: kind   8-10: page
  *     record       1-3: from   5-7: to   9-16: units   18-27: when the receiver starts
  *
- * The start of a receiver is what yaffledesk_starts gives of it, the end included. The lines ascend by that start, then by from, then
- * by to. A page has 59 records before the next begins; a sheet without any has one page. The added mark is not printed. */
+ * The start of a receiver is what yaffledesk_starts gives of it, waits and all, the end included. The lines ascend by that start, then
+ * by from, then by to. A page has 59 records before the next begins; a sheet without any has one page. The added mark is not printed. */
 
 #ifdef __cplusplus
 }

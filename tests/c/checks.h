@@ -17,6 +17,7 @@ void refusals(void);
 void results(void);
 void milestones(void);
 void repeats(void);
+void waits(void);
 
 // Counts one check, and prints a line where it fails.
 extern unsigned passed, failed;

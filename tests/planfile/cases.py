@@ -48,8 +48,8 @@ def crew(available):
     return struct.pack("<BB2x8H4x", 2, len(available), *available, *[0] * (8 - len(available)))
 
 
-def arc(kind, i, j):
-    return struct.pack("<BBB21x", kind, i, j)
+def arc(kind, i, j, wait=0):
+    return struct.pack("<BBBxH18x", kind, i, j, wait)
 
 
 def random_plan(chance):
@@ -67,8 +67,10 @@ def random_plan(chance):
     content += crew(available)
     for _ in range(chance.randrange(12)):
         kind, i, j = chance.choice([3, 4]), chance.randrange(256), chance.randrange(256)
-        lines.append(f"{'job' if kind == 3 else 'extra'} {i} -> {j}")
-        content += arc(kind, i, j)
+        wait = chance.choice([0, 0, 1, 255, 256, 65535, chance.randrange(65536)])
+        written = f" wait {wait}" if wait or chance.random() < 0.1 else ""
+        lines.append(f"{'job' if kind == 3 else 'extra'} {i} -> {j}{written}")
+        content += arc(kind, i, j, wait)
     order = list(range(len(lines)))
     if chance.random() < 0.5:
         chance.shuffle(order)
@@ -93,15 +95,27 @@ def round_trips(tool, chance):
     pasted, content = "job 1 -> 2\njob 2 -> 3\njob 1 -> 2\nextra 1 -> 2\nextra 1 -> 2\n", arc(3, 1, 2) + arc(3, 2, 3) + arc(3, 1, 2) + 2 * arc(4, 1, 2)
     check(tool.pack(pasted, "x") == content, "an arc that is written twice is packed twice")
     check(same(tool, content, "repeated arcs") == pasted, "repeated arcs are shown as they stand")
+    every_wait(tool)
     for _ in range(300):
         same(tool, chance.randbytes(24 * chance.randrange(5)), "random records")
         same(tool, chance.randbytes(chance.randrange(100)), "random bytes")
         same(tool, bytes([chance.randrange(6)]) + chance.randbytes(23), "a random record of a known type")
-    plain = [activity(1, 3, [2]), activity(1, 0, []), crew([4, 0]), arc(3, 1, 2), arc(4, 2, 1), bytes(24), bytes([255]) * 24]
+    plain = [activity(1, 3, [2]), activity(1, 0, []), crew([4, 0]), arc(3, 1, 2), arc(4, 2, 1), arc(3, 1, 2, 258), bytes(24), bytes([255]) * 24]
     for record in plain:
         for place in range(24):
             for value in (0, 1, 9, 255):
                 same(tool, record[:place] + bytes([value]) + record[place + 1 :], "one byte changed")
+
+
+def every_wait(tool):
+    """No wait is a wait of 0, and is shown so; every other wait is shown and packed as it is."""
+    for kind, word in ((3, "job"), (4, "extra")):
+        for text in (f"{word} 1 -> 2", f"{word} 1 -> 2 wait 0", f"{word} 1->2 wait 000"):
+            check(tool.pack(text, "x") == arc(kind, 1, 2), f"{text} is an arc of wait 0")
+        text = f"{word} 1 -> 2\n" + "".join(f"{word} 1 -> 2 wait {wait}\n" for wait in range(1, 65536))
+        content = b"".join(arc(kind, 1, 2, wait) for wait in range(65536))
+        check(tool.pack(text, "x") == content, f"{word}: every wait is packed")
+        check(tool.show(content, "x") == (text, None), f"{word}: every wait is shown")
 
 
 def shown(tool):
@@ -118,15 +132,23 @@ def shown(tool):
         (crew([]), "crew\n"),
         (crew([4, 0, 0]), "crew 4 0 0\n"),
         (arc(3, 0, 255) + arc(4, 2, 2), "job 0 -> 255\nextra 2 -> 2\n"),
+        (b"\x03\x01\x02\0\x02\x01" + bytes(18), "job 1 -> 2 wait 258\n"),
+        (b"\x04\x01\x02\0\x01\0" + bytes(18) + b"\x04\x02\x03\0\0\x01" + bytes(18), "extra 1 -> 2 wait 1\nextra 2 -> 3 wait 256\n"),
+        (arc(3, 1, 2, 65535) + arc(4, 1, 2, 7), "job 1 -> 2 wait 65535\nextra 1 -> 2 wait 7\n"),
         (b"\x02\x09" + bytes(22), "record 0209" + "00" * 22 + "\n"),
         (b"\x02\x00\0\0\x01" + bytes(19), "record 0200000001" + "00" * 19 + "\n"),
         (b"\x03\x01\x02\x01" + bytes(20), "record 03010201" + "00" * 20 + "\n"),
+        (b"\x04\x01\x02\x01\x05" + bytes(19), "record 0401020105" + "00" * 19 + "\n"),
+        (b"\x04\x01\x02\0\x05\0\x01" + bytes(17), "record 04010200050001" + "00" * 17 + "\n"),
+        (b"\x03\x01\x02\0\x05" + bytes(18) + b"\x01", "record 0301020005" + "00" * 18 + "01\n"),
         (bytes(24), "record " + "00" * 24 + "\n"),
         (bytes(24) + b"\xab", "record " + "00" * 24 + "\nrest ab\n"),
     ]:
         check(tool.show(content, "x")[0] == text, f"{content.hex()} is shown as {tool.show(content, 'x')[0]!r}")
 
 
+JOB_FORM = "an arc is written 'job FROM -> TO' or 'job FROM -> TO wait PERIODS'"
+EXTRA_FORM = "an arc is written 'extra FROM -> TO' or 'extra FROM -> TO wait PERIODS'"
 LINE_FAULTS = [
     ("plan 1", "a line begins with activity, milestone, crew, job, extra, record, rest, not 'plan'"),
     ("activity 1", "an activity is written 'activity NUMBER duration PERIODS demands NUMBER ..'"),
@@ -148,8 +170,26 @@ LINE_FAULTS = [
     ("crew 65536", "each of the availabilities is 0 to 65535, not 65536"),
     ("crew " + "9" * 5000, "each of the availabilities is 0 to 65535, not " + "9" * 5000),
     ("crew 1 1 1 1 1 1 1 1 1", "at most 8 availabilities, not 9"),
-    ("job 1 2", "an arc is written 'job FROM -> TO'"),
-    ("extra 1 -> 2 -> 3", "an arc is written 'extra FROM -> TO'"),
+    ("job 1 2", JOB_FORM),
+    ("extra 1 -> 2 -> 3", EXTRA_FORM),
+    ("job 1 wait 3", JOB_FORM),
+    ("job wait 3", JOB_FORM),
+    ("job 1 -> 2 3", JOB_FORM),
+    ("job 1 -> 2 wait", JOB_FORM),
+    ("job 1 -> 2 wait 3 4", JOB_FORM),
+    ("job 1 -> 2 wait 3 periods", JOB_FORM),
+    ("job wait 3 1 -> 2", JOB_FORM),
+    ("extra 1 -> 2 Wait 3", EXTRA_FORM),
+    ("extra 1 -> 2 lag 3", EXTRA_FORM),
+    ("extra 1 -> 2 wait -> 3", EXTRA_FORM),
+    ("extra 1 -> 2 wait 3 wait 3", EXTRA_FORM),
+    ("job 1 -> 2 wait 65536", "a wait is 0 to 65535, not 65536"),
+    ("extra 1 -> 2 wait " + "9" * 5000, "a wait is 0 to 65535, not " + "9" * 5000),
+    ("extra 1 -> 2 wait -1", "a wait is a number, not '-1'"),
+    ("job 1 -> 2 wait +3", "a wait is a number, not '+3'"),
+    ("job 1 -> 2 wait 1.5", "a wait is a number, not '1.5'"),
+    ("extra 1 -> 2 wait long", "a wait is a number, not 'long'"),
+    ("extra 1 -> 256 wait 3", "an arc's end is 0 to 255, not 256"),
     ("extra 1 -> 256", "an arc's end is 0 to 255, not 256"),
     ("job x -> 2", "an arc's end is a number, not 'x'"),
     ("record 00", "'record' takes 48 hexadecimal digits, not 2"),
@@ -204,7 +244,7 @@ def lengths(folder):
 def examples(folder):
     texts, plans = sorted(EXAMPLES.glob("*.txt")), sorted(EXAMPLES.glob("*.plan"))
     names = {path.stem for path in texts}
-    check(names >= {"a", "b", "c", "d", "e", "e_job", "f", "f5", "handed_back", "pasted"}, f"examples are missing: {sorted(names)}")
+    check(names >= {"a", "b", "c", "d", "e", "e_job", "f", "f5", "cured", "handed_back", "pasted"}, f"examples are missing: {sorted(names)}")
     check(names == {path.stem for path in plans}, "each text in examples/ has its plan, and each plan its text")
     for text in texts:
         plan, made = text.with_suffix(".plan"), folder / "made.plan"

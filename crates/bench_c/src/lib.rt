@@ -8,8 +8,10 @@ ghost use Rattle.order.specs.Stored.{elements, numberOf as setNumber};
 ghost use Rattle.order.specs.Orders.{afterRows, Direct, orderIn, joinedRows};
 ghost use Rattle.records.specs.Records.{startingWith};
 ghost use Rattle.crew_sheet.specs.Sheet.{pageBytes, pagesOf, sheetPage, mostLines};
+ghost use Rattle.plan.specs.Meaning.{Readable};
 ghost use Rattle.plan.specs.model.Reads.{readOf};
-ghost use Rattle.schedule.specs.model.Arrays.{byDuration, startsOf, AllAtMost, Listed, crewNet, workOf};
+ghost use Rattle.plan.specs.model.Waits.{waitTable};
+ghost use Rattle.schedule.specs.model.Arrays.{withWaits, startsOf, AllAtMost, Listed, crewNet, workOf};
 ghost use Rattle.schedule.specs.Checks.{checkOf};
 ghost use Rattle.bench_c.specs.Numbers.{numberOf};
 ghost use Rattle.solver.specs.model.Solve.{ranked};
@@ -96,6 +98,17 @@ pub extern "C" fn yaffledesk_bench_read(
     q.count
 }
 
+// The waits of a readable file's arcs: that of the arc from i to j stands at ELEMENTS * j + i.
+#[no_mangle]
+pub extern "C" fn yaffledesk_bench_waits(s: &[u8], waits: &mut [u32; ELEMENTS * ELEMENTS])
+    requires { ⌜ Readable (now s) ⌝ }
+    ensures { λ _. ⌜ now (waits .exit) ≡ waitTable (now (s .entry)) ⌝ }
+{
+    let blank = [0u32; ELEMENTS * ELEMENTS];
+    *waits = blank;
+    plan::store_waits(s, waits);
+}
+
 // The job order and the plan order of two tables of arcs, as opening a plan finds them.
 #[no_mangle]
 pub extern "C" fn yaffledesk_bench_orders(job: &Rows, extra: &Rows, jobs: &mut Rows, all: &mut Rows)
@@ -110,17 +123,18 @@ pub extern "C" fn yaffledesk_bench_orders(job: &Rows, extra: &Rows, jobs: &mut R
     *all = p;
 }
 
-// The earliest starts over arcs without a circle, with durations of at most 65,535.
+// The earliest starts over arcs without a circle, with durations and waits of at most 65,535. The wait on the arc from i to j stands at ELEMENTS * j + i.
 #[no_mangle]
 pub extern "C" fn yaffledesk_bench_earliest(
     arcs: &Rows,
     duration: &[u32; ELEMENTS],
+    waits: &[u32; ELEMENTS * ELEMENTS],
     starts: &mut [u32; ELEMENTS],
 )
-    requires { ⌜ Acyclic (Direct (now arcs)) × AllAtMost 65535 (now duration) ⌝ }
-    ensures { λ _. ⌜ now (starts .exit) ≡ startsOf (now (arcs .entry)) (byDuration (now (duration .entry))) ⌝ }
+    requires { ⌜ Acyclic (Direct (now arcs)) × AllAtMost 65535 (now duration) × AllAtMost 65535 (now waits) ⌝ }
+    ensures { λ _. ⌜ now (starts .exit) ≡ startsOf (now (arcs .entry)) (withWaits (now (duration .entry)) (now (waits .entry))) ⌝ }
 {
-    let s = schedule::earliest(arcs, duration);
+    let s = schedule::earliest(arcs, duration, waits);
     *starts = s;
 }
 
@@ -128,15 +142,16 @@ pub extern "C" fn yaffledesk_bench_earliest(
 #[no_mangle]
 pub extern "C" fn yaffledesk_bench_crew_check(
     arcs: &Rows,
+    waits: &[u32; ELEMENTS * ELEMENTS],
     demand: &[u32; 8 * ELEMENTS],
     available: &[u32; 8],
     starts: &[u32],
     worked: &[u32],
 ) -> u64
     requires { ⌜ Listed (now starts) (now worked) ⌝ }
-    ensures { λ r. ⌜ r ≡ numberOf (checkOf (crewNet (now (arcs .entry)) (byDuration (now (worked .entry))) (now (starts .entry))) (workOf (now (demand .entry)) (now (available .entry)) (now (starts .entry)) (now (worked .entry)))) ⌝ }
+    ensures { λ r. ⌜ r ≡ numberOf (checkOf (crewNet (now (arcs .entry)) (withWaits (now (worked .entry)) (now (waits .entry))) (now (starts .entry))) (workOf (now (demand .entry)) (now (available .entry)) (now (starts .entry)) (now (worked .entry)))) ⌝ }
 {
-    number(schedule::crew_check(arcs, demand, available, starts, worked))
+    number(schedule::crew_check(arcs, waits, demand, available, starts, worked))
 }
 
 fn number(c: Checked) -> u64

@@ -1,5 +1,5 @@
--- Laws of the definitions of `specs/`. Callers cite Said, Refused, Milestones and RepeatedArcs, and `readable-is` of Refusals; the proofs of the code cite ReaderLoops, `looked-up` of
--- RepeatedArcs and `file-read` of Phases; the others lead up to these.
+-- Laws of the definitions of `specs/`. Callers cite Said, Refused, Milestones, RepeatedArcs and Differing (files that differ only in waits are read alike), and `readable-is` of
+-- Refusals; the proofs of the code cite ReaderLoops, `looked-up` of RepeatedArcs and `file-read` of Phases; the others lead up to these.
 pub mod Refusals
 pub mod Places
 pub mod RecordRules
@@ -15,3 +15,5 @@ pub mod Refused
 pub mod CausePlaces
 pub mod Milestones
 pub mod RepeatedArcs
+pub mod Waits
+pub mod Differing

@@ -31,7 +31,7 @@ use Rattle.plan.proofs.Parts.{Faultless, faultless, crew-missing, crew-
 
 -- ---- an answer, and the plan that stands beside it
 
-abbrev outcome : Answer → Plan → Reading
+abbrev pub outcome : Answer → Plan → Reading
 outcome a q = record { plan = cond (isReadable a) q emptyPlan; answer = a }
 
 unless-outcome : (a b : Answer) (q : Plan) → unlessRefused a (outcome b q) ≡ outcome (followedBy a b) q
@@ -42,7 +42,7 @@ unless-cong : (a : Answer) {x y : Reading} → (isReadable a ≡ true → x ≡ 
 unless-cong Readable h = h refl
 unless-cong (Refused c) h = refl
 
-outcome-cong : (a : Answer) {p q : Plan} → (isReadable a ≡ true → p ≡ q) → outcome a p ≡ outcome a q
+pub outcome-cong : (a : Answer) {p q : Plan} → (isReadable a ≡ true → p ≡ q) → outcome a p ≡ outcome a q
 outcome-cong Readable h = ap (outcome Readable) (h refl)
 outcome-cong (Refused c) h = refl
 

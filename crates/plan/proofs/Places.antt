@@ -1,5 +1,5 @@
 -- Where the records stand: the leading records of a type, and the record of a part of the file. Assumes nothing.
-use mathlib.Core.Path.{_≡_, refl, sym, ap, _∙_}
+use mathlib.Core.Path.{_≡_, refl, sym, ap, ap₂, _∙_}
 use mathlib.Core.Bool.{Bool, true, false, cond}
 use mathlib.Core.List.{List}
 use Prim.Native.Nat.{ℕ, zero, suc, _+_, _-_, _*_, _≤_, _<_}
@@ -62,3 +62,11 @@ leading-ends type (suc n) t h = go (eqb (byte t 0) type) refl (leading-ends type
         let z : 24 + 24 * l ≡ 24 * suc l = omega arith in
         ih (omega arith) (ap (λ (u : List ℕ). byte u 0) (drop-drop (24 * l) 24 t) ∙ ap (λ (x : ℕ). byte (drop x t) 0) z ∙ q)
     go false e ih h q = eqb-false (byte t 0) type e q
+
+-- how many there are goes by the first bytes alone
+pub leading-same : (type n : ℕ) (t u : List ℕ) → ((i : ℕ) → byte (recordAt t i) 0 ≡ byte (recordAt u i) 0) → leading type n t ≡ leading type n u
+unfolding leading
+leading-same type zero t u same = refl
+leading-same type (suc n) t u same =
+    let rest = leading-same type n (drop 24 t) (drop 24 u) (λ i. rw (record-on t 1 i, record-on u 1 i) (same (1 + i))) in
+    ap₂ (λ (b m : ℕ). cond (eqb b type) (suc m) 0) (same 0) rest

@@ -5,12 +5,12 @@ use mathlib.Core.List.{List}
 use mathlib.Core.Logic.{_≢_}
 use Prim.Native.Nat.{ℕ, zero, suc, _+_, _-_, _*_, _≤_, _<_}
 use native.Mathlib.Omega.{arith}
-use lib.ListN.{getD, take}
+use lib.ListN.{getD, take, length-take, List·getD-eq-default}
 use lib.Seq.{slice, getD-take, getD-drop}
 use lib.Dec.{eqb, leb, ltb}
 use borrow.Author.Tests.{ltb-true, ltb-false, leb-true, eqb-true, eqb-false, eq-eqb, lt-ltb, le-ltb, ne-eqb, not-false}
-use Rattle.words.proofs.Tests.{and-left, and-right, cond-true, cond-false, cond-has}
-use Rattle.records.proofs.Zeros.{all-zero}
+use Rattle.words.proofs.Tests.{by-test, test-same, and-left, and-right, cond-true, cond-false, cond-has}
+use Rattle.records.proofs.Zeros.{all-zero, zeros-of}
 use Rattle.records.specs.Bytes.{byte, zeros}
 use Rattle.order.specs.Stored.{elements}
 use Rattle.plan.specs.declared.Answer.{Answer}
@@ -29,6 +29,24 @@ zeros-mean l a b i e lo hi =
     ∙ ap (λ (x : ℕ). getD (take b l) x 0) (sym q)
     ∙ sym (getD-drop a (take b l) (i - a) 0)
     ∙ all-zero (slice a b l) e (i - a)
+
+-- and the other way round; past the end there is nothing to look at
+zeros-meant : (l : List ℕ) (a b : ℕ) → ((i : ℕ) → a ≤ i → i < b → getD l i 0 ≡ 0) → zeros (slice a b l) ≡ true
+zeros-meant l a b h =
+    zeros-of (slice a b l)
+    (λ i.
+    getD-drop a (take b l) i 0
+    ∙ by-test (ltb (a + i) b)
+    (λ t. getD-take b l (a + i) 0 (ltb-true (a + i) b t) ∙ h (a + i) (omega arith) (ltb-true (a + i) b t))
+    (λ t. List·getD-eq-default (take b l) 0 (omega (arith, length-take b l, ltb-false (a + i) b t))))
+
+-- so the test goes by the bytes alone
+pub zeros-same : (q r : List ℕ) (a b : ℕ) → ((i : ℕ) → a ≤ i → i < b → byte q i ≡ byte r i) → zeros (slice a b q) ≡ zeros (slice a b r)
+zeros-same q r a b same =
+    test-same (zeros (slice a b q)) (zeros (slice a b r)) (
+      (λ e. zeros-meant r a b (λ i lo hi. sym (same i lo hi) ∙ zeros-mean q a b i e lo hi)),
+      (λ e. zeros-meant q a b (λ i lo hi. same i lo hi ∙ zeros-mean r a b i e lo hi)),
+    )
 
 -- ---- a chain of rules with no cause: the last rule is kept, and the chain before it has no cause
 
@@ -66,6 +84,10 @@ pub rule-cong : (answer : Answer) {a b : Bool} (cause : Cause) → (isReadable a
 unfolding rule
 rule-cong Readable cause h = ap (λ (x : Bool). rule Readable x cause) (h refl)
 rule-cong (Refused c) cause h = refl
+
+-- and so in a chain, where those before it say the same
+pub rule-same : {answer other : Answer} {a b : Bool} (cause : Cause) → answer ≡ other → (isReadable answer ≡ true → a ≡ b) → rule answer a cause ≡ rule other b cause
+rule-same {answer} {other} {a} {b} cause e h = rule-cong answer cause h ∙ ap (λ (x : Answer). rule x b cause) e
 
 -- what holds of the cause of an answer, if it has one, and of the cause of the next rule, where that is the one broken, holds after it
 abbrev pub Holds : (Cause → Type 0) → Answer → Type 0

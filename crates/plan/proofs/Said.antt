@@ -109,13 +109,13 @@ module _ (s t : List ℕ) (e : Readable s) (f : Readable t) (count : activityCou
 
 -- ---- how large the numbers are, where each byte is below 256
 
-field-small : (s : List ℕ) → AreBytes s → (p i : ℕ) → field (recordAt s p) i 2 ≤ 65535
+pub field-small : (s : List ℕ) → AreBytes s → (p i : ℕ) → field (recordAt s p) i 2 ≤ 65535
 unfolding field
 field-small s small p i =
     omega (arith, getD-drop (24 * p) s i 0, small (24 * p + i), getD-drop (24 * p) s (i + 1) 0, small (24 * p + (i + 1)))
 
 -- elements that are at most b; past the end there is 0
-table-least : (n b : ℕ) (f : ℕ → ℕ) → ((x : ℕ) → f x ≤ b) → (i : ℕ) → getD (table n f) i 0 ≤ b
+pub table-least : (n b : ℕ) (f : ℕ → ℕ) → ((x : ℕ) → f x ≤ b) → (i : ℕ) → getD (table n f) i 0 ≤ b
 table-least n b f h i =
     by-test (ltb i n)
     (λ t. rw (getD-table n f i 0 (ltb-true i n t)) (h i))

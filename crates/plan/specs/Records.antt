@@ -79,8 +79,12 @@ isEnd m i = ltb 0 i && leb i m
 unfoldable pub arcFields : ℕ → List ℕ → Bool
 arcFields m r = isEnd m (byte r 1) && (isEnd m (byte r 2) && not (eqb (byte r 1) (byte r 2)))
 
+-- "Bytes 4–5 of both arc records become a wait of 0 to 65,535 periods, so 4 covers the other spare bytes only." (02, change 5)
+abbrev pub waitIn : List ℕ → ℕ
+waitIn r = field r 4 2
+
 abbrev pub arcSpare : List ℕ → Bool
-arcSpare r = zeros (slice 3 24 r)
+arcSpare r = zeros (slice 3 4 r) && zeros (slice 6 24 r)
 
 -- two records of one type name one pair, from and to
 abbrev pub samePair : List ℕ → List ℕ → Bool

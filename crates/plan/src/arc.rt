@@ -6,7 +6,7 @@ ghost use lib.ListN.{length, replicate};
 ghost use Rattle.words.specs.model.Loops.{upto};
 ghost use Rattle.order.specs.Stored.{elements, cells};
 ghost use Rattle.plan.specs.declared.Cause.the-variants.{RepeatedArc};
-ghost use Rattle.plan.specs.Records.{isEnd, arcFields};
+ghost use Rattle.plan.specs.Records.{isEnd, arcFields, arcSpare};
 ghost use Rattle.plan.specs.model.ArcRows.{ArcRecord, withArc, hasArc, arcsAfter};
 ghost use Rattle.plan.specs.Causes.{rule, arcCause, isReadable};
 ghost use Rattle.plan.specs.model.Phases.{putArc, arcsCause, arcsFine};
@@ -43,13 +43,24 @@ fn arc_fields(m: usize, r: &[u8]) -> bool
     i != j
 }
 
+// Whether an arc record's spare bytes are zero. (Bytes 4-5 are its wait.)
+fn arc_spare(r: &[u8]) -> bool
+    requires { ⌜ 24 ≤ length (now r) ⌝ }
+    ensures { λ b. ⌜ b ≡ arcSpare (now (r .entry)) ⌝ }
+{
+    if !all_zero(r, 3, 4) {
+        return false;
+    }
+    all_zero(r, 6, 24)
+}
+
 fn arc_cause(m: usize, r: &[u8], of: u8, place: usize) -> Answer
     requires { ⌜ 24 ≤ length (now r) ⌝ }
     ensures { λ a. ⌜ a ≡ arcCause of place m (now (r .entry)) ⌝ }
 {
     let typed = rule(Answer::Readable, r[0] == of, Cause::RecordType(place));
     let fields = rule(typed, arc_fields(m, r), Cause::Field(place));
-    rule(fields, all_zero(r, 3, 24), Cause::Spare(place))
+    rule(fields, arc_spare(r), Cause::Spare(place))
 }
 
 // Whether the rows have the arc of a record.

@@ -47,7 +47,7 @@ pub fn refusal(answer: Answer) -> Reading
 }
 
 // How many of the first n records have a type, up to the first that has another.
-fn leading_records(s: &[u8], of: u8, n: usize) -> usize
+pub fn leading_records(s: &[u8], of: u8, n: usize) -> usize
     requires { ⌜ 24 * n ≤ length (now s) ⌝ }
     ensures { λ k. ⌜ k ≡ leading of n (now (s .entry)) ⌝ }
     ensures { λ k. ⌜ k ≤ n ⌝ }

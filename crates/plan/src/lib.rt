@@ -6,6 +6,7 @@ mod crew;
 mod field;
 mod file;
 mod numbers;
+mod wait;
 
 ghost use mathlib.Core.Path.{_≡_};
 ghost use Rattle.plan.specs.model.Reads.{readOf};
@@ -15,6 +16,7 @@ use file::refusal;
 pub use numbers::told_by;
 use order::ELEMENTS;
 use order::Rows;
+pub use wait::store_waits;
 
 // How many activities a file may have. (The format's own limit: there may be more elements.)
 pub const ACTIVITIES: usize = 64;

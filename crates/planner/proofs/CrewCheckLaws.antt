@@ -35,7 +35,7 @@ use Rattle.planner.specs.declared.open.Opened.{Opened}
 use Rattle.planner.specs.declared.CrewChecked.the-variants.{Found}
 use Rattle.planner.proofs.FaultLaws.{cause-fine}
 use Rattle.planner.proofs.OutputLaws.{Ends}
-use Rattle.planner.proofs.OpenLaws.{said-in, count-few}
+use Rattle.planner.proofs.OpenLaws.{said-in, opens-readable, count-few}
 
 -- ---- the lists
 
@@ -130,10 +130,11 @@ module _ (s starts worked : List ℕ) {o : Opened} (held : o ≡ openedOf s) whe
   unfolding crewCheckFault
   ends lists found test = record { fault = rw (found, lists, held); test = test }
 
-  pub listed : isFine (crewCheckFault s starts worked) ≡ true → Listed starts worked
-  listed e =
+  -- what looking for a broken arc and an overload asks
+  pub looks : isFine (crewCheckFault s starts worked) ≡ true → Readable s × Listed starts worked
+  looks e =
       let w = crew-fine s starts worked e in
-      record { few = omega (arith, w .1, count-few s); paired = w .2 ∙ sym (w .1) }
+      (opens-readable s (w .0), record { few = omega (arith, w .1, count-few s); paired = w .2 ∙ sym (w .1) })
 
   -- beside a fault it does not matter what was found
   pub answered : {f : Fault} {b : Bool} (x : Checked) {r : CrewChecked} → Ends (crewCheckFault s starts worked) f b → r ≡ checkedOf f x

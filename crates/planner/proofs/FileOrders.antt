@@ -1,5 +1,5 @@
 -- What the definitions of the operations mean, in the file's own terms: the arcs, the two orders, the starts. Assumes nothing.
-use mathlib.Core.Path.{_≡_, refl, sym}
+use mathlib.Core.Path.{_≡_, sym}
 use mathlib.Core.List.{List}
 use mathlib.Core.Logic.{⊎-elim, _↔_, Iff·rfl, Iff·trans}
 use Prim.Native.Nat.{ℕ, _≤_, _<_, _+_}
@@ -20,7 +20,7 @@ use Rattle.schedule.proofs.Starts as earliest
 use Rattle.plan.specs.Meaning.{Readable, JobArc, ExtraArc, FileArc, fileDuration}
 use Rattle.planner.specs.Open.{planIn, rowsOf, jobOrder, planOrder, Opens}
 use Rattle.planner.specs.Starts.{firstStarts, endStart}
-use Rattle.planner.specs.Times.{arcWeight, KeepsArcs}
+use Rattle.planner.specs.Times.{arcWeight, KeepsArcs, NoWaits}
 use Rattle.planner.proofs.OpenLaws.{said-in, opens-readable, opens-plan}
 
 -- ---- the arcs of the rows are the arcs of the file
@@ -55,7 +55,7 @@ opens-acyclic s o i b = opens-plan s o i (before-same (plan-arcs s (opens-readab
 pub opens-strict : (s : List ℕ) → Opens s → StrictOrder elements (isBefore (planOrder s))
 opens-strict s o = order-strict (plan-order s (opens-readable s o)) (opens-acyclic s o)
 
--- ---- THE STARTS: the least that keep every arc of the file with the file's durations. So is whatever starts the m activities as they do.
+-- ---- THE STARTS: the least that keep every arc of the file with the file's durations and waits. So is whatever starts the m activities as they do.
 
 module _ (s : List ℕ) (o : Opens s) (x : ℕ → ℕ) (same : (i : ℕ) → i < planIn s .count → x i ≡ at (firstStarts s) i) where
   readable : Readable s
@@ -90,13 +90,13 @@ module _ (s : List ℕ) (o : Opens s) (x : ℕ → ℕ) (same : (i : ℕ) → i 
           let f = plan-arcs s readable a b .0 d in
           omega (arith, k a b f, said-in s readable .duration a (arc-ends s readable a b f .0))
 
-  -- EACH STARTS AT THE LARGEST FINISH OF THOSE BEFORE IT, OR AT 0
-  pub starts-largest : (j : ℕ) → j < planIn s .count → LargestOr0 (FinishOf (λ i. Before (FileArc s) i j) x (fileDuration s)) (x j)
-  starts-largest j h =
+  -- WHERE EVERY WAIT IS 0, EACH STARTS AT THE LARGEST FINISH OF THOSE BEFORE IT, OR AT 0
+  pub starts-largest : NoWaits s → (j : ℕ) → j < planIn s .count → LargestOr0 (FinishOf (λ i. Before (FileArc s) i j) x (fileDuration s)) (x j)
+  starts-largest none j h =
       let before = before-same (plan-arcs s readable) in
       earliest.largest-same (sym (same j h)) (λ i. before i j)
       (λ i b. finish i (before-within (planIn s .count) (arc-ends s readable) (before i j .0 b) .0))
-      (arrays.starts-largest (rowsOf s) weight (at (planIn s .duration)) (λ i k. refl) (opens-plan s o) j (omega (arith, said-in s readable .few)))
+      (arrays.starts-largest (rowsOf s) weight (at (planIn s .duration)) (λ i k. omega (arith, none i k)) (opens-plan s o) j (omega (arith, said-in s readable .few)))
 
   -- THE END STARTS AT THE LARGEST FINISH OF ALL, OR AT 0
   pub end-largest : (e : ℕ) → e ≡ endStart s → LargestOr0 (FinishOf (λ i. i < planIn s .count) x (fileDuration s)) e

@@ -9,6 +9,7 @@ pub mod OutputLaws
 pub mod OpenLaws
 pub mod StartsLaws
 pub mod CrewCheckLaws
+pub mod TimesLaws
 pub mod FileOrders
 pub mod QuotedNeeds
 pub mod FlowUnits

@@ -14,6 +14,7 @@ use Rattle.records.specs.Bytes.{AreBytes}
 use Rattle.records.specs.Records.{startingWith}
 use Rattle.crew_sheet.specs.Sheet.{pageBytes, pagesOf, sheetPage, mostLines}
 use Rattle.crew_sheet.proofs.Fronts.{page-front}
+use Rattle.plan.specs.Meaning.{Readable}
 use Rattle.schedule.specs.model.Arrays.{AllAtMost}
 use Rattle.kinds.specs.model.Writing.{lent}
 use Rattle.planner.specs.Faults.{isFine, orCause}
@@ -34,7 +35,7 @@ use Rattle.planner.specs.declared.Output.{Output}
 use Rattle.planner.specs.declared.open.Opened.{Opened}
 use Rattle.planner.proofs.FaultLaws.{fine-is, cause-fine, cause-kept}
 use Rattle.planner.proofs.OutputLaws.{Ends, stops}
-use Rattle.planner.proofs.OpenLaws.{count-few, count-within, opens-plan, opens-small}
+use Rattle.planner.proofs.OpenLaws.{count-few, count-within, opens-readable, opens-plan, opens-small}
 use Rattle.planner.proofs.StartsLaws.{length-numbers}
 use Rattle.planner.proofs.FlowUnits.{length-few, records-length}
 use Rattle.planner.proofs.FlowLaws.{kind-within, kind-fine, fine-flow, records-few, flow-asked, written}
@@ -68,7 +69,7 @@ zeros-left k zero = ap (λ (x : ℕ). replicate x 0) (let e : k ≡ k - 0 = omeg
 zeros-left zero (suc n) = ap (λ (x : ℕ). replicate x 0) (let e : 0 ≡ 0 - suc n = omega arith in e)
 zeros-left (suc k) (suc n) = zeros-left k n ∙ ap (λ (x : ℕ). replicate x 0) (let e : k - n ≡ suc k - suc n = omega arith in e)
 
-pub starts-room : (s : List ℕ) → startsIn (rowsOf s) (planIn s) ≡ startNumbers s ++ replicate (elements + 1 - needed s) 0
+pub starts-room : (s : List ℕ) → startsIn s (rowsOf s) (planIn s) ≡ startNumbers s ++ replicate (elements + 1 - needed s) 0
 unfolding startNumbers
 starts-room s =
     over-all (needed s) (startNumbers s) (replicate (elements + 1) 0) (length-numbers s)
@@ -90,8 +91,8 @@ module _ (s : List ℕ) (kind page : ℕ) (out : List ℕ) where
     pub counts : 1 ≤ kind
     counts = kind-within kind (planIn s .kinds) (goes .1) .0
 
-    pub starts-asked : (o .plan .count ≤ elements) × Acyclic (Direct (o .rows)) × AllAtMost 65535 (o .plan .duration)
-    starts-asked = rw held (count-few s, opens-plan s (goes .0), opens-small s bytes (goes .0))
+    pub starts-asked : (o .plan .count ≤ elements) × Readable s × Acyclic (Direct (o .rows)) × AllAtMost 65535 (o .plan .duration)
+    starts-asked = rw held (count-few s, opens-readable s (goes .0), opens-plan s (goes .0), opens-small s bytes (goes .0))
 
     -- the room for the records of any flow
     abbrev room : List ℕ
@@ -107,7 +108,7 @@ module _ (s : List ℕ) (kind page : ℕ) (out : List ℕ) where
     records-asked = flow-asked s kind room bytes held flows
 
     -- `n` records are in `records`, the starts in `starts`
-    module _ {n : ℕ} {records starts : List ℕ} (put : lent n records ≡ flowPut (o .order) (o .plan) (kind - 1) room) (begin : starts ≡ startsIn (o .rows) (o .plan)) where
+    module _ {n : ℕ} {records starts : List ℕ} (put : lent n records ≡ flowPut (o .order) (o .plan) (kind - 1) room) (begin : starts ≡ startsIn s (o .rows) (o .plan)) where
       has : (n ≡ flowCount (planIn s) (kind - 1)) × (records ≡ startingWith (recordBytes (planIn s) (kind - 1)) room)
       has = written s kind room bytes held flows put
 

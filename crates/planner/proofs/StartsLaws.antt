@@ -14,10 +14,10 @@ use Rattle.words.proofs.Tests.{by-test, cond-true, cond-false}
 use Rattle.records.specs.Bytes.{AreBytes}
 use Rattle.order.specs.Before.{Acyclic}
 use Rattle.order.specs.Orders.{Direct}
+use Rattle.plan.specs.Meaning.{Readable}
 use Rattle.schedule.specs.Starts.{endOf}
 use Rattle.schedule.specs.model.Arrays.{byDuration, startsOf, AllAtMost, FinishesFit}
 use Rattle.schedule.specs.Lists.{at}
-use Rattle.schedule.proofs.Arrays.{starts-fit}
 use Rattle.schedule.proofs.Starts.{end-largest}
 use Rattle.planner.specs.Faults.{isFine, orShort}
 use Rattle.planner.specs.Open.{planIn, rowsOf, faultOf, Opens}
@@ -26,8 +26,10 @@ use Rattle.planner.specs.model.Opening.{openedOf}
 use Rattle.planner.specs.declared.Fault.{Fault}
 use Rattle.planner.specs.declared.open.Opened.{Opened}
 use Rattle.planner.proofs.FaultLaws.{short-fine}
+use Rattle.planner.specs.Times.{arcWeight}
+use Rattle.planner.proofs.TimesLaws.{starts-finish}
 use Rattle.planner.proofs.OutputLaws.{Ends}
-use Rattle.planner.proofs.OpenLaws.{count-few, opens-plan, opens-small}
+use Rattle.planner.proofs.OpenLaws.{count-few, opens-readable, opens-plan, opens-small}
 
 -- ---- m numbers and one more
 
@@ -80,7 +82,7 @@ numbers-fit s bytes o i =
     m = planIn s .count
 
     fit : FinishesFit (firstStarts s) (byDuration (planIn s .duration))
-    fit = starts-fit (rowsOf s) (byDuration (planIn s .duration)) 65535 (omega arith) (λ i j. opens-small s bytes o i)
+    fit = starts-finish s bytes (rowsOf s) (planIn s .duration) (opens-small s bytes o)
 
     last : getD (withEnd m (firstStarts s) (endStart s)) m 0 < 2 ^ 32
     last =
@@ -104,7 +106,7 @@ module _ (s out : List ℕ) {o : Opened} (held : o ≡ openedOf s) where
   pub counted : o .plan .count + 1 ≡ needed s
   counted = ap (λ (x : Opened). x .plan .count + 1) held
 
-  pub written : {after first : List ℕ} {end : ℕ} → first ≡ startsOf (o .rows) (byDuration (o .plan .duration))
+  pub written : {after first : List ℕ} {end : ℕ} → first ≡ startsOf (o .rows) (arcWeight s (at (o .plan .duration)))
       → end ≡ endOf (o .plan .count) (at first) (at (o .plan .duration)) → after ≡ over (o .plan .count + 1) (withEnd (o .plan .count) first end) out
       → after ≡ over (needed s) (startNumbers s) out
   unfolding startNumbers
@@ -120,7 +122,10 @@ module _ (s out : List ℕ) {o : Opened} (held : o ≡ openedOf s) where
     pub small : AreBytes s → AllAtMost 65535 (o .plan .duration)
     small bytes = rw held (opens-small s bytes (starts-fine s (length out) e .0))
 
-    pub fits : AreBytes s → {first : List ℕ} → first ≡ startsOf (o .rows) (byDuration (o .plan .duration)) → FinishesFit first (byDuration (o .plan .duration))
+    pub readable : Readable s
+    readable = opens-readable s (starts-fine s (length out) e .0)
+
+    pub fits : AreBytes s → {first : List ℕ} → first ≡ startsOf (o .rows) (arcWeight s (at (o .plan .duration))) → FinishesFit first (byDuration (o .plan .duration))
     fits bytes q =
         subst (λ (xs : List ℕ). FinishesFit xs (byDuration (o .plan .duration))) (sym q)
-        (starts-fit (o .rows) (byDuration (o .plan .duration)) 65535 (omega arith) (λ i j. small bytes i))
+        (starts-finish s bytes (o .rows) (o .plan .duration) (small bytes))

@@ -27,11 +27,11 @@ startsFault s n = orShort (faultOf s) n (needed s)
 abbrev pub startsAnswer : List ℕ → ℕ → Output
 startsAnswer s n = outputOf (startsFault s n) (needed s)
 
--- the earliest starts of all elements, by the plan's arcs and the file's durations
+-- the earliest starts of all elements, by the plan's arcs, and the file's durations and waits
 abbrev pub firstStarts : List ℕ → List ℕ
 firstStarts s = startsOf (rowsOf s) (arcWeight s (at (planIn s .duration)))
 
--- the start of the end
+-- the start of the end: "the end still follows the last finish" (02, change 5)
 abbrev pub endStart : List ℕ → ℕ
 endStart s = endOf (planIn s .count) (at (firstStarts s)) (at (planIn s .duration))
 

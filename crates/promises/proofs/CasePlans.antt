@@ -25,7 +25,7 @@ use Rattle.planner.specs.Open.{planIn, orderFor, unreadFault, readFault, orCirc
 use Rattle.planner.specs.declared.Cause.the-variants.{JobCircle, PlanCircle}
 use Rattle.planner.specs.declared.Fault.{Fault}
 use Rattle.planner.specs.declared.Fault.the-variants.{Fine, Refused}
-use Rattle.promises.specs.Cases.{planA, planB, planC, planD, planE, planEJob, planF, planG, planH, planABoth, planAPasted, planASpare, planEPasted, planCThrice}
+use Rattle.promises.specs.Cases.{planA, planB, planC, planD, planE, planEJob, planF, planG, planH, planABoth, planAPasted, planASpare, planEPasted, planCThrice, planAWait, planAJobWaits, planAExtraWaits, planAWaitPasted, planAWaitSpare}
 
 -- ---- the plans as tables
 
@@ -97,10 +97,13 @@ record AllRead : Type 0 where
   f5 : Reads (planF 5) (inF 5)
   g : Reads (planG 0) inG
   h : Reads planH inH
+  w : Reads planAWait inA
+  w-job : Reads planAJobWaits inABoth
+  w-extra : Reads planAExtraWaits inABoth
 
 all-read : AllRead
 unfolding digit bit first some table row putRow rowTable cells field zeros leading activityFields demandsSome crewFields arcFields arcRepeats demandsOf fileDuration fileDemand fileKinds fileAvailable withArc arcsAfter arcsUpTo durationsOf demandTable availableOf planOf rule activityCause crewCause arcCause causeAt firstRefusal recordsCause isLength answerOf readOf
-all-read = record { a = refl; a-both = refl; b = refl; c = refl; d = refl; e = refl; e-job = refl; f4 = refl; f5 = refl; g = refl; h = refl }
+all-read = record { a = refl; a-both = refl; b = refl; c = refl; d = refl; e = refl; e-job = refl; f4 = refl; f5 = refl; g = refl; h = refl; w = refl; w-job = refl; w-extra = refl }
 
 -- and these are not
 pub record AllRefused : Type 0 where
@@ -109,10 +112,12 @@ pub record AllRefused : Type 0 where
   pub a-spare : answerOf planASpare ≡ answer.Refused (Spare 7)
   pub e-pasted : answerOf planEPasted ≡ answer.Refused (RepeatedArc 7)
   pub c-thrice : answerOf planCThrice ≡ answer.Refused (RepeatedArc 6)
+  pub w-pasted : answerOf planAWaitPasted ≡ answer.Refused (RepeatedArc 7)
+  pub w-spare : answerOf planAWaitSpare ≡ answer.Refused (Spare 7)
 
 pub all-refused : AllRefused
 unfolding first some table field zeros leading activityFields demandsSome crewFields arcFields arcRepeats demandsOf rule activityCause crewCause arcCause causeAt firstRefusal recordsCause isLength answerOf
-all-refused = record { g = refl; a-pasted = refl; a-spare = refl; e-pasted = refl; c-thrice = refl }
+all-refused = record { g = refl; a-pasted = refl; a-spare = refl; e-pasted = refl; c-thrice = refl; w-pasted = refl; w-spare = refl }
 
 -- ---- and so they are opened
 
@@ -144,6 +149,9 @@ pub record AllOpened : Type 0 where
   pub f5 : OpenedAs (planF 5) (inF 5) Fine
   pub g : OpenedAs (planG 0) inG Fine
   pub h : OpenedAs planH inH Fine
+  pub w : OpenedAs planAWait inA Fine
+  pub w-job : OpenedAs planAJobWaits inABoth Fine
+  pub w-extra : OpenedAs planAExtraWaits inABoth Fine
 
 pub all-opened : AllOpened
 unfolding digit bit first table row rowTable cells grow arcsFrom arcsIn circleIn extended circleOf orderOf orderIn joinedRows
@@ -160,6 +168,9 @@ all-opened =
       f5 = reads-as (all-read .f5) refl;
       g = reads-as (all-read .g) refl;
       h = reads-as (all-read .h) refl;
+      w = reads-as (all-read .w) refl;
+      w-job = reads-as (all-read .w-job) refl;
+      w-extra = reads-as (all-read .w-extra) refl;
     }
 
 -- what goes by the plan and the fault of a file

@@ -14,11 +14,13 @@ use Rattle.order.specs.Rows.{grow, arcsFrom, arcsIn}
 use Rattle.order.specs.Orders.{extended, orderOf, orderIn, joinedRows, afterRows}
 use Rattle.records.specs.Records.{bytes, overloadRecord}
 use Rattle.plan.specs.Causes.{answerOf}
+use Rattle.records.specs.Bytes.{field}
+use Rattle.plan.specs.Meaning.{waitUpTo, jobWait, extraWait}
 use Rattle.plan.specs.declared.Plan.{Plan}
 use Rattle.schedule.specs.Starts.{asked, rounds, earliestOf, endOf}
 use Rattle.schedule.specs.Checks.{brokenTo, brokenFrom, lowestKind, lastFinish, quiet, firstPeriod, checkOf}
 use Rattle.schedule.specs.Lists.{at}
-use Rattle.schedule.specs.model.Arrays.{byDuration, startsOf, crewNet, workOf}
+use Rattle.schedule.specs.model.Arrays.{startsOf, crewNet, workOf}
 use Rattle.flow_math.specs.Heaviest.{heaviest, needOf}
 use Rattle.flow_math.specs.Crew.{occupied}
 use Rattle.solver.specs.model.Search.{advance}
@@ -32,6 +34,7 @@ use Rattle.planner.specs.Answers.{unreadNumbers, verdictNumbers, outputNumbers,
 use Rattle.planner.specs.Open.{rowsFor}
 use Rattle.planner.specs.Output.{outputOf, lentAfter}
 use Rattle.planner.specs.Need.{needFor, overKind, isOverloaded, overCause, orOverloaded}
+use Rattle.planner.specs.Times.{arcWeight}
 use Rattle.planner.specs.Verdict.{verdictFault, verdictOf}
 use Rattle.planner.specs.Needs.{needsFault, needNumbers, needsOut}
 use Rattle.planner.specs.Starts.{startsFault, startsOut, startNumbers, withEnd}
@@ -43,22 +46,22 @@ use Rattle.planner.specs.declared.Cause.the-variants.{Lists}
 use Rattle.planner.specs.declared.Fault.{Fault}
 use Rattle.planner.specs.declared.CrewChecked.{CrewChecked}
 use Rattle.promises.specs.Ours.{ours}
-use Rattle.promises.specs.Cases.{Cases, planG, planAPasted, planASpare, planEPasted, planCThrice}
+use Rattle.promises.specs.Cases.{Cases, planG, planAPasted, planASpare, planEPasted, planCThrice, planAWaitPasted, planAWaitSpare}
 use Rattle.promises.proofs.RefusalsHold.{unreadables}
 use Rattle.promises.proofs.CasePlans.{OpenedAs, all-opened, all-refused, opened-as}
 
 -- ---- what ours says of a file that is opened so
 
--- the starts of a plan, and the end
-abbrev starting : Plan → List ℕ
-starting q =
-    let starts = startsOf (rowsFor q) (byDuration (q .duration)) in
+-- the starts of a plan, by the arcs of its file, and the end
+abbrev starting : List ℕ → Plan → List ℕ
+starting s q =
+    let starts = startsOf (rowsFor q) (arcWeight s (at (q .duration))) in
     withEnd (q .count) starts (endOf (q .count) (at starts) (at (q .duration)))
 
-abbrev checking : Plan → Fault → List ℕ → List ℕ → CrewChecked
-checking q f starts worked =
+abbrev checking : List ℕ → Plan → Fault → List ℕ → List ℕ → CrewChecked
+checking s q f starts worked =
     checkedOf (orCause f (badLists (q .count) (q .duration) starts worked) (Lists (q .count)))
-    (checkOf (crewNet (rowsFor q) (byDuration worked) starts) (workOf (q .demand) (q .available) starts worked))
+    (checkOf (crewNet (rowsFor q) (arcWeight s (at worked)) starts) (workOf (q .demand) (q .available) starts worked))
 
 module _ {s : List ℕ} {q : Plan} {f : Fault} (o : OpenedAs s q f) where
   verdict-as : verdictNumbers (ours .verdict s) ≡ verdictNumbers (verdictOf (orOverloaded f q) (q .count) (q .kinds))
@@ -77,9 +80,9 @@ module _ {s : List ℕ} {q : Plan} {f : Fault} (o : OpenedAs s q f) where
   unfolding startsFault
   starts-as n = opened-as (λ p g. outputNumbers (outputOf (orShort g n (p .count + 1)) (p .count + 1))) o
 
-  starts-left : (out : List ℕ) → ours .starts .left s out ≡ lentAfter (orShort f (length out) (q .count + 1)) (starting q) out
+  starts-left : (out : List ℕ) → ours .starts .left s out ≡ lentAfter (orShort f (length out) (q .count + 1)) (starting s q) out
   unfolding startsFault startNumbers startsOut
-  starts-left out = opened-as (λ p g. lentAfter (orShort g (length out) (p .count + 1)) (starting p) out) o
+  starts-left out = opened-as (λ p g. lentAfter (orShort g (length out) (p .count + 1)) (starting s p) out) o
 
   overload-as : (n : ℕ) → outputNumbers (ours .overload .answer s n) ≡ outputNumbers (outputOf (orShort f n 24) (overCount q))
   unfolding overloadFault
@@ -89,16 +92,16 @@ module _ {s : List ℕ} {q : Plan} {f : Fault} (o : OpenedAs s q f) where
   unfolding overloadFault overloadOut
   overload-left out = opened-as (λ p g. lentAfter (orShort g (length out) 24) (overBytes p) out) o
 
-  crew-as : (starts worked : List ℕ) → crewCheckNumbers (ours .crew-check s starts worked) ≡ crewCheckNumbers (checking q f starts worked)
+  crew-as : (starts worked : List ℕ) → crewCheckNumbers (ours .crew-check s starts worked) ≡ crewCheckNumbers (checking s q f starts worked)
   unfolding crewCheckFault crewFound
-  crew-as starts worked = opened-as (λ p g. crewCheckNumbers (checking p g starts worked)) o
+  crew-as starts worked = opened-as (λ p g. crewCheckNumbers (checking s p g starts worked)) o
 
 -- and of one that is refused
 verdict-refused : (s : List ℕ) {u : Unread} → answerOf s ≡ answer.Refused u → verdictNumbers (ours .verdict s) ≡ unreadNumbers u
 verdict-refused s {u} e = unreadables s .every u e .verdict
 
 pub cases : Cases ours
-unfolding row putRow rowTable cells numberOf setOf digit bit each run upto first some members count sum maximum table grow arcsFrom arcsIn extended orderOf orderIn joinedRows afterRows bytes overloadRecord asked rounds earliestOf endOf brokenTo brokenFrom occupied lowestKind lastFinish quiet firstPeriod checkOf startsOf heaviest needOf advance giver nonzero joined shifted handing blanks blankRows ranked started rounded solved unused copied outcome amount quoteIn demandsFor lentAfter needFor overKind isOverloaded overCause withEnd overCount overBytes someMisworked badLists
+unfolding field waitUpTo jobWait extraWait row putRow rowTable cells numberOf setOf digit bit each run upto first some members count sum maximum table grow arcsFrom arcsIn extended orderOf orderIn joinedRows afterRows bytes overloadRecord asked rounds earliestOf endOf brokenTo brokenFrom occupied lowestKind lastFinish quiet firstPeriod checkOf startsOf heaviest needOf advance giver nonzero joined shifted handing blanks blankRows ranked started rounded solved unused copied outcome amount quoteIn demandsFor lentAfter needFor overKind isOverloaded overCause withEnd overCount overBytes someMisworked badLists
 cases =
     record {
       a-accepted = verdict-as (all-opened .a);
@@ -139,4 +142,14 @@ cases =
       a-spare = verdict-refused planASpare (all-refused .a-spare);
       e-pasted = verdict-refused planEPasted (all-refused .e-pasted);
       c-thrice = verdict-refused planCThrice (all-refused .c-thrice);
+      w-accepted = verdict-as (all-opened .w);
+      w-need = needs-left (all-opened .w) (9 ∷ []);
+      w-starts = starts-left (all-opened .w) (9 ∷ 9 ∷ 9 ∷ 9 ∷ 9 ∷ 9 ∷ []);
+      w-fits = crew-as (all-opened .w) (0 ∷ 4 ∷ 0 ∷ 6 ∷ []) (1 ∷ 2 ∷ 3 ∷ 1 ∷ []);
+      w-breaks = crew-as (all-opened .w) (0 ∷ 3 ∷ 0 ∷ 6 ∷ []) (1 ∷ 2 ∷ 3 ∷ 1 ∷ []);
+      w-job-starts = starts-left (all-opened .w-job) (9 ∷ 9 ∷ 9 ∷ 9 ∷ 9 ∷ []);
+      w-extra-starts = starts-left (all-opened .w-extra) (9 ∷ 9 ∷ 9 ∷ 9 ∷ 9 ∷ []);
+      w-extra-breaks = crew-as (all-opened .w-extra) (0 ∷ 256 ∷ 0 ∷ 259 ∷ []) (1 ∷ 2 ∷ 3 ∷ 1 ∷ []);
+      w-spare = verdict-refused planAWaitSpare (all-refused .w-spare);
+      w-pasted = verdict-refused planAWaitPasted (all-refused .w-pasted);
     }

@@ -6,12 +6,13 @@ use Prim.Native.Nat.{ℕ, _+_, _≤_, _<_}
 use native.Mathlib.Omega.{arith}
 use lib.ListN.{length, getD, drop, length-append, length-drop, List·getD-append}
 use lib.Seq.{drop-at}
-use Rattle.plan.specs.Meaning.{Readable, fileDuration}
+use Rattle.order.specs.Before.{Before}
+use Rattle.plan.specs.Meaning.{Readable, FileArc, fileDuration}
 use Rattle.plan.specs.Records.{activityCount}
 use Rattle.schedule.specs.Lists.{LargestOr0, FinishOf, at}
 use Rattle.planner.specs.Open.{planIn, Opens}
 use Rattle.planner.specs.Starts.{needed, firstStarts, endStart, startNumbers, startsOut}
-use Rattle.planner.specs.Times.{arcWeight, KeepsArcs}
+use Rattle.planner.specs.Times.{arcWeight, KeepsArcs, NoWaits}
 use Rattle.planner.specs.declared.Output.the-variants.{Written}
 use Rattle.planner.proofs.OpenLaws.{opens-readable}
 use Rattle.planner.proofs.StartsLaws.{before-end, at-end, length-numbers}
@@ -35,7 +36,7 @@ module _ (s : List ℕ) (o : Opens s) (out : List ℕ) (h : activityCount s + 1 
   written = out-numbers s out o fits
 
   -- each number
-  number : (i : ℕ) → i ≤ activityCount s → getD (startsOut s out) i 0 ≡ getD (startNumbers s) i 0
+  pub number : (i : ℕ) → i ≤ activityCount s → getD (startsOut s out) i 0 ≡ getD (startNumbers s) i 0
   number i l =
       ap (λ (xs : List ℕ). getD xs i 0) written
       ∙ List·getD-append (startNumbers s) (drop (needed s) out) 0 i (omega (arith, l, m, length-numbers s))
@@ -65,11 +66,15 @@ module _ (s : List ℕ) (o : Opens s) (out : List ℕ) (h : activityCount s + 1 
       (λ F. omega (arith, F .finish, least y k (F .element) (F .picked), below (F .element) (F .picked)))
       (end .reached)
 
+  -- where every wait is 0
+  pub largest : NoWaits s → (j : ℕ) → j < activityCount s
+      → LargestOr0 (FinishOf (λ i. Before (FileArc s) i j) (at (startsOut s out)) (fileDuration s)) (getD (startsOut s out) j 0)
+  largest none j l = starts-largest s o (at (startsOut s out)) same none j (omega (arith, m))
+
   pub earliest-starts : EarliestStarts ours s (arcWeight s) out
   earliest-starts =
       record {
         answers = starts-written s (length out) o fits ∙ ap (λ (n : ℕ). Written (n + 1)) m;
-        activities = λ j l. starts-largest s o (at (startsOut s out)) same j (omega (arith, m));
         end = end;
         least = least;
         end-least = end-least;

@@ -1,25 +1,27 @@
 -- "plans with the same activities, crew, set of job arcs and set of extra arcs get equal flows" (01, Flow): they are read as one and the same plan, and Flow goes by
 -- that alone, and so does Sheet. Assumes nothing.
-use mathlib.Core.Path.{_≡_, sym, _∙_}
+use mathlib.Core.Path.{_≡_, sym, ap, _∙_}
 use mathlib.Core.List.{List}
-use Prim.Native.Nat.{ℕ}
+use Prim.Native.Nat.{ℕ, _+_}
 use lib.ListN.{length}
 use Rattle.plan.specs.Meaning.{Readable}
 use Rattle.plan.specs.Causes.{answerOf}
 use Rattle.plan.proofs.Refusals.{readable-is}
 use Rattle.plan.proofs.Said.{plan-same}
-use Rattle.planner.specs.Open.{planIn, readFault, faultOf}
+use Rattle.schedule.specs.Lists.{at}
+use Rattle.schedule.proofs.Weights.{starts-weights}
+use Rattle.planner.specs.Open.{planIn, rowsOf, readFault, faultOf}
 use Rattle.planner.specs.Starts.{startNumbers}
 use Rattle.planner.specs.Flow.{flowFault, flowAnswer, flowOut}
 use Rattle.planner.specs.Sheet.{sheetFault, sheetAnswer, sheetOut}
 use Rattle.planner.proofs.OpenLaws.{plan-in}
-use Rattle.promises.specs.Same.{SamePlan}
+use Rattle.promises.specs.Same.{SamePlan, SameWaits}
 
 module _ (s t : List ℕ) (e : Readable s) (f : Readable t) (same : SamePlan s t) where
-  answers : answerOf s ≡ answerOf t
+  pub answers : answerOf s ≡ answerOf t
   answers = readable-is (answerOf s) e ∙ sym (readable-is (answerOf t) f)
 
-  plans : planIn s ≡ planIn t
+  pub plans : planIn s ≡ planIn t
   plans =
       plan-in s e
       ∙ plan-same s t e f (same .count) (same .kinds) (same .duration) (same .demand) (same .available) (same .job) (same .extra)
@@ -30,7 +32,7 @@ module _ (s t : List ℕ) (e : Readable s) (f : Readable t) (same : SamePlan s t
   unfolding flowOut flowFault faultOf readFault
   equal-flows kind out = (rw (answers, plans), rw (answers, plans))
 
-  pub equal-sheets : (kind page : ℕ) (out : List ℕ)
+  pub equal-sheets : SameWaits s t → (kind page : ℕ) (out : List ℕ)
       → (sheetAnswer s kind page (length out) ≡ sheetAnswer t kind page (length out)) × (sheetOut s kind page out ≡ sheetOut t kind page out)
   unfolding sheetOut sheetFault faultOf readFault startNumbers
-  equal-sheets kind page out = (rw (answers, plans), rw (answers, plans))
+  equal-sheets waits kind page out = (rw (answers, plans), rw (answers, plans, starts-weights (rowsOf t) _ _ (λ i j _ _. ap (λ (x : ℕ). at (planIn t .duration) i + x) (waits i j))))

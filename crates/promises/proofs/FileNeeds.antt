@@ -4,7 +4,7 @@ use mathlib.Core.Path.{_≡_, sym, _∙_, ap}
 use mathlib.Core.Bool.{Bool, true}
 use mathlib.Core.List.{List}
 use mathlib.Core.Logic.{_↔_}
-use Prim.Native.Nat.{ℕ, _≤_, _<_}
+use Prim.Native.Nat.{ℕ, _+_, _≤_, _<_}
 use native.Mathlib.Omega.{arith}
 use Rattle.words.specs.Bits.{bit}
 use Rattle.records.specs.Bytes.{AreBytes}
@@ -22,6 +22,7 @@ use Rattle.flow_math.specs.Need.{Antichain, weight, Need}
 use Rattle.flow_math.specs.Kept.{Keeps}
 use Rattle.flow_math.specs.Crew.{active, occupied}
 use Rattle.flow_math.specs.Peak.{Peak}
+use Rattle.plan.proofs.Waits.{file-wait-small}
 use Rattle.flow_math.proofs.Kept.{kept-before}
 use Rattle.flow_math.proofs.Crew.{occupied-weight}
 use Rattle.flow_math.proofs.Need.{weight-same}
@@ -89,12 +90,9 @@ module _ (s : List ℕ) (small : AreBytes s) (o : Opens s) where
 
   -- ---- CREWS
 
-  -- WHAT KEEPS EVERY ARC OF THE FILE KEEPS THE PLAN ORDER, and the other way round
+  -- WHAT KEEPS EVERY ARC OF THE FILE, WITH ITS WAIT, KEEPS THE PLAN ORDER
   keeps-order : (x w : ℕ → ℕ) → KeepsArcs s x w → Keeps (Drawn (planIn s .count) (isBefore (planOrder s))) x (λ i j. w i)
   keeps-order x w k i j d = kept-before x w (arcWeight s w) (λ i j a. omega arith) k i j (before-in i j .0 (d .drawn))
-
-  keeps-arcs : (x w : ℕ → ℕ) → Keeps (Drawn (planIn s .count) (isBefore (planOrder s))) x (λ i j. w i) → KeepsArcs s x w
-  keeps-arcs x w k i j a = let h = arc-ends s readable i j a in k i j (record { from = h .0; to = h .1; drawn = before-in i j .1 (last a) })
 
   pub occupied-in : (k : ℕ) → k < 8 → (starts worked : ℕ → ℕ) (t : ℕ)
       → occupied (planIn s .count) (demandFor (planIn s) k) starts worked t ≡ crewOccupies s k starts worked t
@@ -127,8 +125,25 @@ module _ (s : List ℕ) (small : AreBytes s) (o : Opens s) where
         omega (arith, said-in s readable .duration i l, opens-small s small o i),
       )
 
-  peak-in : (k : ℕ) → k < 8 → Peak (planIn s .count) (isBefore (planOrder s)) (demandFor (planIn s) k) (fileDuration s) 65535
-  peak-in k h = crew-peak (planIn s .count) (isBefore (planOrder s)) (demandFor (planIn s) k) (fileDuration s) 65535 strict-in (time-in k h)
+  -- no duration and wait together are longer than this, so that starts so far apart keep every arc
+  abbrev longest : ℕ
+  longest = 65535 + 65535
+
+  peak-in : (k : ℕ) → k < 8 → Peak (planIn s .count) (isBefore (planOrder s)) (demandFor (planIn s) k) (fileDuration s) longest
+  peak-in k h =
+      crew-peak (planIn s .count) (isBefore (planOrder s)) (demandFor (planIn s) k) (fileDuration s) longest strict-in
+      (λ i l. let t = time-in k h i l in (t .0, omega (arith, t .1)))
+
+  apart-keeps : (x : ℕ → ℕ) → Keeps (Drawn (planIn s .count) (isBefore (planOrder s))) x (λ i j. longest) → KeepsArcs s x (fileDuration s)
+  apart-keeps x k i j a =
+      let h = arc-ends s readable i j a in
+      omega (
+        arith,
+        k i j (record { from = h .0; to = h .1; drawn = before-in i j .1 (last a) }),
+        said-in s readable .duration i (h .0),
+        opens-small s small o i,
+        file-wait-small s small i j,
+      )
 
   pub crew-some : (k : ℕ) → k < 8
       → (starts : ℕ → ℕ) × (worked : ℕ → ℕ) × (t : ℕ) × FileCrew s starts worked × (1 ≤ t) × (crewOccupies s k starts worked t ≡ needFor (planIn s) k)
@@ -138,7 +153,7 @@ module _ (s : List ℕ) (small : AreBytes s) (o : Opens s) where
         P .starts,
         fileDuration s,
         P .period,
-        record { works = file-works; keeps = keeps-arcs (P .starts) (fileDuration s) (λ i j d. omega (arith, P .apart i j d, time-in k h i (d .from) .1)) },
+        record { works = file-works; keeps = apart-keeps (P .starts) (P .apart) },
         P .first,
         sym (occupied-in k h (P .starts) (fileDuration s) (P .period)) ∙ P .full,
       )

@@ -99,5 +99,5 @@ sheet-keeps =
                 (flow-before s c kind lent (sheet-from s c (other 7 refl) (other 8 refl) (other 9 refl) (other 11 refl) kind page n (output-is-refused (sheetFault s kind page n) (sheetPages s kind) c e)))),
           );
       sheets = λ s small r free. sheets-open s small (opens-when s .1 (r, free));
-      same = λ s t r q e. equal-sheets s t r q e;
+      same = λ s t r q e w. equal-sheets s t r q e w;
     }

@@ -18,6 +18,10 @@ crewBytes available = 2 ∷ 1 ∷ 0 ∷ 0 ∷ available ∷ replicate 19 0
 abbrev pub arcBytes : ℕ → ℕ → ℕ → List ℕ
 arcBytes type i j = type ∷ i ∷ j ∷ replicate 21 0
 
+-- an arc with a wait, as bytes 4 and 5
+abbrev pub waitBytes : ℕ → ℕ → ℕ → ℕ → ℕ → List ℕ
+waitBytes type i j low high = type ∷ i ∷ j ∷ 0 ∷ low ∷ high ∷ replicate 18 0
+
 -- the activities and the crew of the plans A to E; plan C has no arcs
 abbrev pub planC : List ℕ
 planC = activityBytes 1 1 2 ++ (activityBytes 2 2 2 ++ (activityBytes 3 3 2 ++ (activityBytes 4 1 2 ++ crewBytes 4)))
@@ -69,6 +73,23 @@ planCThrice = planC ++ (arcBytes 3 1 2 ++ (arcBytes 3 1 2 ++ arcBytes 3 1 2))
 
 abbrev pub planASpare : List ℕ
 planASpare = planA ++ (4 ∷ 1 ∷ 2 ∷ 1 ∷ replicate 20 0)
+
+-- plan A with a wait of 3 on its arc 1 to 2; and with a job arc 1 to 2 of wait 256 beside an extra arc of wait 3, or the other way round
+abbrev pub planAWait : List ℕ
+planAWait = planC ++ (waitBytes 4 1 2 3 0 ++ arcBytes 4 2 4)
+
+abbrev pub planAJobWaits : List ℕ
+planAJobWaits = planC ++ (waitBytes 3 1 2 0 1 ++ (waitBytes 4 1 2 3 0 ++ arcBytes 4 2 4))
+
+abbrev pub planAExtraWaits : List ℕ
+planAExtraWaits = planC ++ (waitBytes 3 1 2 3 0 ++ (waitBytes 4 1 2 0 1 ++ arcBytes 4 2 4))
+
+-- with a copy of its first arc that has another wait, and with an arc whose byte 6 is not zero
+abbrev pub planAWaitPasted : List ℕ
+planAWaitPasted = planAWait ++ waitBytes 4 1 2 5 0
+
+abbrev pub planAWaitSpare : List ℕ
+planAWaitSpare = planAWait ++ (4 ∷ 1 ∷ 3 ∷ 0 ∷ 5 ∷ 0 ∷ 1 ∷ replicate 17 0)
 
 pub record Cases (P : Planner) : Type 0 where
   -- "*A accepted, need 4."
@@ -124,3 +145,17 @@ pub record Cases (P : Planner) : Type 0 where
   pub a-spare : verdictNumbers (P .verdict planASpare) ≡ 4 ∷ 7 ∷ []
   pub e-pasted : verdictNumbers (P .verdict planEPasted) ≡ 13 ∷ 7 ∷ []
   pub c-thrice : verdictNumbers (P .verdict planCThrice) ≡ 13 ∷ 6 ∷ []
+  -- "An arc is kept when start plus duration plus wait is at most the next start. .. the end still follows the last finish. .. Need and flow do not read waits." (02, change 5): 2 starts 3
+  -- periods after 1 is done, 4 follows it, and the need is that of A
+  pub w-accepted : verdictNumbers (P .verdict planAWait) ≡ 0 ∷ 4 ∷ 1 ∷ []
+  pub w-need : P .needs .left planAWait (9 ∷ []) ≡ 4 ∷ []
+  pub w-starts : P .starts .left planAWait (9 ∷ 9 ∷ 9 ∷ 9 ∷ 9 ∷ 9 ∷ []) ≡ 0 ∷ 4 ∷ 0 ∷ 6 ∷ 7 ∷ 9 ∷ []
+  pub w-fits : crewCheckNumbers (P .crew-check planAWait (0 ∷ 4 ∷ 0 ∷ 6 ∷ []) (1 ∷ 2 ∷ 3 ∷ 1 ∷ [])) ≡ 0 ∷ []
+  pub w-breaks : crewCheckNumbers (P .crew-check planAWait (0 ∷ 3 ∷ 0 ∷ 6 ∷ []) (1 ∷ 2 ∷ 3 ∷ 1 ∷ [])) ≡ 254 ∷ 1 ∷ 2 ∷ []
+  -- "Where a job arc and an extra arc share a pair, both waits bind."
+  pub w-job-starts : P .starts .left planAJobWaits (9 ∷ 9 ∷ 9 ∷ 9 ∷ 9 ∷ []) ≡ 0 ∷ 257 ∷ 0 ∷ 259 ∷ 260 ∷ []
+  pub w-extra-starts : P .starts .left planAExtraWaits (9 ∷ 9 ∷ 9 ∷ 9 ∷ 9 ∷ []) ≡ 0 ∷ 257 ∷ 0 ∷ 259 ∷ 260 ∷ []
+  pub w-extra-breaks : crewCheckNumbers (P .crew-check planAExtraWaits (0 ∷ 256 ∷ 0 ∷ 259 ∷ []) (1 ∷ 2 ∷ 3 ∷ 1 ∷ [])) ≡ 254 ∷ 1 ∷ 2 ∷ []
+  -- "so 4 covers the other spare bytes only"; and another wait makes no other pair, so that 13 is given
+  pub w-spare : verdictNumbers (P .verdict planAWaitSpare) ≡ 4 ∷ 7 ∷ []
+  pub w-pasted : verdictNumbers (P .verdict planAWaitPasted) ≡ 13 ∷ 7 ∷ []

@@ -1,5 +1,7 @@
 -- DEMAND 2 of document 00, about a planner P: "Order, flows, earliest starts and the crew check are those of the paper on resource flows that 01 condenses.", in
--- the file's own terms, for every readable plan (`PaperSentence P`). Ours meets it: `paper` of proofs/PaperHolds.antt. What is at work and what is occupied in a
+-- the file's own terms, for every readable plan (`PaperSentence P`). Since change 5 of document 02 an arc can have a wait: "Demand 2 holds them and the crew check to the paper where
+-- every wait is 0." What is said of starts and crew checks is therefore said of a rule by which arcs are kept (`Rule`): of the file's, with its waits, for every plan, and of the
+-- paper's where every wait is 0 (`PaperTimes`). Ours meets it: `paper` of proofs/PaperHolds.antt. What is at work and what is occupied in a
 -- period is here what it is in demand 3: `crewOccupies` of Times. By which steps it is added up is `LoadSentence L` (02, change 4); ours meets it: `loads`, beside `paper`.
 -- Quotations are from document 01, where no other is named. Assumes nothing.
 use mathlib.Core.Path.{_≡_}
@@ -20,7 +22,7 @@ use Rattle.flow_math.specs.Kept.{Keeps}
 use Rattle.flow_math.specs.Breaks.{FirstBroken}
 use Rattle.flow_math.specs.Crew.{active}
 use Rattle.planner.specs.File.{FileFlow}
-use Rattle.planner.specs.Times.{arcWeight, Workable, crewOccupies}
+use Rattle.planner.specs.Times.{arcWeight, NoWaits, Workable, crewOccupies}
 use Rattle.planner.specs.declared.Output.the-variants.{Written}
 use Rattle.planner.specs.declared.CrewChecked.the-variants.{Found}
 use Rattle.planner.specs.Answers.{verdictNumbers, outputNumbers, crewCheckNumbers}
@@ -63,18 +65,21 @@ pub record Circles (P : Planner) (s : List ℕ) : Type 0 where
 
 -- ---- the rule by which an arc is kept
 
--- in the durations w, how long after the start of i the arc from i to j lets j start. `arcWeight s` is the file's
+-- in the durations w, how long after the start of i the arc from i to j lets j start. `arcWeight s` is the file's: the duration, and the wait on the arc
 abbrev pub Rule : Type 0
 Rule = (ℕ → ℕ) → ℕ → ℕ → ℕ
 
+-- the paper's: "the start of i plus its duration is at most the start of j" (Crew check)
+abbrev pub paperRule : Rule
+paperRule w i j = w i
+
 -- ---- earliest starts, as Starts writes them to what it is lent: number i is the start of activity i + 1, and number m that of the end
 
+-- "Earliest starts are the least that keep all arcs, and the end still follows the last finish." (02, change 5)
 pub record EarliestStarts (P : Planner) (s : List ℕ) (rule : Rule) (out : List ℕ) : Type 0 where
   -- "Starts: m+1 numbers, activities 1 to m and then the end."
   pub answers : P .starts .answer s (length out) ≡ Written (activityCount s + 1)
-  -- "An activity starts at the largest finish (start plus duration) of those before it, or at 0;
-  pub activities : (j : ℕ) → j < activityCount s → LargestOr0 (FinishOf (λ i. Before (FileArc s) i j) (at (P .starts .left s out)) (fileDuration s)) (getD (P .starts .left s out) j 0)
-  -- the end starts at the largest finish of all, or at 0."
+  -- "the end starts at the largest finish of all, or at 0."
   pub end : LargestOr0 (FinishOf (λ i. i < activityCount s) (at (P .starts .left s out)) (fileDuration s)) (getD (P .starts .left s out) (activityCount s) 0)
   -- "Every schedule that keeps the arcs with the file's durations starts each no earlier.": nor the end, and the starts themselves are such a schedule
   pub least : (x : ℕ → ℕ) → Keeps (FileArc s) x (rule (fileDuration s)) → (i : ℕ) → i < activityCount s → getD (P .starts .left s out) i 0 ≤ x i
@@ -116,7 +121,7 @@ pub record CrewCheck (P : Planner) (s : List ℕ) (rule : Rule) (starts worked :
   pub ten : (crewCheckNumbers (P .crew-check s starts worked) ≡ 10 ∷ activityCount s ∷ []) ↔ (RightLists s starts worked → ⊥)
   -- "fits": exactly when every arc is kept, and no period of any kind is over
   pub fits : RightLists s starts worked → (P .crew-check s starts worked ≡ Found Fits) ↔ (Keeps (FileArc s) (at starts) (rule (at worked)) × NeverOver s starts worked)
-  -- "find the first arc i to j, by from and then to, with start of i plus its duration greater than the start of j."
+  -- "find the first arc i to j, by from and then to, with start of i plus its duration greater than the start of j.": by the rule, that is
   pub broken : RightLists s starts worked → (i j : ℕ)
       → (P .crew-check s starts worked ≡ Found (Broken (i + 1) (j + 1))) ↔ FirstBroken (FileArc s) (at starts) (rule (at worked)) i j
   -- "If none, find the first period, then lowest kind, whose occupied sum exceeds the availability."
@@ -158,11 +163,21 @@ LoadSentence L = (s : List ℕ) → AreBytes s → Readable s → (starts worked
 
 -- ---- the sentence
 
+-- where every wait is 0, they are the paper's
+pub record PaperTimes (P : Planner) (s : List ℕ) : Type 0 where
+  pub starts : (out : List ℕ) → activityCount s + 1 ≤ length out → EarliestStarts P s paperRule out
+  -- "An activity starts at the largest finish (start plus duration) of those before it, or at 0"
+  pub largest : (out : List ℕ) → activityCount s + 1 ≤ length out → (j : ℕ) → j < activityCount s
+      → LargestOr0 (FinishOf (λ i. Before (FileArc s) i j) (at (P .starts .left s out)) (fileDuration s)) (getD (P .starts .left s out) j 0)
+  pub crews : (starts worked : List ℕ) → CrewCheck P s paperRule starts worked
+
 pub record Paper (P : Planner) (s : List ℕ) : Type 0 where
   -- "For kind k, a flow gives each pair (i, j) a whole number of units (000, equations 1 and 2).": the records that Flow writes, read back
   pub flows : (k : ℕ) (out : List ℕ) (n : ℕ) → P .flow (k + 1) .answer s (length out) ≡ Written n → FileFlow s k (unitsRead n (P .flow (k + 1) .left s out))
   pub starts : (out : List ℕ) → activityCount s + 1 ≤ length out → EarliestStarts P s (arcWeight s) out
   pub crews : (starts worked : List ℕ) → CrewCheck P s (arcWeight s) starts worked
+  -- "Demand 2 holds them and the crew check to the paper where every wait is 0." (02, change 5)
+  pub times : NoWaits s → PaperTimes P s
 
 abbrev pub PaperSentence : Planner → Type 0
 PaperSentence P = (s : List ℕ) → AreBytes s → Readable s → Circles P s × (Acyclic (FileArc s) → Paper P s)

@@ -1,5 +1,5 @@
 -- "plans with the same activities, crew, set of job arcs and set of extra arcs get equal flows" (01, Flow), about a planner P (`EqualFlows P`): when two files
--- s and t say the same plan (the order of the arc records is free, and an arc may be of both types in both), and what then is equal. It holds of ours:
+-- s and t say the same plan (the order of the arc records is free, and an arc may be of both types in both; and so are the waits, which no flow reads), and what then is equal. It holds of ours:
 -- `equal-flows` of proofs/EqualFlowsHold.antt. Assumes nothing.
 use mathlib.Core.Path.{_≡_}
 use mathlib.Core.List.{List}
@@ -7,7 +7,7 @@ use mathlib.Core.Logic.{_↔_}
 use Prim.Native.Nat.{ℕ, _<_}
 use lib.ListN.{length}
 use Rattle.plan.specs.Records.{activityCount}
-use Rattle.plan.specs.Meaning.{Readable, fileDuration, fileDemand, fileKinds, fileAvailable, JobArc, ExtraArc}
+use Rattle.plan.specs.Meaning.{Readable, fileDuration, fileDemand, fileKinds, fileAvailable, JobArc, ExtraArc, fileWait}
 use Rattle.promises.specs.Planner.{Planner}
 
 pub record SamePlan (s t : List ℕ) : Type 0 where
@@ -21,6 +21,10 @@ pub record SamePlan (s t : List ℕ) : Type 0 where
   -- the same sets of arcs
   pub job : (i j : ℕ) → JobArc s i j ↔ JobArc t i j
   pub extra : (i j : ℕ) → ExtraArc s i j ↔ ExtraArc t i j
+
+-- the waits that bind are the same too (02, change 5): whatever goes by starts goes by these
+abbrev pub SameWaits : List ℕ → List ℕ → Type 0
+SameWaits s t = (i j : ℕ) → fileWait s i j ≡ fileWait t i j
 
 -- "Which such flow is free, but plans with the same .. get equal flows.": whichever kind is asked for and whatever is lent, Flow answers and leaves the same
 abbrev pub EqualFlows : Planner → Type 0

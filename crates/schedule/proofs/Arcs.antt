@@ -2,7 +2,7 @@
 use mathlib.Core.Path.{_≡_, sym, ap, _∙_}
 use mathlib.Core.Bool.{Bool, _&&_}
 use mathlib.Core.List.{List}
-use Prim.Native.Nat.{ℕ, _+_, _≤_, _<_}
+use Prim.Native.Nat.{ℕ, _+_, _*_, _≤_, _<_}
 use native.Mathlib.Omega.{arith}
 use lib.Dec.{ltb}
 use borrow.Author.Tests.{ltb-true, ltb-false}
@@ -10,12 +10,13 @@ use Rattle.words.specs.Members.{IsFirst}
 use Rattle.words.proofs.Firsts.{the-first}
 use Rattle.words.proofs.Tests.{clash, fails, and-says, and-both}
 use Rattle.order.specs.Rows.{after}
+use Rattle.order.specs.Stored.{elements}
 use Rattle.flow_math.specs.Kept.{Kept}
 use Rattle.flow_math.specs.Breaks.{FirstBroken}
 use Rattle.flow_math.proofs.Kept.{is-broken, not-broken}
 use Rattle.schedule.specs.Network.{Network, Arc, Schedule, Keeps}
 use Rattle.schedule.specs.Checks.{breaks, brokenTo, brokenFrom}
-use Rattle.schedule.specs.model.Arrays.{byDuration, crewNet}
+use Rattle.schedule.specs.model.Arrays.{crewNet, withWaits}
 use Rattle.schedule.specs.Lists.{at}
 
 module _ (g : Network) (s : Schedule) where
@@ -56,5 +57,8 @@ module _ (g : Network) (s : Schedule) where
 
 -- the code's test of one arc, with the finish of i at hand
 pub breaks-by :
-    (R S D : List ℕ) (i j f : ℕ) {b : Bool} → f ≡ at S i + at D i → b ≡ (after R i j && ltb (at S j) f) → breaks (crewNet R (byDuration D) S) (at S) i j ≡ b
-breaks-by R S D i j f e r = ap (λ (x : ℕ). after R i j && ltb (at S j) x) (sym e) ∙ sym r
+    (R W S D : List ℕ) (i j f : ℕ) {b : Bool} → f ≡ at S i + at D i → b ≡ (after R i j && ltb (at S j) (f + at W (elements * j + i)))
+    → breaks (crewNet R (withWaits D W) S) (at S) i j ≡ b
+breaks-by R W S D i j f e r =
+    let late : at S i + (at D i + at W (elements * j + i)) ≡ f + at W (elements * j + i) = omega arith in
+    ap (λ (x : ℕ). after R i j && ltb (at S j) x) late ∙ sym r

@@ -14,7 +14,7 @@ use Rattle.order.proofs.Before.{before-within, drawn-within}
 use Rattle.schedule.specs.Network.{Schedule, Keeps}
 use Rattle.schedule.specs.Starts.{earliestOf}
 use Rattle.schedule.specs.Lists.{LargestOr0, FinishOf, at}
-use Rattle.schedule.specs.model.Arrays.{netOf, startsOf, FinishesFit}
+use Rattle.schedule.specs.model.Arrays.{netOf, withWaits, startsOf, AllAtMost, FinishesFit}
 use Rattle.schedule.proofs.Starts.{earliest-least, earliest-bound, earliest-keeps, earliest-largest, largest-same}
 use Rattle.schedule.proofs.Ranks.{ranked}
 use Rattle.order.specs.Stored.{elements}
@@ -52,8 +52,14 @@ module _ (rows : List ℕ) (weight : ℕ → ℕ → ℕ) where
     starts-keep i j a =
         omega (arith, starts-at i (a .from), starts-at j (a .to), earliest-keeps (netOf rows weight) (ranked rows weight free) i j a)
 
+-- ---- durations and waits of at most 65,535 each: no weight passes the two together
+
+pub weights-most : (durations waits : List ℕ) → AllAtMost 65535 durations → AllAtMost 65535 waits → (i j : ℕ) → withWaits durations waits i j ≤ 65535 + 65535
+weights-most durations waits d w i j = omega (arith, d i, w (elements * j + i))
+
+-- ---- where each weight is the duration alone, so that there is no wait
+
 -- "An activity starts at the largest finish (start plus duration) of those before it, or at 0"
--- where each weight is the duration alone
 pub starts-largest :
     (rows : List ℕ) (weight : ℕ → ℕ → ℕ) (d : ℕ → ℕ) → ((i j : ℕ) → weight i j ≡ d i) → Acyclic (Direct rows) → (j : ℕ) → j < elements
     → LargestOr0 (FinishOf (λ i. Before (Direct rows) i j) (at (startsOf rows weight)) d) (at (startsOf rows weight) j)

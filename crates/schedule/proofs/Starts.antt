@@ -1,4 +1,4 @@
--- Laws of the earliest starts: they keep every arc, are the least that do, and each is the largest finish of those before it, or 0. Assumes nothing.
+-- Laws of the earliest starts: they keep every arc, are the least that do, and without waits each is the largest finish of those before it, or 0. Assumes nothing.
 use mathlib.Core.Path.{_≡_, sym, _∙_, ap}
 use mathlib.Core.Bool.{true, cond}
 use mathlib.Core.Logic.{_⊎_, inl, inr, ⊎-elim, _↔_}
@@ -101,7 +101,7 @@ largest-same {P} {Q} {s} {t} {d} {e} {x} {y} q same finish L =
       reached = ⊎-elim (λ z. inl (sym q ∙ z)) (λ F. inr (record { element = F .element; picked = same (F .element) .0 (F .picked); finish = sym q ∙ F .finish ∙ finish (F .element) (F .picked) })) (L .reached);
     }
 
--- THE START IS THE LARGEST FINISH OF THOSE BEFORE IT IN THE ORDER, OR 0
+-- THE START IS THE LARGEST FINISH OF THOSE BEFORE IT IN THE ORDER, OR 0, where each weight is the duration alone
 pub earliest-largest :
     (g : Network) (d : ℕ → ℕ) → Ranked g → ((i j : ℕ) → g .weight i j ≡ d i)
     → (j : ℕ) → j < g .elements → LargestOr0 (FinishOf (λ i. Before (Arc g) i j) (earliestOf g) d) (earliestOf g j)

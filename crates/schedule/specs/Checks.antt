@@ -12,7 +12,8 @@ use Rattle.schedule.specs.Starts.{endOf}
 use Rattle.schedule.specs.declared.Checked.{Checked}
 use Rattle.schedule.specs.declared.Checked.the-variants.{Fits, Broken, Overload}
 
--- ---- "find the first arc i to j, by from and then to, with start of i plus its duration greater than the start of j"
+-- ---- "find the first arc i to j, by from and then to, with start of i plus its duration greater than the start of j",
+-- where "start plus duration plus wait" counts (02, change 5)
 
 -- the arc from i to j is there, and is broken
 abbrev pub breaks : Network → Schedule → ℕ → ℕ → Bool

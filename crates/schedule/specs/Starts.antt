@@ -16,7 +16,8 @@ rounds (suc r) g j = asked g (rounds r g) j
 
 -- THE EARLIEST STARTS: those after as many rounds as there are elements.
 -- "Every schedule that keeps the arcs with the file's durations starts each no earlier": `earliest-least` of proofs/Starts.antt; and they keep
--- the arcs: `earliest-keeps`. "An activity starts at the largest finish (start plus duration) of those before it, or at 0": `earliest-largest`.
+-- the arcs: `earliest-keeps`. So they are "the least that keep all arcs" (02, change 5). Where no arc has a wait, "An activity starts at the
+-- largest finish (start plus duration) of those before it, or at 0": `earliest-largest`.
 unfoldable pub earliestOf : Network → Schedule
 earliestOf g j = rounds (g .elements) g j
 

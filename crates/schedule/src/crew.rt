@@ -1,12 +1,12 @@
 // The crew check: the first broken arc, or else the first period with the lowest kind of which more is occupied than there is.
 ghost use mathlib.Core.Path.{_≡_};
 ghost use mathlib.Core.Bool.{_&&_};
-ghost use Prim.Native.Nat.{_≤_, _<_};
+ghost use Prim.Native.Nat.{_+_, _*_, _^_, _≤_, _<_};
 ghost use lib.Dec.{ltb};
 ghost use lib.ListN.{length};
 ghost use Rattle.words.specs.Bits.{bit};
 ghost use Rattle.schedule.specs.Checks.{brokenTo, brokenFrom, lowestKind, firstPeriod, checkOf};
-ghost use Rattle.schedule.specs.model.Arrays.{byDuration, crewNet, workOf, Listed};
+ghost use Rattle.schedule.specs.model.Arrays.{crewNet, withWaits, workOf, Listed};
 ghost use Rattle.schedule.specs.Lists.{at};
 ghost use Rattle.schedule.specs.model.Levels.{soonerOf};
 ghost use Rattle.order.specs.Stored.{elements, numberOf};
@@ -16,29 +16,44 @@ use order::ELEMENTS;
 use order::Rows;
 use order::Set;
 
-// Whether a row has an arc to the element j, which starts before the finish.
-fn breaks_at(row: Set, j: usize, finish: u64, next: u32) -> bool
-    requires { ⌜ j < elements ⌝ }
-    ensures { λ r. ⌜ r ≡ (bit (numberOf row) j && ltb next finish) ⌝ }
+// Whether the row of i has an arc to the element j, which starts before the finish of i plus the wait on the arc. The wait is read only where there is
+// an arc, so that a pair without one pays nothing for it.
+fn breaks_at(
+    row: Set,
+    waits: &[u32; ELEMENTS * ELEMENTS],
+    i: usize,
+    j: usize,
+    finish: u64,
+    next: u32,
+) -> bool
+    requires { ⌜ (i < elements) × (j < elements) × (finish < 2 ^ 33) ⌝ }
+    ensures { λ r. ⌜ r ≡ (bit (numberOf row) j && ltb next (finish + at (now (waits .entry)) (elements * j + i))) ⌝ }
 {
     if row.has(j) {
-        words::wide(next) < finish
+        let wait = words::wide(waits[ELEMENTS * j + i]);
+        words::wide(next) < finish + wait
     } else {
         false
     }
 }
 
 // The first element to which an arc from i is broken, or m.
-fn broken_to(rows: &Rows, starts: &[u32], worked: &[u32], i: usize) -> usize
+fn broken_to(
+    rows: &Rows,
+    waits: &[u32; ELEMENTS * ELEMENTS],
+    starts: &[u32],
+    worked: &[u32],
+    i: usize,
+) -> usize
     requires { ⌜ Listed (now starts) (now worked) ⌝ }
     requires { ⌜ i < length (now starts) ⌝ }
-    ensures { λ r. ⌜ r ≡ brokenTo (crewNet (now (rows .entry)) (byDuration (now (worked .entry))) (now (starts .entry))) (at (now (starts .entry))) i ⌝ }
+    ensures { λ r. ⌜ r ≡ brokenTo (crewNet (now (rows .entry)) (withWaits (now (worked .entry)) (now (waits .entry))) (now (starts .entry))) (at (now (starts .entry))) i ⌝ }
 {
     let row = order::row(rows, i);
     let finish = words::wide(starts[i]) + words::wide(worked[i]);
     let m = starts.len();
     for j in 0..m {
-        if breaks_at(row, j, finish, starts[j]) {
+        if breaks_at(row, waits, i, j, finish, starts[j]) {
             return j;
         }
     }
@@ -46,13 +61,18 @@ fn broken_to(rows: &Rows, starts: &[u32], worked: &[u32], i: usize) -> usize
 }
 
 // The first element from which an arc is broken, or m.
-fn broken_from(rows: &Rows, starts: &[u32], worked: &[u32]) -> usize
+fn broken_from(
+    rows: &Rows,
+    waits: &[u32; ELEMENTS * ELEMENTS],
+    starts: &[u32],
+    worked: &[u32],
+) -> usize
     requires { ⌜ Listed (now starts) (now worked) ⌝ }
-    ensures { λ r. ⌜ r ≡ brokenFrom (crewNet (now (rows .entry)) (byDuration (now (worked .entry))) (now (starts .entry))) (at (now (starts .entry))) ⌝ }
+    ensures { λ r. ⌜ r ≡ brokenFrom (crewNet (now (rows .entry)) (withWaits (now (worked .entry)) (now (waits .entry))) (now (starts .entry))) (at (now (starts .entry))) ⌝ }
 {
     let m = starts.len();
     for i in 0..m {
-        if broken_to(rows, starts, worked, i) < m {
+        if broken_to(rows, waits, starts, worked, i) < m {
             return i;
         }
     }
@@ -115,20 +135,21 @@ fn first_period(
     best
 }
 
-// The crew check of m starts and m worked durations.
+// The crew check of m starts and m worked durations, by arcs with a wait on each.
 pub fn crew_check(
     rows: &Rows,
+    waits: &[u32; ELEMENTS * ELEMENTS],
     demands: &[u32; 8 * ELEMENTS],
     available: &[u32; 8],
     starts: &[u32],
     worked: &[u32],
 ) -> Checked
     requires { ⌜ Listed (now starts) (now worked) ⌝ }
-    ensures { λ r. ⌜ r ≡ checkOf (crewNet (now (rows .entry)) (byDuration (now (worked .entry))) (now (starts .entry))) (workOf (now (demands .entry)) (now (available .entry)) (now (starts .entry)) (now (worked .entry))) ⌝ }
+    ensures { λ r. ⌜ r ≡ checkOf (crewNet (now (rows .entry)) (withWaits (now (worked .entry)) (now (waits .entry))) (now (starts .entry))) (workOf (now (demands .entry)) (now (available .entry)) (now (starts .entry)) (now (worked .entry))) ⌝ }
 {
-    let from = broken_from(rows, starts, worked);
+    let from = broken_from(rows, waits, starts, worked);
     if from < starts.len() {
-        let to = broken_to(rows, starts, worked, from);
+        let to = broken_to(rows, waits, starts, worked, from);
         return Checked::Broken {
             from: from + 1,
             to: to + 1,

@@ -7,7 +7,7 @@ ghost use Rattle.order.specs.Before.{Acyclic};
 ghost use Rattle.order.specs.Orders.{Direct};
 ghost use Rattle.order.specs.Stored.{elements, numberOf};
 ghost use Rattle.schedule.specs.Starts.{asked, endOf};
-ghost use Rattle.schedule.specs.model.Arrays.{netOf, byDuration, startsOf, AllAtMost, FinishesFit};
+ghost use Rattle.schedule.specs.model.Arrays.{netOf, byDuration, withWaits, startsOf, AllAtMost, FinishesFit};
 ghost use Rattle.schedule.specs.Lists.{at};
 ghost use Rattle.schedule.specs.model.Levels.{waitingFor, readyOf, placed};
 use order::ELEMENTS;
@@ -35,23 +35,31 @@ fn ready(rows: &Rows, done: Set) -> Set
     Set::ALL.minus(waiting(rows, done)).minus(done)
 }
 
-// The finish, where the row has an arc to j; else 0.
-fn asks(row: Set, j: usize, finish: u32) -> u32
+// The start that an arc to j would ask, where the row has one; else 0.
+fn asks(row: Set, j: usize, start: u32) -> u32
     requires { ⌜ j < elements ⌝ }
-    ensures { λ r. ⌜ r ≡ cond (bit (numberOf row) j) finish 0 ⌝ }
+    ensures { λ r. ⌜ r ≡ cond (bit (numberOf row) j) start 0 ⌝ }
 {
-    if row.has(j) { finish } else { 0 }
+    if row.has(j) { start } else { 0 }
 }
 
-// What the arcs into j ask of its start.
-fn latest(rows: &Rows, durations: &[u32; ELEMENTS], starts: &[u32; ELEMENTS], j: usize) -> u32
+// What the arcs into j ask of its start. The wait on the arc from i stands at ELEMENTS * j + i.
+fn latest(
+    rows: &Rows,
+    durations: &[u32; ELEMENTS],
+    waits: &[u32; ELEMENTS * ELEMENTS],
+    starts: &[u32; ELEMENTS],
+    j: usize,
+) -> u32
     requires { ⌜ j < elements ⌝ }
-    requires { ⌜ FinishesFit (now starts) (byDuration (now durations)) ⌝ }
-    ensures { λ r. ⌜ r ≡ asked (netOf (now (rows .entry)) (byDuration (now (durations .entry)))) (at (now (starts .entry))) j ⌝ }
+    requires { ⌜ FinishesFit (now starts) (withWaits (now durations) (now waits)) ⌝ }
+    ensures { λ r. ⌜ r ≡ asked (netOf (now (rows .entry)) (withWaits (now (durations .entry)) (now (waits .entry)))) (at (now (starts .entry))) j ⌝ }
 {
     let mut best: u32 = 0;
     for i in 0..ELEMENTS {
-        best = words::larger(best, asks(order::row(rows, i), j, starts[i] + durations[i]));
+        let wait = waits[ELEMENTS * j + i];
+        let start = starts[i] + durations[i] + wait;
+        best = words::larger(best, asks(order::row(rows, i), j, start));
     }
     best
 }
@@ -60,26 +68,32 @@ fn latest(rows: &Rows, durations: &[u32; ELEMENTS], starts: &[u32; ELEMENTS], j:
 fn place(
     rows: &Rows,
     durations: &[u32; ELEMENTS],
+    waits: &[u32; ELEMENTS * ELEMENTS],
     before: &[u32; ELEMENTS],
     starts: &mut [u32; ELEMENTS],
     ready: Set,
 )
-    requires { ⌜ FinishesFit (now before) (byDuration (now durations)) ⌝ }
-    ensures { λ _. ⌜ now (starts .exit) ≡ placed (netOf (now (rows .entry)) (byDuration (now (durations .entry)))) (at (now (before .entry))) (now (starts .entry)) (numberOf ready) ⌝ }
+    requires { ⌜ FinishesFit (now before) (withWaits (now durations) (now waits)) ⌝ }
+    ensures { λ _. ⌜ now (starts .exit) ≡ placed (netOf (now (rows .entry)) (withWaits (now (durations .entry)) (now (waits .entry)))) (at (now (before .entry))) (now (starts .entry)) (numberOf ready) ⌝ }
 {
     let mut left = ready;
     while !left.is_empty() {
         let j = left.lowest();
-        starts[j] = latest(rows, durations, before, j);
+        starts[j] = latest(rows, durations, waits, before, j);
         left = left.without_lowest();
     }
 }
 
-// The earliest starts over arcs that make no circle, given as rows.
-pub fn earliest(rows: &Rows, durations: &[u32; ELEMENTS]) -> [u32; ELEMENTS]
+// The earliest starts over arcs that make no circle, given as rows, with a wait on each.
+pub fn earliest(
+    rows: &Rows,
+    durations: &[u32; ELEMENTS],
+    waits: &[u32; ELEMENTS * ELEMENTS],
+) -> [u32; ELEMENTS]
     requires { ⌜ Acyclic (Direct (now rows)) ⌝ }
     requires { ⌜ AllAtMost 65535 (now durations) ⌝ }
-    ensures { λ r. ⌜ r ≡ startsOf (now (rows .entry)) (byDuration (now (durations .entry))) ⌝ }
+    requires { ⌜ AllAtMost 65535 (now waits) ⌝ }
+    ensures { λ r. ⌜ r ≡ startsOf (now (rows .entry)) (withWaits (now (durations .entry)) (now (waits .entry))) ⌝ }
 {
     let mut starts = [0u32; ELEMENTS];
     let mut done = Set::EMPTY;
@@ -89,7 +103,7 @@ pub fn earliest(rows: &Rows, durations: &[u32; ELEMENTS]) -> [u32; ELEMENTS]
             return starts;
         }
         let before = starts;
-        place(rows, durations, &before, &mut starts, now_ready);
+        place(rows, durations, waits, &before, &mut starts, now_ready);
         done = done.union(now_ready);
     }
     starts

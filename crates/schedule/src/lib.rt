@@ -1,4 +1,4 @@
-// Earliest starts and the crew check, over arcs, durations and starts alone. The element i is activity i + 1.
+// Earliest starts and the crew check, over arcs, waits, durations and starts alone. The element i is activity i + 1.
 mod crew;
 mod early;
 mod load;

@@ -9,6 +9,7 @@ use crate::planner::{Planner, Reply};
 use crate::random::Random;
 use crate::read::Refusal;
 use crate::tally::Tally;
+use std::cmp::Ordering;
 use std::fmt::Debug;
 
 pub struct Bench {
@@ -105,14 +106,24 @@ impl Bench {
         if let Ok(facts) = &case.facts {
             let has = facts.plan.has_milestones();
             self.tally.note(if has { "plan with milestones" } else { "plan without milestones" });
-            if !facts.plan.job.is_disjoint(&facts.plan.extra) {
-                self.tally.note("plan with a pair in both types");
+            self.tally.note(if facts.plan.has_waits() { "plan with waits" } else { "plan without waits" });
+            for (pair, wait) in &facts.plan.job {
+                facts.plan.extra.get(pair).into_iter().for_each(|other| self.note_both(wait.cmp(other)));
             }
         }
         if verdict & 255 == 13 {
             let job = case.bytes.get(RECORD * (verdict >> 8) as usize) == Some(&JOB);
             self.tally.note(if job { "13: a job arc" } else { "13: an extra arc" });
         }
+    }
+
+    /// A pair in both types, by the job arc's wait next to the extra arc's.
+    fn note_both(&mut self, waits: Ordering) {
+        self.tally.note(match waits {
+            Ordering::Equal => "pair in both types, with one wait",
+            Ordering::Greater => "pair in both types, the job arc's wait longer",
+            Ordering::Less => "pair in both types, the extra arc's wait longer",
+        });
     }
 
     /// The set that goes with the verdict; returns it for the verdict's size.

@@ -3,7 +3,7 @@
 //! that it is enough, with one less the set shown proves that it is not.
 
 use crate::bench::{answer, Bench};
-use crate::bytes::{arc_record, Activity, Draft, EXTRA, RECORD};
+use crate::bytes::{arc_record, Activity, Draft, Waits, EXTRA, RECORD};
 use crate::cases::expect;
 use crate::model::{ordered, Case, MOST_TRIED};
 use crate::read::{read, MOST_ACTIVITIES, MOST_BYTES};
@@ -69,10 +69,11 @@ pub fn bounds(bench: &mut Bench) {
 /// Every field of every activity at its greatest and no arcs: all activities are the one set.
 fn greatest(size: usize) -> Draft {
     let activity = Activity { duration: 65_535, demands: [65_535; 8] };
-    Draft { activities: vec![activity; size], kinds: 8, available: [65_535; 8], job: vec![], extra: vec![] }
+    let activities = vec![activity; size];
+    Draft { activities, kinds: 8, available: [65_535; 8], job: vec![], extra: vec![], waits: Waits::new() }
 }
 
-/// In a chain each activity is its own greatest set, and the starts are as late as can be.
+/// In a chain each activity is its own greatest set, and the starts are as late as can be without waits.
 fn chain(bench: &mut Bench, full: &Draft) {
     let mut draft = full.clone();
     draft.job = (1..MOST_ACTIVITIES as u8).map(|from| (from + 1, from)).collect();

@@ -1,12 +1,20 @@
 //! Building plan files: a draft holds what a file is to say, `bytes` writes it down.
 
+use std::collections::BTreeMap;
+use std::ops::Range;
+
 pub const RECORD: usize = 24;
 pub const ACTIVITY: u8 = 1;
 pub const CREW: u8 = 2;
 pub const JOB: u8 = 3;
 pub const EXTRA: u8 = 4;
 
+/// Where an arc record has its wait.
+pub const WAIT: Range<usize> = 4..6;
+
 pub type Arc = (u8, u8);
+/// The waits of arcs, by type and pair; those of the others are 0.
+pub type Waits = BTreeMap<(u8, Arc), u16>;
 
 #[derive(Clone)]
 pub struct Activity {
@@ -23,6 +31,7 @@ pub struct Draft {
     pub available: [u16; 8],
     pub job: Vec<Arc>,
     pub extra: Vec<Arc>,
+    pub waits: Waits,
 }
 
 impl Draft {
@@ -35,7 +44,19 @@ impl Draft {
             available: first(available),
             job: job.to_vec(),
             extra: extra.to_vec(),
+            waits: Waits::new(),
         }
+    }
+
+    /// The same arcs with these waits, and no others.
+    pub fn with_waits(&self, waits: impl IntoIterator<Item = ((u8, Arc), u16)>) -> Draft {
+        Draft { waits: waits.into_iter().collect(), ..self.clone() }
+    }
+
+    /// Every arc with its type, in file order.
+    pub fn arcs(&self) -> Vec<(u8, Arc)> {
+        let job = self.job.iter().map(|&arc| (JOB, arc));
+        job.chain(self.extra.iter().map(|&arc| (EXTRA, arc))).collect()
     }
 
     pub fn with_available(&self, available: [u16; 8]) -> Draft {
@@ -48,11 +69,8 @@ impl Draft {
             file.extend(activity_record(place as u8 + 1, activity.duration, &activity.demands));
         }
         file.extend(crew_record(self.kinds, &self.available));
-        for &arc in &self.job {
-            file.extend(arc_record(JOB, arc));
-        }
-        for &arc in &self.extra {
-            file.extend(arc_record(EXTRA, arc));
+        for (kind, arc) in self.arcs() {
+            file.extend(waiting(arc_record(kind, arc), self.waits.get(&(kind, arc)).copied().unwrap_or(0)));
         }
         file
     }
@@ -80,6 +98,12 @@ pub fn crew_record(kinds: u8, available: &[u16; 8]) -> [u8; RECORD] {
 pub fn arc_record(kind: u8, arc: Arc) -> [u8; RECORD] {
     let mut record = [0; RECORD];
     record[..3].copy_from_slice(&[kind, arc.0, arc.1]);
+    record
+}
+
+/// The arc record with this wait.
+pub fn waiting(mut record: [u8; RECORD], wait: u16) -> [u8; RECORD] {
+    record[WAIT].copy_from_slice(&wait.to_le_bytes());
     record
 }
 

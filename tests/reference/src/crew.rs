@@ -22,24 +22,39 @@ impl Bench {
         let outcome = agree(&reply, &Due { answer: due, after: Vec::new() })
             .map_err(|why| format!("{why}; starts {starts:?}, durations {durations:?}"));
         self.tally.see("Crew check", reply.answer);
-        if let Some(what) = noted(case, starts, durations, reply.answer & 255) {
-            self.tally.note(what);
-        }
+        let notes = [noted, noted_waits].map(|noted| noted(case, starts, durations, reply.answer));
+        notes.into_iter().flatten().for_each(|what| self.tally.note(what));
         self.tally.count(&case.bytes, "Crew check", outcome);
     }
 }
 
 /// What the number alone does not say: why lists are refused, and that there were milestones.
-fn noted(case: &Case, starts: &[u32], durations: &[u32], number: u64) -> Option<&'static str> {
+fn noted(case: &Case, starts: &[u32], durations: &[u32], answer: u64) -> Option<&'static str> {
     let facts = case.facts.as_ref().ok()?;
     let milestones = facts.plan.has_milestones();
-    match (number, facts.bad_lists(starts, durations)) {
+    match (answer & 255, facts.bad_lists(starts, durations)) {
         (10, Some(BadLists::Length)) => Some("10: lists not m long"),
         (10, Some(BadLists::WorkedZero)) => Some("10: worked 0"),
         (10, Some(BadLists::WorkedMilestone)) => Some("10: a milestone worked"),
         (0, None) if milestones => Some("crew with milestones fits"),
         (BROKEN, None) if milestones => Some("crew with milestones breaks an arc"),
         (OVERLOAD, None) if milestones => Some("crew with milestones overloads"),
+        _ => None,
+    }
+}
+
+/// The same of waits: that there were any, and that the broken arc would be kept without.
+fn noted_waits(case: &Case, starts: &[u32], durations: &[u32], answer: u64) -> Option<&'static str> {
+    let facts = case.facts.as_ref().ok().filter(|facts| facts.plan.has_waits())?;
+    let (from, to) = ((answer >> 8 & 255) as usize, (answer >> 16) as usize);
+    match answer & 255 {
+        0 => Some("crew with waits fits"),
+        OVERLOAD => Some("crew with waits overloads"),
+        BROKEN if facts.plan.arcs().contains(&(from, to)) => {
+            let finish = u64::from(*starts.get(from - 1)?) + u64::from(*durations.get(from - 1)?);
+            let kept = finish <= u64::from(*starts.get(to - 1)?);
+            kept.then_some("crew with waits breaks an arc only by its wait")
+        }
         _ => None,
     }
 }
@@ -51,7 +66,8 @@ pub fn lists(random: &mut Random, case: &Case) -> (Vec<u32>, Vec<u32>) {
         Ok(facts) => facts,
     };
     let (mut starts, mut durations) = match random.below(10) {
-        0..=4 => keeping_arcs(random, &facts.plan),
+        0..=2 => keeping_arcs(random, &facts.plan),
+        3..=4 => just_keeping(random, &facts.plan),
         5..=6 => anything(random, &facts.plan, &|random| random.below(6) as u32),
         _ => anything(random, &facts.plan, &extreme),
     };
@@ -66,8 +82,8 @@ fn words(random: &mut Random, most: usize) -> Vec<u32> {
     random.numbers(length)
 }
 
-/// Each activity begins when all before it have finished, or somewhat later. Later activities may
-/// have lower numbers, so starts are raised until nothing changes.
+/// Each activity begins when all before it have finished and the waits for it are over, or somewhat later. Later activities
+/// may have lower numbers, so starts are raised until nothing changes.
 pub fn keeping_arcs(random: &mut Random, plan: &Plan) -> (Vec<u32>, Vec<u32>) {
     let size = plan.size();
     let longest = random.pick(&[1, 3, 20, 1_000_000]);
@@ -75,9 +91,23 @@ pub fn keeping_arcs(random: &mut Random, plan: &Plan) -> (Vec<u32>, Vec<u32>) {
     let durations = worked(random, plan, &|random| random.between(1, longest) as u32);
     let mut starts: Vec<u32> = (0..size).map(|_| random.between(0, latest) as u32).collect();
     for _ in 0..size {
-        for (from, to) in plan.arcs() {
-            starts[to - 1] = starts[to - 1].max(starts[from - 1] + durations[from - 1]);
+        for ((from, to), wait) in plan.bonds() {
+            starts[to - 1] = starts[to - 1].max(starts[from - 1] + durations[from - 1] + wait as u32);
         }
+    }
+    (starts, durations)
+}
+
+/// The same at the edge: perhaps all of them as late as 32 bits can start, then perhaps one of them sooner, or a period later.
+fn just_keeping(random: &mut Random, plan: &Plan) -> (Vec<u32>, Vec<u32>) {
+    let (mut starts, durations) = keeping_arcs(random, plan);
+    if random.percent(50) {
+        let later = u32::MAX - starts.iter().copied().max().unwrap_or(0);
+        starts.iter_mut().for_each(|start| *start += later);
+    }
+    if !starts.is_empty() && random.percent(70) {
+        let (place, sooner) = (random.index(starts.len()), random.pick(&[1, 1, 2, 65_535, u32::MAX]));
+        starts[place] = starts[place].wrapping_sub(sooner);
     }
     (starts, durations)
 }

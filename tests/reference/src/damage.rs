@@ -55,8 +55,8 @@ fn several_bytes(bench: &mut Bench, file: &[u8]) {
         let mut damaged = file.to_vec();
         let within = bench.random.index(file.len() / RECORD);
         for _ in 0..bench.random.between(2, 3) {
-            // Half of them in one record, at its type, its fields or its spare bytes.
-            let byte = bench.random.pick(&[0, 1, 2, 3, 19, 20, 23]);
+            // Half of them in one record, at its type, its fields, the wait of an arc among them, or its spare bytes.
+            let byte = bench.random.pick(&[0, 1, 2, 3, 4, 5, 6, 19, 20, 23]);
             let anywhere = bench.random.index(file.len());
             let place = if bench.random.percent(50) { within * RECORD + byte } else { anywhere };
             let any = bench.random.next() as u8;
@@ -97,7 +97,7 @@ fn moved_records(bench: &mut Bench, file: &[u8]) {
 }
 
 /// Each arc record copied over each other one and put before it, alone and with one more byte damaged. Where both are of
-/// the same type that is 13 at the later of the two.
+/// the same type that is 13 at the later of the two, be it with another wait.
 fn repeated_arcs(bench: &mut Bench, file: &[u8]) {
     let records: Vec<&[u8]> = file.chunks(RECORD).collect();
     let arcs: Vec<usize> = (0..records.len()).filter(|&place| is_arc(records[place])).collect();
@@ -107,7 +107,7 @@ fn repeated_arcs(bench: &mut Bench, file: &[u8]) {
         more.insert(two, records[one]);
         for mut damaged in [over.concat(), more.concat()] {
             bench.all(&Case::new(damaged.clone()));
-            let byte = bench.random.pick(&[0, 1, 2, 3, 23]);
+            let byte = bench.random.pick(&[0, 1, 2, 3, 4, 5, 6, 23]);
             let within = bench.random.pick(&[one, two]);
             damaged[RECORD * within + byte] = bench.random.pick(&[0, 1, 2, 3, 4, 5]);
             bench.all(&Case::new(damaged));

@@ -29,6 +29,8 @@ mod sweep;
 mod tally;
 #[allow(unsafe_code)]
 mod trap;
+mod twins;
+mod waits;
 
 use std::process::ExitCode;
 use std::time::Instant;
@@ -39,6 +41,7 @@ const BIG_PLANS: usize = 60;
 const DAMAGED_PLANS: usize = 8;
 const PASSING_PLANS: usize = 800;
 const REPEATED_PLANS: usize = 400;
+const TWIN_PLANS: usize = 400;
 
 fn seed() -> u64 {
     let given = std::env::args().nth(1).or_else(|| std::env::var("REFERENCE_SEED").ok());
@@ -63,6 +66,8 @@ fn main() -> ExitCode {
     part("milestones", &milestones::milestones);
     part("milestones left out", &|bench| passing::passing(bench, PASSING_PLANS));
     part("repeated arcs", &|bench| repeats::repeats(bench, REPEATED_PLANS));
+    part("waits", &waits::waits);
+    part("other waits", &|bench| twins::twins(bench, TWIN_PLANS));
     part("random plans", &|bench| sweep::random_plans(bench, RANDOM_PLANS));
     part("damaged plans", &|bench| damage::damaged_plans(bench, DAMAGED_PLANS));
     part("big plans", &|bench| big::big_plans(bench, BIG_PLANS));

@@ -1,7 +1,7 @@
 //! The independent operations: order, needs by trying all subsets, earliest starts, crew check.
 //! Slow and plain on purpose: each follows its sentence of the paper.
 
-use crate::read::{read, Plan, Refusal};
+use crate::read::{read, Ends, Plan, Refusal};
 use std::collections::BTreeSet;
 
 /// Activities that `needs_by_subsets` can try all subsets of.
@@ -13,7 +13,7 @@ pub struct Order {
 }
 
 impl Order {
-    pub fn of(size: usize, arcs: &BTreeSet<(usize, usize)>) -> Order {
+    pub fn of(size: usize, arcs: &BTreeSet<Ends>) -> Order {
         let mut before = vec![vec![false; size + 1]; size + 1];
         for &(from, to) in arcs {
             before[from][to] = true;
@@ -130,7 +130,7 @@ impl Case {
 
 /// The plan order, or cause 5 or 6.
 pub fn ordered(plan: &Plan) -> Result<Order, Refusal> {
-    let job = Order::of(plan.size(), &plan.job);
+    let job = Order::of(plan.size(), &plan.job.keys().copied().collect());
     let all = Order::of(plan.size(), &plan.arcs());
     for (number, order) in [(5, &job), (6, &all)] {
         if let Some(activity) = order.lowest_before_itself() {
@@ -166,8 +166,22 @@ impl Facts {
         self.needs.iter().map(|need| need.units).collect()
     }
 
-    /// Raises starts until every one is at least the finish of all before it; the end comes last.
+    /// The least starts that keep every arc with its wait: raised along arcs, as often as the longest way can have arcs. The
+    /// end comes last, at the largest finish, for which no wait counts.
     pub fn starts_written(&self) -> Vec<u32> {
+        let mut starts = vec![0_u64; self.plan.size()];
+        let finish = |starts: &[u64], place: usize| starts[place] + u64::from(self.plan.durations[place]);
+        for _ in 0..self.plan.size() {
+            for ((from, to), wait) in self.plan.bonds() {
+                starts[to - 1] = starts[to - 1].max(finish(&starts, from - 1) + wait);
+            }
+        }
+        starts.push((0..self.plan.size()).map(|place| finish(&starts, place)).max().unwrap_or(0));
+        starts.into_iter().map(|start| start.try_into().expect("no start leaves 32 bits")).collect()
+    }
+
+    /// The paper's starts, which know of no waits: raised until every one is the largest finish of all before it in the order.
+    pub fn starts_of_paper(&self) -> Vec<u32> {
         let size = self.plan.size();
         let mut starts = vec![0; size + 1];
         for _ in 0..=size {
@@ -203,7 +217,8 @@ impl Facts {
         }
         let work: Vec<(u64, u64)> =
             starts.iter().zip(durations).map(|(&s, &d)| (s as u64, s as u64 + d as u64)).collect();
-        let broken = self.plan.arcs().into_iter().find(|&(from, to)| work[from - 1].1 > work[to - 1].0);
+        let late = |&((from, to), wait): &(Ends, u64)| work[from - 1].1 + wait > work[to - 1].0;
+        let broken = self.plan.bonds().filter(late).map(|(pair, _)| pair).min();
         Ok(match broken {
             Some((from, to)) => Crew::Broken { from, to },
             None => self.first_overload(&work).map_or(Crew::Fits, |(period, kind)| Crew::Overload { period, kind }),

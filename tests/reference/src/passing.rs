@@ -1,14 +1,15 @@
 //! Milestones pass order on: a plan that has milestones and one that has direct arcs in their place are answered alike.
 
 use crate::bench::Bench;
-use crate::bytes::{Arc, Draft, MILESTONE};
+use crate::bytes::{Arc, Draft, Waits, EXTRA, JOB, MILESTONE};
 use crate::cases::same;
 use crate::crew::{anything, keeping_arcs};
-use crate::model::{ordered, Case, MOST_TRIED};
+use crate::model::{ordered, Case, Order, MOST_TRIED};
 use crate::random::Random;
-use crate::read::{read, MOST_ACTIVITIES};
+use crate::read::{read, Ends, Plan, MOST_ACTIVITIES};
 use crate::sweep::{add_circle, around, random_draft};
 use crate::tally::BROKEN;
+use std::collections::BTreeMap;
 
 /// The activities of the first plan have these numbers in the second, whose others are milestones.
 struct Pair {
@@ -34,31 +35,34 @@ pub fn passing(bench: &mut Bench, count: usize) {
     }
 }
 
-/// A plan, and the same with a milestone of its own on some of its arcs. A circle stays a circle of its type, and its
-/// lowest activity the same: milestones have the highest numbers.
+/// A plan, and the same with a milestone of its own on some of its arcs, whose wait is then in part before the milestone
+/// and in part after it. A circle stays a circle of its type, and its lowest activity the same: milestones have the highest
+/// numbers.
 fn bent(random: &mut Random, most: usize) -> Pair {
     let size = random.index(most / 2 + 1);
     let mut first = random_draft(random, size, 1_000);
     if random.percent(15) {
         add_circle(random, &mut first);
     }
-    let mut second = first.clone();
-    for arcs in [&mut second.job, &mut second.extra] {
-        for (from, to) in std::mem::take(arcs) {
-            if second.activities.len() < most && random.percent(40) {
-                second.activities.push(MILESTONE);
-                let milestone = second.activities.len() as u8;
-                arcs.extend([(from, milestone), (milestone, to)]);
-            } else {
-                arcs.push((from, to));
-            }
+    let mut second = Draft { job: vec![], extra: vec![], ..first.clone() };
+    for (kind, (from, to)) in first.arcs() {
+        let arcs = if kind == JOB { &mut second.job } else { &mut second.extra };
+        if second.activities.len() == most || random.percent(60) {
+            arcs.push((from, to));
+            continue;
         }
+        second.activities.push(MILESTONE);
+        let milestone = second.activities.len() as u8;
+        arcs.extend([(from, milestone), (milestone, to)]);
+        let wait = second.waits.remove(&(kind, (from, to))).unwrap_or(0);
+        let part = random.between(0, wait.into()) as u16;
+        second.waits.extend([((kind, (from, milestone)), part), ((kind, (milestone, to)), wait - part)]);
     }
     Pair { first, second, numbers: (1..=size).collect() }
 }
 
 /// A plan with milestones, and before it the same without them: direct arcs wherever arcs lead from one of the other
-/// activities to another.
+/// activities to another, with the waits that there are on the way through milestones.
 fn left_out(random: &mut Random, most: usize) -> Pair {
     let size = random.between(1, most as u64) as usize;
     let mut second = random_draft(random, size, 1_000);
@@ -66,11 +70,50 @@ fn left_out(random: &mut Random, most: usize) -> Pair {
     let plan = read(&second.bytes()).expect("a built plan is readable");
     let order = ordered(&plan).unwrap_or_else(|refusal| panic!("a built plan has a circle: {refusal:?}"));
     let numbers: Vec<usize> = (1..=size).filter(|&number| !plan.is_milestone(number - 1)).collect();
+    between_others(&mut second, &order, &numbers);
+    let ways = ways(&read(&second.bytes()).expect("it is readable with other waits"));
     let pairs = (0..numbers.len()).flat_map(|from| (0..numbers.len()).map(move |to| (from, to)));
     let direct = pairs.filter(|&(from, to)| order.is_before(numbers[from], numbers[to]));
-    let extra: Vec<Arc> = direct.map(|(from, to)| (from as u8 + 1, to as u8 + 1)).collect();
+    let (mut extra, mut waits): (Vec<Arc>, Waits) = Default::default();
+    for (from, to) in direct {
+        let arc = (from as u8 + 1, to as u8 + 1);
+        // Where every way leads through another activity, the arcs to it and from it say more than this one.
+        let way = ways.get(&(numbers[from], numbers[to])).copied().unwrap_or(0);
+        waits.insert((EXTRA, arc), way.try_into().expect("ways are short"));
+        extra.push(arc);
+    }
     let activities = numbers.iter().map(|&number| second.activities[number - 1].clone()).collect();
-    Pair { first: Draft { activities, job: vec![], extra, ..second.clone() }, second, numbers }
+    Pair { first: Draft { activities, job: vec![], extra, waits, ..second.clone() }, second, numbers }
+}
+
+/// Takes out the waits that no direct arc can stand for, since a milestone has none of these activities before it or none
+/// after it. The rest is made so short that even the longest way is a wait of a file.
+fn between_others(draft: &mut Draft, order: &Order, numbers: &[usize]) {
+    let has_before = |from: usize| numbers.iter().any(|&other| other == from || order.is_before(other, from));
+    let has_after = |to: usize| numbers.iter().any(|&other| other == to || order.is_before(to, other));
+    draft.waits.retain(|&(_, (from, to)), wait| {
+        *wait %= 1_000;
+        has_before(from.into()) && has_after(to.into())
+    });
+}
+
+/// The longest waits on the way from one activity to another, through milestones alone.
+fn ways(plan: &Plan) -> BTreeMap<Ends, u64> {
+    let mut ways = BTreeMap::new();
+    let raise = |ways: &mut BTreeMap<Ends, u64>, ends, wait| {
+        let way = ways.entry(ends).or_insert(wait);
+        *way = wait.max(*way);
+    };
+    plan.bonds().for_each(|(ends, wait)| raise(&mut ways, ends, wait));
+    for milestone in (1..=plan.size()).filter(|&number| plan.is_milestone(number - 1)) {
+        let known = ways.clone();
+        for (&(from, _), into) in known.iter().filter(|(ends, _)| ends.1 == milestone) {
+            for (&(_, to), out) in known.iter().filter(|(ends, _)| ends.0 == milestone) {
+                raise(&mut ways, (from, to), into + out);
+            }
+        }
+    }
+    ways
 }
 
 /// Verdicts but for the count of activities and the set, all needs, and the starts of the activities and the end.
@@ -93,12 +136,14 @@ fn alike(bench: &mut Bench, pair: &Pair) {
     same(bench, &two, "Starts past milestones", &got, &due);
 }
 
-/// A crew of the first plan, with every milestone of the second as soon as all before it is done. An arc of the one is then
-/// broken exactly where an arc of the other is, though not the same.
+/// A crew of the first plan, with every milestone of the second as soon as all before it is done and waited for. An arc of
+/// the one is then broken exactly where an arc of the other is, though not the same.
 fn crews_alike(bench: &mut Bench, pair: &Pair) {
     let (one, two) = (pair.first.bytes(), pair.second.bytes());
     let [first, second] = [&one, &two].map(|file| read(file).expect("a built plan is readable"));
-    let Ok(order) = ordered(&second) else { return };
+    if ordered(&second).is_err() {
+        return;
+    }
     let (starts, durations) = match bench.random.percent(60) {
         true => keeping_arcs(&mut bench.random, &first),
         false => anything(&mut bench.random, &first, &|random| random.below(6) as u32),
@@ -107,9 +152,9 @@ fn crews_alike(bench: &mut Bench, pair: &Pair) {
     for (place, &number) in pair.numbers.iter().enumerate() {
         (begun[number - 1], worked[number - 1]) = (starts[place], durations[place]);
     }
-    for milestone in (1..=second.size()).filter(|number| !pair.numbers.contains(number)) {
-        let earlier = pair.numbers.iter().filter(|&&number| order.is_before(number, milestone));
-        begun[milestone - 1] = earlier.map(|&number| begun[number - 1] + worked[number - 1]).max().unwrap_or(0);
+    let to_milestones: Vec<(Ends, u64)> = second.bonds().filter(|(ends, _)| !pair.numbers.contains(&ends.1)).collect();
+    for ((from, to), wait) in to_milestones.repeat(second.size() - pair.numbers.len()) {
+        begun[to - 1] = begun[to - 1].max(begun[from - 1] + worked[from - 1] + wait as u32);
     }
     let told = |answer: u64| if answer & 255 == BROKEN { BROKEN } else { answer };
     let due = told(bench.planner.crew_check(&one, &starts, &durations).answer);

@@ -2,7 +2,7 @@
 //! the last of these, not by adding up.
 
 use crate::bench::{answer, Bench};
-use crate::bytes::{Activity, Draft};
+use crate::bytes::{Activity, Draft, Waits};
 use crate::cases::{crew, expect};
 use crate::model::Case;
 use crate::tally::OVERLOAD;
@@ -23,7 +23,7 @@ fn over(period: u64, kind: usize) -> u64 {
 
 fn without_arcs(demands: &[[u16; 8]], available: [u16; 8]) -> Draft {
     let activities = demands.iter().map(|&demands| Activity { duration: 1, demands }).collect();
-    Draft { activities, kinds: 8, available, job: Vec::new(), extra: Vec::new() }
+    Draft { activities, kinds: 8, available, job: Vec::new(), extra: Vec::new(), waits: Waits::new() }
 }
 
 /// One too few for both jobs of the kinds that are short, and enough of the others.

@@ -1,7 +1,7 @@
 //! The independent reader: cause 1, then 2, 3, 12, 4 and 13 record by record, in the order of the check list.
 
 use crate::bytes::{ACTIVITY, CREW, EXTRA, JOB, RECORD};
-use std::collections::BTreeSet;
+use std::collections::{BTreeMap, BTreeSet};
 
 pub const MOST_BYTES: usize = 49_152;
 pub const MOST_ACTIVITIES: usize = 64;
@@ -13,15 +13,18 @@ pub struct Refusal {
     pub value: u64,
 }
 
-/// Activities are indexed from 0 in the lists and named from 1 in the arcs, as the file names them.
+/// The ends of an arc: activities named from 1, as the file names them.
+pub type Ends = (usize, usize);
+
+/// Activities are indexed from 0 in the lists. Each type has arcs of its own, and each of them its wait.
 #[derive(Clone, Default)]
 pub struct Plan {
     pub durations: Vec<u32>,
     pub demands: Vec<[u32; 8]>,
     pub kinds: usize,
     pub available: [u32; 8],
-    pub job: BTreeSet<(usize, usize)>,
-    pub extra: BTreeSet<(usize, usize)>,
+    pub job: BTreeMap<Ends, u64>,
+    pub extra: BTreeMap<Ends, u64>,
 }
 
 impl Plan {
@@ -39,8 +42,17 @@ impl Plan {
     }
 
     /// All arcs, each once though it may be of both types, by from and then to.
-    pub fn arcs(&self) -> BTreeSet<(usize, usize)> {
-        self.job.union(&self.extra).copied().collect()
+    pub fn arcs(&self) -> BTreeSet<Ends> {
+        self.bonds().map(|(pair, _)| pair).collect()
+    }
+
+    /// Every arc of either type with its wait. Where a pair is of both types it comes twice, since both waits bind.
+    pub fn bonds(&self) -> impl Iterator<Item = (Ends, u64)> + '_ {
+        self.job.iter().chain(&self.extra).map(|(&pair, &wait)| (pair, wait))
+    }
+
+    pub fn has_waits(&self) -> bool {
+        self.bonds().any(|(_, wait)| wait > 0)
     }
 }
 
@@ -66,7 +78,7 @@ pub fn read(file: &[u8]) -> Result<Plan, Refusal> {
         if !spare_is_zero(record) {
             return Err(refuse(4));
         }
-        // Type, from and to: the same pair in the other type is another arc.
+        // Type, from and to: the same pair in the other type is another arc, and with another wait it is the same.
         if is_arc(record) && !named.insert(&record[..3]) {
             return Err(refuse(13));
         }
@@ -115,7 +127,7 @@ fn take_arc(plan: &mut Plan, record: &[u8]) -> bool {
     let known = 1..=plan.size();
     let good = known.contains(&from) && known.contains(&to) && from != to;
     let arcs = if record[0] == JOB { &mut plan.job } else { &mut plan.extra };
-    arcs.insert((from, to));
+    arcs.insert((from, to), two_bytes(record, 4).into());
     good
 }
 
@@ -136,7 +148,7 @@ fn spare_is_zero(record: &[u8]) -> bool {
     let spare: &[usize] = match record[0] {
         ACTIVITY => &[20, 21, 22, 23],
         CREW => &[2, 3, 20, 21, 22, 23],
-        _ => return record[3..].iter().all(|&byte| byte == 0),
+        _ => &[3, 6, 7, 8, 9, 10, 11, 12, 13, 14, 15, 16, 17, 18, 19, 20, 21, 22, 23],
     };
     spare.iter().all(|&at| record[at] == 0)
 }

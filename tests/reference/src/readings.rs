@@ -2,7 +2,7 @@
 //! written out by hand.
 
 use crate::bench::{answer, overloaded, Bench};
-use crate::bytes::{activity_record, arc_record, crew_record, first, Activity, Draft, EXTRA, JOB, RECORD};
+use crate::bytes::{activity_record, arc_record, crew_record, first, Activity, Draft, Waits, EXTRA, JOB, RECORD};
 use crate::cases::{accepted, expect, four, plan_a};
 use crate::model::Case;
 
@@ -96,7 +96,9 @@ fn fields(bench: &mut Bench) {
 
 fn spare_bytes(bench: &mut Bench) {
     let records = [activity(1), activity(2), crew(), arc_record(JOB, (1, 2)), arc_record(EXTRA, (2, 1))];
-    let spare = [(0, 20..24), (1, 20..24), (2, 2..4), (2, 20..24), (3, 3..24), (4, 3..24)];
+    let mut spare = vec![(0, 20..24), (1, 20..24), (2, 2..4), (2, 20..24)];
+    // Bytes 4 and 5 of an arc are its wait.
+    spare.extend([3, 4].into_iter().flat_map(|arc| [(arc, 3..4), (arc, 6..24)]));
     for (place, bytes) in spare {
         for byte in bytes {
             let mut damaged = records;
@@ -129,7 +131,8 @@ fn lowest_kind(bench: &mut Bench) {
         duration: 1,
         demands: std::array::from_fn(|kind| demands.get(kind).copied().unwrap_or(0)),
     });
-    let mut draft = Draft { activities: activities.to_vec(), kinds: 3, available: [0; 8], job: vec![], extra: vec![] };
+    let activities = activities.to_vec();
+    let mut draft = Draft { activities, kinds: 3, available: [0; 8], job: vec![], extra: vec![], waits: Waits::new() };
     for (available, due) in [
         ([1, 5, 0], overloaded(2, 6, 2)),
         ([0, 5, 0], overloaded(1, 1, 1)),

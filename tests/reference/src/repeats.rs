@@ -1,7 +1,7 @@
 //! No arc twice: files with their answers written out, and random plans into which copies of arcs are put.
 
 use crate::bench::{answer, Bench};
-use crate::bytes::{arc_record, crew_record, first, Arc, Draft, EXTRA, JOB, RECORD};
+use crate::bytes::{arc_record, crew_record, first, waiting, Arc, Draft, EXTRA, JOB, RECORD, WAIT};
 use crate::cases::{accepted, expect, same};
 use crate::model::{Case, MOST_TRIED};
 use crate::read::MOST_ACTIVITIES;
@@ -40,9 +40,16 @@ fn causes(bench: &mut Bench) {
         arcs(&[arc, turned, arc], answer(13, 6));
         arcs(&[arc, turned, turned], answer(13, 6));
         arcs(&[arc, with(arc, 0, 9)], answer(2, 5));
-        for byte in 3..24 {
+        for byte in [3].into_iter().chain(6..24) {
             arcs(&[arc, with(arc, byte, 1)], answer(4, 5));
             arcs(&[with(arc, byte, 1), arc], answer(4, 4));
+        }
+        // With another wait it is the same pair.
+        for (one, two) in [(0, 1), (1, 0), (1, 256), (65_535, 65_534), (65_535, 65_535)] {
+            arcs(&[waiting(arc, one), waiting(arc, two)], answer(13, 5));
+            arcs(&[waiting(arc, one), waiting(other, two), waiting(arc, two), arc], answer(13, 6));
+            arcs(&[waiting(arc, one), with(waiting(arc, two), 3, 1)], answer(4, 5));
+            arcs(&[waiting(arc, one), waiting(turned, two)], answer(circle, 1));
         }
         for (byte, number) in [(0, 2), (1, 3), (2, 3), (3, 4), (23, 4)] {
             arcs(&[arc, with(other, byte, 9), arc], answer(number, 5));
@@ -136,11 +143,18 @@ fn copied(bench: &mut Bench, sample: &Sample, kind: u8) {
     }
 }
 
-/// 13 with the first place whose arc stands before it too, found by looking back from each.
+/// 13 with the first place whose arc stands before it too, found by looking back from each. Some copies get other waits, which
+/// makes no difference: what is left in the end is the first.
 fn refused(bench: &mut Bench, sample: &Sample, draft: &Draft, kind: u8, copies: usize) {
     let arcs = if kind == JOB { &draft.job } else { &draft.extra };
-    let later = (0..arcs.len()).find(|&place| arcs[..place].contains(&arcs[place])).expect("there are copies");
-    let (file, due) = (draft.bytes(), answer(13, place_in_file(draft, kind, later) as u64));
+    let again: Vec<usize> = (0..arcs.len()).filter(|&place| arcs[..place].contains(&arcs[place])).collect();
+    let mut file = draft.bytes();
+    for place in again.iter().map(|&place| RECORD * place_in_file(draft, kind, place)) {
+        if bench.random.percent(50) {
+            file[place..][WAIT].copy_from_slice(&(bench.random.next() as u16).to_le_bytes());
+        }
+    }
+    let due = answer(13, place_in_file(draft, kind, again[0]) as u64);
     expect(bench, &file, "Verdict", |bench| bench.planner.verdict(&file).answer, due);
     bench.all(&sample.case(file.clone()));
     mended(bench, sample, file, copies);
@@ -186,7 +200,8 @@ fn spare_byte(bench: &mut Bench, sample: &Sample, kind: u8) {
     let mut file = draft.bytes();
     // The later one first, and then both.
     for place in [two, one].map(|place| place_in_file(&draft, kind, place)) {
-        file[RECORD * place + bench.random.between(3, 23) as usize] = bench.random.between(1, 255) as u8;
+        let any = bench.random.between(6, 23) as usize;
+        file[RECORD * place + bench.random.pick(&[3, any, any])] = bench.random.between(1, 255) as u8;
         let due = answer(4, place as u64);
         expect(bench, &file, "Verdict", |bench| bench.planner.verdict(&file).answer, due);
         bench.all(&sample.case(file.clone()));

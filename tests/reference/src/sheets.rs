@@ -3,12 +3,13 @@
 
 use crate::bench::{answer, overloaded, Bench};
 use crate::big::prove_needs;
-use crate::bytes::{Activity, Draft};
+use crate::bytes::{Activity, Arc, Draft, Waits, JOB};
 use crate::cases::{expect, four, plan_a};
 use crate::model::{Case, Facts};
 use crate::random::Random;
 use crate::read::MOST_ACTIVITIES;
 use crate::sheet::PAGE;
+use crate::sweep::wait_some;
 use std::collections::BTreeSet;
 use std::fs;
 
@@ -58,15 +59,16 @@ fn page_of_a(bench: &mut Bench) {
     printed(bench, &plan_a().bytes(), 1, 1, 1, &all);
 }
 
-/// A chain with every number at its greatest. It has 65 records, six of them on the second page.
+/// A chain with every number at its greatest, waits included. It has 65 records, six of them on the second page.
 fn widest_columns(bench: &mut Bench) {
     let activity = Activity { duration: 65_535, demands: [65_535; 8] };
-    let job = (1..MOST_ACTIVITIES as u8).map(|from| (from, from + 1)).collect();
+    let job: Vec<Arc> = (1..MOST_ACTIVITIES as u8).map(|from| (from, from + 1)).collect();
+    let waits = job.iter().map(|&arc| ((JOB, arc), 65_535)).collect();
     let activities = vec![activity; MOST_ACTIVITIES];
-    let file = Draft { activities, kinds: 8, available: [65_535; 8], job, extra: vec![] }.bytes();
-    let first = [(0, "KIND 8   1"), (1, "  0   1    65535          0"), (2, "  1   2    65535      65535")];
+    let file = Draft { activities, kinds: 8, available: [65_535; 8], job, extra: vec![], waits }.bytes();
+    let first = [(0, "KIND 8   1"), (1, "  0   1    65535          0"), (2, "  1   2    65535     131070")];
     let last =
-        [(0, "KIND 8   2"), (1, " 59  60    65535    3866565"), (6, " 64  65    65535    4194240"), (7, ""), (59, "")];
+        [(0, "KIND 8   2"), (1, " 59  60    65535    7733130"), (6, " 64  65    65535    8322945"), (7, ""), (59, "")];
     printed(bench, &file, 8, 1, 2, &first);
     printed(bench, &file, 8, 2, 2, &last);
 }
@@ -148,13 +150,15 @@ fn layered(random: &mut Random) -> Draft {
         demands: std::array::from_fn(|_| random.between(1, 1_000) as u16),
     };
     let activities = (0..MOST_ACTIVITIES).map(&mut activity).collect();
-    Draft { activities, kinds: 8, available: [0; 8], job, extra }
+    let mut draft = Draft { activities, kinds: 8, available: [0; 8], job, extra, waits: Waits::new() };
+    wait_some(random, &mut draft);
+    draft
 }
 
 /// The pages that tests/c has stored are those of the independent sheet, for every kind of these plans, and no other.
 fn stored(bench: &mut Bench) {
     let mut names = BTreeSet::new();
-    for plan in ["a", "hall", "handed_back"] {
+    for plan in ["a", "cured", "hall", "handed_back"] {
         let file = fs::read(format!("examples/{plan}.plan")).expect("the example is there");
         let case = claimed(bench, file);
         let facts = case.facts.as_ref().expect("the example is accepted");
@@ -175,8 +179,8 @@ fn stored(bench: &mut Bench) {
     bench.tally.count(&[], "stored sheet", if there == names { Ok(()) } else { differ() });
 }
 
-/// The needs as the library gives them; the flows prove them.
+/// The needs as the library gives them; the flows prove them. Of a refusal, which no example may get, the rest is no count.
 fn claimed(bench: &mut Bench, file: Vec<u8>) -> Case {
     let reply = bench.planner.needs(&file, &[0; 8]);
-    Case::claimed(file, &reply.after[..(reply.answer >> 8) as usize])
+    Case::claimed(file, reply.after.get(..(reply.answer >> 8) as usize).unwrap_or(&reply.after))
 }

@@ -1,7 +1,7 @@
 //! Random plans small enough to try all subsets of.
 
 use crate::bench::Bench;
-use crate::bytes::{Activity, Arc, Draft, MILESTONE};
+use crate::bytes::{Activity, Arc, Draft, Waits, MILESTONE};
 use crate::model::{needs_by_subsets, ordered, Case, MOST_TRIED};
 use crate::random::Random;
 use crate::read::read;
@@ -25,7 +25,8 @@ pub fn random_plans(bench: &mut Bench, count: usize) {
 }
 
 /// Demands go up to `most`; in half of the plans some activities are milestones. Arcs run forward in a random order of
-/// the activities, so that their numbers say nothing, and some are of both types. No type names a pair twice.
+/// the activities, so that their numbers say nothing, some are of both types, and in half of the plans some have waits. No
+/// type names a pair twice.
 pub fn random_draft(random: &mut Random, size: usize, most: u16) -> Draft {
     let kinds = random.between(1, 8) as u8;
     let highest = random.pick(&[1, 3, 10, most]);
@@ -41,7 +42,20 @@ pub fn random_draft(random: &mut Random, size: usize, most: u16) -> Draft {
     let mut job = random_arcs(random, &line);
     let mut extra = random_arcs(random, &line);
     repeat_some(random, &mut job, &mut extra);
-    Draft { activities, kinds, available: [0; 8], job, extra }
+    let mut draft = Draft { activities, kinds, available: [0; 8], job, extra, waits: Waits::new() };
+    wait_some(random, &mut draft);
+    draft
+}
+
+/// Gives some arcs waits, or none: short ones next to durations, any at all, or those at the ends of their bytes.
+pub fn wait_some(random: &mut Random, draft: &mut Draft) {
+    let (share, longest) = (random.pick(&[0, 0, 30, 100]), random.pick(&[3, 300, 65_535]));
+    for arc in draft.arcs() {
+        if random.percent(share) {
+            let any = random.between(1, longest) as u16;
+            draft.waits.insert(arc, random.pick(&[any, any, any, 1, 255, 256, 65_535]));
+        }
+    }
 }
 
 fn random_activity(random: &mut Random, kinds: u8, highest: u16, idle: u64) -> Activity {
@@ -121,12 +135,13 @@ pub fn around(random: &mut Random, needs: &[u32]) -> [u16; 8] {
     available
 }
 
-/// The same arcs in another order, job and extra arcs apart, must give the same flows.
+/// The same arcs in another order, job and extra arcs apart, and with other waits, must give the same flows.
 pub fn equal_flows(bench: &mut Bench, draft: &Draft) {
-    let mut other = draft.clone();
+    let mut other = Draft { waits: Waits::new(), ..draft.clone() };
     for arcs in [&mut other.job, &mut other.extra] {
         bench.random.shuffle(arcs);
     }
+    wait_some(&mut bench.random, &mut other);
     same_flows(bench, &draft.bytes(), &other.bytes(), draft.kinds);
 }
 
@@ -136,7 +151,7 @@ pub fn same_flows(bench: &mut Bench, file: &[u8], twin: &[u8], kinds: u8) {
         let (one, two) = (bench.planner.flow(file, kind, &lent), bench.planner.flow(twin, kind, &lent));
         // Only accepted plans have flows; the rest is compared elsewhere.
         let equal = one.answer & 255 != 0 || (one.answer, one.after) == (two.answer, two.after);
-        let outcome = if equal { Ok(()) } else { Err(format!("kind {kind}: another flow after reordering arcs")) };
+        let outcome = if equal { Ok(()) } else { Err(format!("kind {kind}: another flow of the same arcs")) };
         bench.tally.count(file, "Flow of equal plans", outcome);
     }
 }

@@ -21,7 +21,7 @@ const OTHERS: [(&str, &[u64]); 7] = [
     ("Crew check", &[10, BROKEN, OVERLOAD, 0]),
 ];
 /// What a number alone does not say.
-const NOTES: [&str; 14] = [
+const NOTES: [&str; 21] = [
     "no overload",
     "sheet of one page",
     "sheet of more pages",
@@ -35,7 +35,14 @@ const NOTES: [&str; 14] = [
     "plan without milestones",
     "13: a job arc",
     "13: an extra arc",
-    "plan with a pair in both types",
+    "pair in both types, with one wait",
+    "pair in both types, the job arc's wait longer",
+    "pair in both types, the extra arc's wait longer",
+    "plan with waits",
+    "plan without waits",
+    "crew with waits fits",
+    "crew with waits breaks an arc only by its wait",
+    "crew with waits overloads",
 ];
 
 #[derive(Default)]

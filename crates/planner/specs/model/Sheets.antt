@@ -1,4 +1,4 @@
--- What Sheet goes by: the starts of a plan, in room for those of all elements and of the end. Assumes nothing.
+-- What Sheet goes by: the starts of a plan, by the arcs of a file, in room for those of all elements and of the end. Assumes nothing.
 use mathlib.Core.List.{List}
 use Prim.Native.Nat.{ℕ, _+_}
 use lib.ListN.{replicate}
@@ -7,10 +7,11 @@ use Rattle.order.specs.Stored.{elements}
 use Rattle.plan.specs.declared.Plan.{Plan}
 use Rattle.schedule.specs.Lists.{at}
 use Rattle.schedule.specs.Starts.{endOf}
-use Rattle.schedule.specs.model.Arrays.{byDuration, startsOf}
+use Rattle.schedule.specs.model.Arrays.{startsOf}
+use Rattle.planner.specs.Times.{arcWeight}
 use Rattle.planner.specs.Starts.{withEnd}
 
-abbrev pub startsIn : List ℕ → Plan → List ℕ
-startsIn rows q =
-    let first = startsOf rows (byDuration (q .duration)) in
+abbrev pub startsIn : List ℕ → List ℕ → Plan → List ℕ
+startsIn s rows q =
+    let first = startsOf rows (arcWeight s (at (q .duration))) in
     over (q .count + 1) (withEnd (q .count) first (endOf (q .count) (at first) (at (q .duration)))) (replicate (elements + 1) 0)

@@ -3,6 +3,11 @@ ghost use mathlib.Core.Path.{_≡_};
 ghost use Prim.Native.Nat.{_≤_};
 ghost use lib.ListN.{length};
 ghost use Rattle.order.specs.Stored.{elements};
+ghost use Rattle.plan.specs.Meaning.{Readable};
+ghost use Rattle.schedule.specs.Lists.{at};
+ghost use Rattle.schedule.specs.Checks.{checkOf};
+ghost use Rattle.schedule.specs.model.Arrays.{crewNet, workOf, Listed};
+ghost use Rattle.planner.specs.Times.{arcWeight};
 ghost use Rattle.planner.specs.CrewCheck.{checkedOf, misworked, someMisworked, badLists, crewCheckAnswer};
 use crate::Cause;
 use crate::CrewChecked;
@@ -11,6 +16,7 @@ use crate::faults::is_fine;
 use crate::faults::or_cause;
 use crate::open::open_plan;
 use order::ELEMENTS;
+use order::Rows;
 
 // The answer, by the fault and what was found.
 fn checked_of(fault: Fault, value: schedule::Checked) -> CrewChecked
@@ -61,6 +67,24 @@ fn bad_lists(m: usize, durations: &[u32; ELEMENTS], starts: &[u32], worked: &[u3
     some_misworked(durations, worked)
 }
 
+// What is found, by arcs, demands and availabilities that were opened, and by the file's waits, which are read here.
+fn found_in(
+    s: &[u8],
+    rows: &Rows,
+    q: plan::Plan,
+    starts: &[u32],
+    worked: &[u32],
+) -> schedule::Checked
+    requires { ⌜ Readable (now s) × Listed (now starts) (now worked) ⌝ }
+    ensures { λ r. ⌜ r ≡ checkOf (crewNet (now (rows .entry)) (arcWeight (now (s .entry)) (at (now (worked .entry)))) (now (starts .entry))) (workOf (q .demand) (q .available) (now (starts .entry)) (now (worked .entry))) ⌝ }
+{
+    let mut waits = [0u32; ELEMENTS * ELEMENTS];
+    plan::store_waits(s, &mut waits);
+    let demands = q.demand;
+    let available = q.available;
+    schedule::crew_check(rows, &waits, &demands, &available, starts, worked)
+}
+
 // Crew check of a start and a worked duration for each activity of the plan.
 pub fn crew_check(s: &[u8], starts: &[u32], worked: &[u32]) -> CrewChecked
     ensures { λ r. ⌜ r ≡ crewCheckAnswer (now (s .entry)) (now (starts .entry)) (now (worked .entry)) ⌝ }
@@ -79,8 +103,6 @@ pub fn crew_check(s: &[u8], starts: &[u32], worked: &[u32]) -> CrewChecked
         return checked_of(fault, schedule::Checked::Fits);
     }
     let rows = opened.rows;
-    let demands = q.demand;
-    let available = q.available;
-    let value = schedule::crew_check(&rows, &demands, &available, starts, worked);
+    let value = found_in(s, &rows, q, starts, worked);
     checked_of(fault, value)
 }

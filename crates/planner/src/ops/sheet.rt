@@ -6,6 +6,7 @@ ghost use Rattle.words.specs.Tables.{over};
 ghost use Rattle.order.specs.Stored.{elements};
 ghost use Rattle.order.specs.Before.{Acyclic};
 ghost use Rattle.order.specs.Orders.{Direct};
+ghost use Rattle.plan.specs.Meaning.{Readable};
 ghost use Rattle.schedule.specs.model.Arrays.{AllAtMost};
 ghost use Rattle.crew_sheet.specs.Sheet.{pageBytes, pagesOf, sheetPage, mostLines};
 ghost use Rattle.planner.specs.Output.{outputOf, lentAfter};
@@ -21,6 +22,7 @@ use crate::open::open_plan;
 use crate::ops::flow::is_kind;
 use crate::ops::flow::kind_fault;
 use crate::ops::flow::write_records;
+use crate::ops::starts::first_starts;
 use crate::ops::starts::put_starts;
 use order::ELEMENTS;
 use order::Rows;
@@ -37,13 +39,13 @@ fn is_page(page: usize, n: usize) -> bool
 }
 
 // The starts of a plan's activities, and that of the end, as Starts writes them.
-fn starts_of(rows: &Rows, q: plan::Plan) -> [u32; ELEMENTS + 1]
-    requires { ⌜ (q .count ≤ elements) × Acyclic (Direct (now rows)) × AllAtMost 65535 (q .duration) ⌝ }
-    ensures { λ r. ⌜ r ≡ startsIn (now (rows .entry)) q ⌝ }
+fn starts_of(s: &[u8], rows: &Rows, q: plan::Plan) -> [u32; ELEMENTS + 1]
+    requires { ⌜ (q .count ≤ elements) × Readable (now s) × Acyclic (Direct (now rows)) × AllAtMost 65535 (q .duration) ⌝ }
+    ensures { λ r. ⌜ r ≡ startsIn (now (s .entry)) (now (rows .entry)) q ⌝ }
 {
     let m = q.count;
     let durations = q.duration;
-    let first = schedule::earliest(rows, &durations);
+    let first = first_starts(s, rows, &durations);
     let end = schedule::end_start(&first, &durations, m);
     let mut starts = [0u32; ELEMENTS + 1];
     put_starts(&mut starts, &first, m, end);
@@ -86,7 +88,7 @@ pub fn sheet(s: &[u8], kind: usize, page: usize, out: &mut [u8]) -> Output
         return output_of(fault, 0);
     }
     let rows = opened.rows;
-    let starts = starts_of(&rows, q);
+    let starts = starts_of(s, &rows, q);
     let mut records = [0u8; RECORDS];
     let n = write_records(&mut records, order, q, kind - 1);
     print_page(out, &records, n, &starts, kind, page)

@@ -4,6 +4,12 @@ ghost use Prim.Native.Nat.{_+_, _≤_};
 ghost use lib.ListN.{length};
 ghost use Rattle.words.specs.Tables.{over};
 ghost use Rattle.order.specs.Stored.{elements};
+ghost use Rattle.order.specs.Before.{Acyclic};
+ghost use Rattle.order.specs.Orders.{Direct};
+ghost use Rattle.plan.specs.Meaning.{Readable};
+ghost use Rattle.schedule.specs.Lists.{at};
+ghost use Rattle.schedule.specs.model.Arrays.{AllAtMost, startsOf};
+ghost use Rattle.planner.specs.Times.{arcWeight};
 ghost use Rattle.planner.specs.Starts.{startsAnswer, startsOut, withEnd};
 use crate::Output;
 use crate::answer::output_of;
@@ -11,6 +17,7 @@ use crate::faults::is_fine;
 use crate::faults::or_short;
 use crate::open::open_plan;
 use order::ELEMENTS;
+use order::Rows;
 
 // Writes m starts and the start of the end to the front of the lent numbers.
 pub fn put_starts(out: &mut [u32], starts: &[u32; ELEMENTS], m: usize, end: u32)
@@ -21,6 +28,16 @@ pub fn put_starts(out: &mut [u32], starts: &[u32; ELEMENTS], m: usize, end: u32)
         out[i] = starts[i];
     }
     out[m] = end;
+}
+
+// The earliest starts of all elements, by arcs and durations that were opened, and by the file's waits, which are read here.
+pub fn first_starts(s: &[u8], rows: &Rows, durations: &[u32; ELEMENTS]) -> [u32; ELEMENTS]
+    requires { ⌜ Readable (now s) × Acyclic (Direct (now rows)) × AllAtMost 65535 (now durations) ⌝ }
+    ensures { λ r. ⌜ r ≡ startsOf (now (rows .entry)) (arcWeight (now (s .entry)) (at (now (durations .entry)))) ⌝ }
+{
+    let mut waits = [0u32; ELEMENTS * ELEMENTS];
+    plan::store_waits(s, &mut waits);
+    schedule::earliest(rows, durations, &waits)
 }
 
 // Starts: those of the m activities, and then that of the end, to the front of the lent numbers.
@@ -39,7 +56,7 @@ pub fn starts(s: &[u8], out: &mut [u32]) -> Output
     }
     let rows = opened.rows;
     let durations = q.duration;
-    let first = schedule::earliest(&rows, &durations);
+    let first = first_starts(s, &rows, &durations);
     let end = schedule::end_start(&first, &durations, m);
     put_starts(out, &first, m, end);
     output_of(fault, needed)

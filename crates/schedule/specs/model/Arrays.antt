@@ -1,4 +1,4 @@
--- A plan's arrays: arcs as a table of sets, a duration for each element, and a demand for each kind and element. Assumes nothing.
+-- A plan's arrays: arcs as a table of sets, a wait for each pair of elements, a duration for each element, and a demand for each kind and element. Assumes nothing.
 use mathlib.Core.Path.{_≡_}
 use mathlib.Core.List.{List}
 use Prim.Native.Nat.{ℕ, _+_, _*_, _^_, _≤_, _<_}
@@ -17,15 +17,20 @@ use Rattle.order.specs.Stored.{elements}
 abbrev pub netOf : List ℕ → (ℕ → ℕ → ℕ) → Network
 netOf rows weight = record { elements = elements; arc = after rows; weight = weight }
 
--- the weight of an arc: the duration of the element that it comes from
+-- the weight of an arc without a wait: the duration of the element that it comes from
 abbrev pub byDuration : List ℕ → ℕ → ℕ → ℕ
 byDuration durations i j = at durations i
+
+-- the weight of an arc with a wait: the duration of the element that it comes from, and the wait on the arc from i to j, which stands at
+-- elements * j + i (the arcs into j together)
+abbrev pub withWaits : List ℕ → List ℕ → ℕ → ℕ → ℕ
+withWaits durations waits i j = at durations i + at waits (elements * j + i)
 
 -- the earliest starts of all elements
 unfoldable pub startsOf : List ℕ → (ℕ → ℕ → ℕ) → List ℕ
 startsOf rows weight = table elements (earliestOf (netOf rows weight))
 
--- each of the numbers is at most b (a file's durations are at most 65,535)
+-- each of the numbers is at most b (a file's durations and waits are at most 65,535)
 abbrev pub AllAtMost : ℕ → List ℕ → Type 0
 AllAtMost b xs = (i : ℕ) → at xs i ≤ b
 

@@ -9,7 +9,7 @@ unfolding arcCause
 returns c =
     let fields = c .before .before in
     let typed = fields .before .before in
-    simp (c .rule3 .ensures, c .before .all-zero .ensures, fields .rule2 .ensures, fields .before .arc-fields .ensures, typed .rule .ensures)
+    simp (c .rule3 .ensures, c .before .arc-spare .ensures, fields .rule2 .ensures, fields .before .arc-fields .ensures, typed .rule .ensures)
 
 pub arc-cause-spec : {M : Type 1} → statement M
 arc-cause-spec =

@@ -3,7 +3,7 @@ use mathlib.Core.Path.{_≡_}
 use native.Mathlib.Omega.{arith}
 use borrow.Author.Needs.{needs}
 use Rattle.schedule.specs.Checks.{brokenFrom}
-use Rattle.schedule.specs.model.Arrays.{byDuration, crewNet, workOf}
+use Rattle.schedule.specs.model.Arrays.{crewNet, withWaits, workOf}
 use Rattle.schedule.specs.Lists.{at}
 use Rattle.schedule.proofs.Arcs.{broken-to-first}
 use Rattle.schedule.proofs.Periods.{lowest-first}
@@ -11,13 +11,13 @@ use Rattle.schedule.proofs.Answers.{check-broken, check-over, check-fit
 use Rattle.schedule.proofs.crew.crew_check.Statement.{statement}
 use Rattle.schedule.proofs.crew.crew_check.Tie as tie
 
-add-t13 : tie.Need-add-t13
-add-t13 c =
+add-t14 : tie.Need-add-t14
+add-t14 c =
     let b = c .before .before in
     let s = b .before .before .before .args in
     let S = s .starts .now in
     let D = s .worked .now in
-    omega (arith, c .broken-to .ensures, broken-to-first (crewNet (s .rows .now) (byDuration D) S) (at S) (b .broken-from .result) .within)
+    omega (arith, c .broken-to .ensures, broken-to-first (crewNet (s .rows .now) (withWaits D (s .waits .now)) S) (at S) (b .broken-from .result) .within)
 
 returns : tie.Need-returns
 returns c =
@@ -25,14 +25,14 @@ returns c =
     let s = b .before .before .before .args in
     let S = s .starts .now in
     let D = s .worked .now in
-    let G = crewNet (s .rows .now) (byDuration D) S in
+    let G = crewNet (s .rows .now) (withWaits D (s .waits .now)) S in
     let W = workOf (s .demands .now) (s .available .now) S D in
     let f : b .broken-from .result ≡ brokenFrom G (at S) = b .broken-from .ensures in
     check-broken G W (b .broken-from .result) (c .broken-to .result) f (omega arith)
     (c .broken-to .ensures)
 
-add-t15 : tie.Need-add-t15
-add-t15 c =
+add-t16 : tie.Need-add-t16
+add-t16 c =
     let b = c .before .before .before .before in
     let s = b .before .before .before .args in
     let S = s .starts .now in
@@ -45,7 +45,7 @@ returns-2 c =
     let s = b .before .before .before .args in
     let S = s .starts .now in
     let D = s .worked .now in
-    let G = crewNet (s .rows .now) (byDuration D) S in
+    let G = crewNet (s .rows .now) (withWaits D (s .waits .now)) S in
     let W = workOf (s .demands .now) (s .available .now) S D in
     let f : b .broken-from .result ≡ brokenFrom G (at S) = b .broken-from .ensures in
     check-over G W (b .broken-from .result) (c .before .before .first-period .result) (c .lowest-kind .result) f (omega arith) (c .before .before .first-period .ensures) (omega arith) (c .lowest-kind .ensures)
@@ -56,7 +56,7 @@ returns-3 c =
     let s = b .before .before .before .args in
     let S = s .starts .now in
     let D = s .worked .now in
-    let G = crewNet (s .rows .now) (byDuration D) S in
+    let G = crewNet (s .rows .now) (withWaits D (s .waits .now)) S in
     let W = workOf (s .demands .now) (s .available .now) S D in
     let f : b .broken-from .result ≡ brokenFrom G (at S) = b .broken-from .ensures in
     check-fits G W (b .broken-from .result) (c .before .first-period .result) f (omega arith) (c .before .first-period .ensures) (omega arith)
@@ -68,10 +68,10 @@ crew-check-spec =
     (λ c κs. search needs)
     (λ c κs. search needs)
     (λ c. search needs)
-    add-t13
+    add-t14
     returns
     (λ c κs. search needs)
     (λ c κs. search needs)
-    add-t15
+    add-t16
     returns-2
     returns-3)

@@ -5,18 +5,18 @@ use lib.ListN.{set}
 use borrow.Author.Needs.{needs}
 use Rattle.order.specs.Stored.{numberOf}
 use Rattle.order.proofs.Listing.{listed-below, listing-less, listing-again, listing-end}
-use Rattle.schedule.specs.model.Arrays.{netOf, byDuration}
+use Rattle.schedule.specs.model.Arrays.{netOf, withWaits}
 use Rattle.schedule.specs.Lists.{at}
 use Rattle.schedule.specs.model.Levels.{place, placed}
 use Rattle.schedule.proofs.early.place.Statement.{statement}
 use Rattle.schedule.proofs.early.place.Tie as tie
 
 abbrev Inv-loop : tie.InvT-loop
-Inv-loop rows durations before starts₀ left₀ starts left =
-    placed (netOf rows (byDuration durations)) (at before) starts (numberOf left) ≡ placed (netOf rows (byDuration durations)) (at before) starts₀ (numberOf left₀)
+Inv-loop rows durations waits before starts₀ left₀ starts left =
+    placed (netOf rows (withWaits durations waits)) (at before) starts (numberOf left) ≡ placed (netOf rows (withWaits durations waits)) (at before) starts₀ (numberOf left₀)
 
 abbrev μ-loop : tie.MeasureT-loop
-μ-loop rows durations before starts₀ left₀ starts left = numberOf left
+μ-loop rows durations waits before starts₀ left₀ starts left = numberOf left
 
 latest-requires : tie.Need-latest-requires Inv-loop μ-loop
 latest-requires c κs = (listed-below _ _ (c .before .before .is-empty .ensures) (c .before .if1 .taken) (c .lowest .ensures), c .before .before .before .before .pre)
@@ -43,7 +43,7 @@ loop-again c =
     let t = low .before in
     let l = t .before .before .loop in
     let s = t .before .before .before .args in
-    listing-again _ _ (t .before .is-empty .ensures) (place (netOf (s .rows .now) (byDuration (s .durations .now))) (at (s .before .now))) _ (l .inv) _ _ (t .if1 .taken)
+    listing-again _ _ (t .before .is-empty .ensures) (place (netOf (s .rows .now) (withWaits (s .durations .now) (s .waits .now))) (at (s .before .now))) _ (l .inv) _ _ (t .if1 .taken)
     (low .lowest .ensures) (ap (set (l .starts) (low .lowest .result)) (c .before .latest .ensures)) (c .without-lowest .ensures)
 
 returns : tie.Need-returns Inv-loop μ-loop

@@ -6,7 +6,7 @@ use Prim.Native.Nat.{ℕ}
 use Rattle.planner.specs.CrewCheck.{crewCheckFault}
 use Rattle.planner.proofs.OutputLaws.{Ends, stops, goes-on}
 use Rattle.planner.proofs.OpenLaws.{opened-few}
-use Rattle.planner.proofs.CrewCheckLaws.{ends, listed, answered}
+use Rattle.planner.proofs.CrewCheckLaws.{ends, looks, answered}
 use borrow.Author.Needs.{needs}
 use Rattle.planner.proofs.ops.crew_check.crew_check.Statement.{statement}
 use Rattle.planner.proofs.ops.crew_check.crew_check.Tie as tie
@@ -39,16 +39,16 @@ returns c =
     answered (s t) (starts t) (worked t) (o t .open-plan .ensures) _ (found t) (c .checked-of .ensures)
     (λ e. absurd (true≢false (sym e ∙ stops (found t) (c .before .if1 .taken))))
 
-crew-check-requires : tie.Need-crew-check-requires
-crew-check-requires c κs =
-    let h = c .before .before .before .before .before .before in
+found-in-requires : tie.Need-found-in-requires
+found-in-requires c κs =
+    let h = c .before .before in
     let t = h .before in
-    listed (s t) (starts t) (worked t) (o t .open-plan .ensures) (goes-on (found t) (h .if1 .left))
+    looks (s t) (starts t) (worked t) (o t .open-plan .ensures) (goes-on (found t) (h .if1 .left))
 
 returns-2 : tie.Need-returns-2
 returns-2 c =
-    let t = c .before .before .before .before .before .before .before .before .before in
-    answered (s t) (starts t) (worked t) (o t .open-plan .ensures) _ (found t) (c .checked-of2 .ensures) (λ _. c .before .crew-check .ensures)
+    let t = c .before .before .before .before .before in
+    answered (s t) (starts t) (worked t) (o t .open-plan .ensures) _ (found t) (c .checked-of2 .ensures) (λ _. c .before .found-in .ensures)
 
 pub crew-check-spec : {M : Type 1} → statement M
 crew-check-spec =
@@ -60,6 +60,6 @@ crew-check-spec =
     (λ c κs. search needs)
     (λ c κs. search needs)
     returns
-    crew-check-requires
+    found-in-requires
     (λ c κs. search needs)
     returns-2)

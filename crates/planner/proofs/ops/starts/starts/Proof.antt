@@ -7,7 +7,7 @@ use Rattle.records.specs.Bytes.{AreBytes}
 use Rattle.planner.specs.Starts.{needed, startsFault, startNumbers, startsOut}
 use Rattle.planner.proofs.OutputLaws.{Ends, goes-on, refused, done-over}
 use Rattle.planner.proofs.OpenLaws.{opened-few}
-use Rattle.planner.proofs.StartsLaws.{length-numbers, ends, counted, written, room, free, small, fits}
+use Rattle.planner.proofs.StartsLaws.{length-numbers, ends, counted, written, room, readable, free, small, fits}
 use borrow.Author.Needs.{needs}
 use Rattle.planner.proofs.ops.starts.starts.Statement.{statement}
 use Rattle.planner.proofs.ops.starts.starts.Tie as tie
@@ -36,20 +36,20 @@ returns : tie.Need-returns
 unfolding startsOut
 returns c = let t = c .before .before in refused (found t) (needed (s t)) (startNumbers (s t)) (out t) (c .before .if1 .taken) (c .output-of .ensures)
 
-earliest-requires : tie.Need-earliest-requires
-earliest-requires c κs =
+first-starts-requires : tie.Need-first-starts-requires
+first-starts-requires c κs =
     let h = c .before .before .before .before in
     let t = h .before in
     let held = o t .open-plan .ensures in
     let e = goes-on (found t) (h .if1 .left) in
-    (free (s t) (out t) held e, small (s t) (out t) held e (bytes t))
+    (readable (s t) (out t) held e, free (s t) (out t) held e, small (s t) (out t) held e (bytes t))
 
 end-start-requires : tie.Need-end-start-requires
 end-start-requires c κs =
     let h = c .before .before .before .before .before .before .before in
     let t = h .before in
     let held = o t .open-plan .ensures in
-    (opened-few (s t) held, fits (s t) (out t) held (goes-on (found t) (h .if1 .left)) (bytes t) (c .before .before .earliest .ensures))
+    (opened-few (s t) held, fits (s t) (out t) held (goes-on (found t) (h .if1 .left)) (bytes t) (c .before .before .first-starts .ensures))
 
 put-starts-requires : tie.Need-put-starts-requires
 put-starts-requires c κs =
@@ -68,7 +68,7 @@ returns-2 c =
     let t = h .before in
     let held = o t .open-plan .ensures in
     done-over (found t) (needed (s t)) (startNumbers (s t)) (out t) (h .if1 .left) (c .output-of2 .ensures) (counted (s t) (out t) held) (length-numbers (s t))
-    (written (s t) (out t) held (f .earliest .ensures) (e .end-start .ensures) (p .put-starts .ensures))
+    (written (s t) (out t) held (f .first-starts .ensures) (e .end-start .ensures) (p .put-starts .ensures))
 
 pub starts-spec : {M : Type 1} → statement M
 starts-spec =
@@ -80,7 +80,7 @@ starts-spec =
     (λ c κs. search needs)
     (λ c κs. search needs)
     returns
-    earliest-requires
+    first-starts-requires
     end-start-requires
     put-starts-requires
     (λ c κs. search needs)

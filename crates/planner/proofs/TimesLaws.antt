@@ -1,0 +1,21 @@
+-- The weights of a file's arcs: as a table of its waits has them, and how late they let an activity finish. Assumes nothing.
+use mathlib.Core.Path.{_≡_, ap}
+use mathlib.Core.List.{List}
+use Prim.Native.Nat.{ℕ, _+_, _<_}
+use native.Mathlib.Omega.{arith}
+use Rattle.order.specs.Stored.{elements}
+use Rattle.records.specs.Bytes.{AreBytes}
+use Rattle.plan.specs.model.Waits.{waitTable}
+use Rattle.plan.proofs.Waits.{waits-at, file-wait-small}
+use Rattle.schedule.specs.Lists.{at}
+use Rattle.schedule.specs.model.Arrays.{AllAtMost, FinishesFit, byDuration, withWaits, startsOf}
+use Rattle.schedule.proofs.Arrays.{starts-fit}
+use Rattle.planner.specs.Times.{arcWeight}
+
+pub weights-in : (s durations : List ℕ) (i j : ℕ) → i < elements → j < elements → withWaits durations (waitTable s) i j ≡ arcWeight s (at durations) i j
+weights-in s durations i j l h = ap (λ (x : ℕ). at durations i + x) (waits-at s i j l h)
+
+-- the earliest starts by these weights, in durations of at most 65,535 as a file has them, leave room for a duration in 32 bits
+pub starts-finish : (s : List ℕ) → AreBytes s → (rows durations : List ℕ) → AllAtMost 65535 durations → FinishesFit (startsOf rows (arcWeight s (at durations))) (byDuration durations)
+starts-finish s bytes rows durations small i j l =
+    omega (arith, starts-fit rows (arcWeight s (at durations)) (65535 + 65535) (omega arith) (λ i j. omega (arith, small i, file-wait-small s bytes i j)) i j l)
