@@ -12,6 +12,7 @@ use Rattle.schedule.specs.model.Arrays.{AllAtMost, FinishesFit, byDuration, wit
 use Rattle.schedule.proofs.Arrays.{starts-fit}
 use Rattle.planner.specs.Times.{arcWeight}
 
+-- of pairs of elements, the weights by the table are those by the file
 pub weights-in : (s durations : List ℕ) (i j : ℕ) → i < elements → j < elements → withWaits durations (waitTable s) i j ≡ arcWeight s (at durations) i j
 weights-in s durations i j l h = ap (λ (x : ℕ). at durations i + x) (waits-at s i j l h)
 
