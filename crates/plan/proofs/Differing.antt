@@ -1,15 +1,15 @@
 -- Files that differ only in waits are read alike: `only-in-waits`. Assumes nothing.
-use mathlib.Core.Path.{_≡_, refl, sym, ap, ap₂, _∙_}
-use mathlib.Core.Bool.{Bool, true, not, cond, _||_}
+use mathlib.Core.Path.{_≡_, sym, ap, ap₂, _∙_}
+use mathlib.Core.Bool.{Bool, true, not, cond}
 use mathlib.Core.List.{List}
 use mathlib.Core.Logic.{⊎-elim, _↔_, _≢_}
-use Prim.Native.Nat.{ℕ, zero, suc, _+_, _-_, _*_, _/_, _%_, _≤_, _<_}
+use Prim.Native.Nat.{ℕ, _+_, _-_, _*_, _/_, _%_, _≤_, _<_}
 use native.Mathlib.Decide.{decLt}
 use native.Mathlib.Omega.{arith}
 use lib.Seq.{slice}
 use lib.Dec.{eqb, ltb}
 use borrow.Author.Tests.{ltb-true, eqb-true}
-use Rattle.words.specs.Members.{some}
+use Rattle.words.proofs.Firsts.{some-cong}
 use Rattle.words.proofs.Tests.{cond-cong}
 use Rattle.words.proofs.Tables.{table-same}
 use Rattle.records.specs.Bytes.{byte, field, zeros}
@@ -31,12 +31,6 @@ use Rattle.plan.proofs.Parts.{activity-typed, crew-fine}
 use Rattle.plan.proofs.Phases.{outcome, outcome-cong}
 use Rattle.plan.proofs.Said.{readable-faultless, plan-same}
 
--- whether there is one goes by the tests alone
-some-same : (n : ℕ) (p q : ℕ → Bool) → ((k : ℕ) → k < n → p k ≡ q k) → some n p ≡ some n q
-unfolding some
-some-same zero p q e = refl
-some-same (suc n) p q e = ap₂ _||_ (some-same n p q (λ k l. e k (omega arith))) (e n (omega arith))
-
 -- ---- RECORDS WITH THE SAME BYTES keep the same rules
 
 abbrev SameBytes : List ℕ → List ℕ → Type 0
@@ -52,7 +46,7 @@ module _ (q r : List ℕ) (same : SameBytes q r) where
 
   some-demands : demandsSome q ≡ demandsSome r
   unfolding demandsSome
-  some-demands = some-same 8 _ _ (λ k l. ap (ltb 0) (two-same (4 + 2 * k) (omega arith)))
+  some-demands = some-cong 8 _ _ (λ k l. ap (ltb 0) (two-same (4 + 2 * k) (omega arith)))
 
   activity-same : (place : ℕ) → activityCause place q ≡ activityCause place r
   unfolding activityCause activityFields
@@ -104,7 +98,7 @@ AlikeButWaits s t = (p : ℕ) → SameButWait (recordAt s p) (recordAt t p)
 -- whether an earlier record names the pair, and what the first n records name
 repeats-same : (s t : List ℕ) → AlikeButWaits s t → (p : ℕ) → arcRepeats s p ≡ arcRepeats t p
 unfolding arcRepeats
-repeats-same s t same p = some-same p _ _ (λ x l. pair x)
+repeats-same s t same p = some-cong p _ _ (λ x l. pair x)
   where
     at : (x b : ℕ) → b < 4 → byte (recordAt s x) b ≡ byte (recordAt t x) b
     at x = front (recordAt s x) (recordAt t x) (same x)

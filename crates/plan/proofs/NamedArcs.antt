@@ -23,12 +23,13 @@ use Rattle.plan.proofs.RecordRules.{ArcKept, arc-of, arc-among}
 use Rattle.plan.proofs.Arcs.{arcs-skip, arcs-more, arcs-start, length-arcs, with-arc, with-arc-fits}
 use Rattle.plan.proofs.Parts.{Faultless, few, crew-fine, arc-fine, no-arc}
 
+-- what some records name more records name
+pub names-wider : {s : List ℕ} {n m type i j : ℕ} → n ≤ m → Names s n type i j → Names s m type i j
+names-wider l h = record { place = h .place; there = omega (arith, h .there); typed = h .typed; from = h .from; to = h .to }
+
 -- ---- THE FIRST n RECORDS, of a file or of a part of one, where those of the type keep the rules of arcs
 
 module _ (s : List ℕ) (type n : ℕ) (kept : (p : ℕ) → p < n → typeAt s p ≡ type → ArcKept type elements (recordAt s p)) where
-  wider : {p i j : ℕ} → Names s p type i j → Names s (suc p) type i j
-  wider h = record { place = h .place; there = omega (arith, h .there); typed = h .typed; from = h .from; to = h .to }
-
   -- of p + 1 records: one of the first p, or the last
   narrow : {p i j : ℕ} → Names s (suc p) type i j → Names s p type i j ⊎ ((typeAt s p ≡ type) × (byte (recordAt s p) 1 ≡ i + 1) × (byte (recordAt s p) 2 ≡ j + 1))
   narrow {p} {i} {j} h = go (ℕ-discrete (h .place) p)
@@ -60,14 +61,14 @@ module _ (s : List ℕ) (type n : ℕ) (kept : (p : ℕ) → p < n → typeAt s 
       let K = kept p l e in
       let same = ap (λ (x : List ℕ). after x i j) (arcs-more s type p e) in
       let one = with-arc r rows i j (length-arcs s type p) (K .from-low) (K .from-high) (K .to-low) in (
-        (λ t. ⊎-elim (λ o. wider (ih i j .0 o)) (λ h. record { place = p; there = omega arith; typed = e; from = h .0; to = h .1 }) (one .0 (sym same ∙ t))),
+        (λ t. ⊎-elim (λ o. names-wider (omega arith) (ih i j .0 o)) (λ h. record { place = p; there = omega arith; typed = e; from = h .0; to = h .1 }) (one .0 (sym same ∙ t))),
         (λ h. same ∙ one .1 (⊎-elim (λ o. inl (ih i j .1 o)) (λ w. inr (w .1, w .2)) (narrow h))),
       )
 
   means-skip : (p : ℕ) → typeAt s p ≢ type → Means p → Means (suc p)
   means-skip p ne ih i j =
       let same = ap (λ (x : List ℕ). after x i j) (arcs-skip s type p ne) in (
-        (λ t. wider (ih i j .0 (sym same ∙ t))),
+        (λ t. names-wider (omega arith) (ih i j .0 (sym same ∙ t))),
         (λ h. same ∙ ih i j .1 (⊎-elim (λ o. o) (λ w. absurd (ne (w .0))) (narrow h))),
       )
 

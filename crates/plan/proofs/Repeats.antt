@@ -15,16 +15,18 @@ use Rattle.plan.specs.Records.{recordAt, typeAt, samePair, arcRepeats}
 use Rattle.plan.specs.Meaning.{Names}
 use Rattle.plan.proofs.Places.{record-on}
 
-pair-says : (q r : List ℕ) → (samePair q r ≡ true) ↔ ((byte q 0 ≡ byte r 0) × (byte q 1 ≡ byte r 1) × (byte q 2 ≡ byte r 2))
-pair-says q r =
-    let a : Bool = eqb (byte q 0) (byte r 0) in
-    let b : Bool = eqb (byte q 1) (byte r 1) in
-    let c : Bool = eqb (byte q 2) (byte r 2) in (
-      (λ e.
-          let f = and-right a (b && c) e in
-          (eqb-true (byte q 0) (byte r 0) (and-left a (b && c) e), eqb-true (byte q 1) (byte r 1) (and-left b c f), eqb-true (byte q 2) (byte r 2) (and-right b c f))),
-      (λ h. and-both a (b && c) (eq-eqb (byte q 0) (byte r 0) (h .0)) (and-both b c (eq-eqb (byte q 1) (byte r 1) (h .1)) (eq-eqb (byte q 2) (byte r 2) (h .2)))),
+-- a type and two ends are these others exactly where the three tests hold
+pub ends-say : (a b c x y z : ℕ) → (eqb a x && (eqb b y && eqb c z) ≡ true) ↔ ((a ≡ x) × (b ≡ y) × (c ≡ z))
+ends-say a b c x y z =
+    let p : Bool = eqb a x in
+    let q : Bool = eqb b y in
+    let r : Bool = eqb c z in (
+      (λ e. let f = and-right p (q && r) e in (eqb-true a x (and-left p (q && r) e), eqb-true b y (and-left q r f), eqb-true c z (and-right q r f))),
+      (λ h. and-both p (q && r) (eq-eqb a x (h .0)) (and-both q r (eq-eqb b y (h .1)) (eq-eqb c z (h .2)))),
     )
+
+pair-says : (q r : List ℕ) → (samePair q r ≡ true) ↔ ((byte q 0 ≡ byte r 0) × (byte q 1 ≡ byte r 1) × (byte q 2 ≡ byte r 2))
+pair-says q r = ends-say (byte q 0) (byte q 1) (byte q 2) (byte r 0) (byte r 1) (byte r 2)
 
 -- AN EARLIER RECORD OF THE SAME TYPE NAMES THE PAIR
 pub repeats-says : (s : List ℕ) (p i j : ℕ) → byte (recordAt s p) 1 ≡ i + 1 → byte (recordAt s p) 2 ≡ j + 1 → (arcRepeats s p ≡ true) ↔ Names s p (typeAt s p) i j

@@ -1,18 +1,17 @@
 -- The waits of a file's arcs: that each is what its record says, that the table that is read holds them, and how large they are. Assumes nothing.
 use mathlib.Core.Path.{_≡_, sym, ap, ap₂, _∙_}
-use mathlib.Core.Bool.{Bool, true, false, _&&_}
+use mathlib.Core.Bool.{true, false}
 use mathlib.Core.List.{List}
 use mathlib.Core.Logic.{_↔_, _≢_, by-cases}
 use Prim.Native.Nat.{ℕ, zero, suc, _+_, _-_, _*_, _/_, _%_, _≤_, _<_, max}
 use native.Mathlib.Nat.{add-zero, add-suc}
 use native.Mathlib.Decide.{decLt, ℕ-discrete}
 use native.Mathlib.Omega.{arith}
-use lib.Dec.{eqb, ltb}
+use lib.Dec.{ltb}
 use lib.ListN.{length, getD, replicate, length-set, length-replicate, length-drop}
 use lib.Seq.{getD-set-same, getD-set-other}
-use borrow.Author.Tests.{eqb-true, eq-eqb}
 use Rattle.words.specs.model.Loops.{upto}
-use Rattle.words.proofs.Tests.{by-test, clash, fails, cond-true, cond-false, and-left, and-right, and-both}
+use Rattle.words.proofs.Tests.{by-test, clash, fails, cond-true, cond-false}
 use Rattle.words.proofs.Tables.{getD-table, is-table, getD-zeros}
 use Rattle.records.specs.Bytes.{byte, AreBytes}
 use Rattle.order.specs.Stored.{elements}
@@ -22,7 +21,8 @@ use Rattle.plan.specs.model.Waits.{waitTable, waitPlace, withWait, putWa
 use Rattle.plan.proofs.Places.{record-on}
 use Rattle.plan.proofs.RecordRules.{ArcKept}
 use Rattle.plan.proofs.Parts.{Faultless, few, crew-fine, arc-fine, arc-new, no-arc}
-use Rattle.plan.proofs.Repeats.{repeats-says}
+use Rattle.plan.proofs.Repeats.{ends-say, repeats-says}
+use Rattle.plan.proofs.NamedArcs.{names-wider}
 use Rattle.plan.proofs.Said.{readable-faultless, field-small, table-least}
 use Rattle.plan.proofs.RepeatedArcs.{arcs-once}
 
@@ -30,16 +30,7 @@ use Rattle.plan.proofs.RepeatedArcs.{arcs-once}
 
 module _ (s : List ℕ) (type i j : ℕ) where
   names-says : (p : ℕ) → (namesAt s type i j p ≡ true) ↔ ((typeAt s p ≡ type) × (byte (recordAt s p) 1 ≡ i + 1) × (byte (recordAt s p) 2 ≡ j + 1))
-  names-says p =
-      let r : List ℕ = recordAt s p in
-      let a : Bool = eqb (byte r 0) type in
-      let b : Bool = eqb (byte r 1) (i + 1) in
-      let c : Bool = eqb (byte r 2) (j + 1) in (
-        (λ e.
-            let f = and-right a (b && c) e in
-            (eqb-true (byte r 0) type (and-left a (b && c) e), eqb-true (byte r 1) (i + 1) (and-left b c f), eqb-true (byte r 2) (j + 1) (and-right b c f))),
-        (λ h. and-both a (b && c) (eq-eqb (byte r 0) type (h .0)) (and-both b c (eq-eqb (byte r 1) (i + 1) (h .1)) (eq-eqb (byte r 2) (j + 1) (h .2)))),
-      )
+  names-says p = let r = recordAt s p in ends-say (byte r 0) (byte r 1) (byte r 2) type (i + 1) (j + 1)
 
   named : (n p : ℕ) → p < n → namesAt s type i j p ≡ true → Names s n type i j
   named n p l e = let h = names-says p .0 e in record { place = p; there = l; typed = h .0; from = h .1; to = h .2 }
@@ -59,7 +50,7 @@ module _ (s : List ℕ) (type i j : ℕ) where
   wait-named (suc n) some =
       by-test (namesAt s type i j n)
       (λ t. named (suc n) n (omega arith) t)
-      (λ t. let h = wait-named n (omega (arith, wait-skip n t)) in record { place = h .place; there = omega (arith, h .there); typed = h .typed; from = h .from; to = h .to })
+      (λ t. names-wider (omega arith) (wait-named n (omega (arith, wait-skip n t))))
 
   wait-none : (n : ℕ) → (Names s n type i j → ⊥) → waitUpTo s type i j n ≡ 0
   wait-none n none = by-cases (decLt 0 (waitUpTo s type i j n)) (λ some. absurd (none (wait-named n some))) (λ no. omega arith)

@@ -1,9 +1,8 @@
 -- "plans with the same activities, crew, set of job arcs and set of extra arcs get equal flows" (01, Flow): they are read as one and the same plan, and Flow goes by
--- that alone, and so does Sheet. Assumes nothing.
+-- that alone, as Verdict, Needs and Overload do; Sheet goes by that and by the waits. Assumes nothing.
 use mathlib.Core.Path.{_≡_, sym, ap, _∙_}
 use mathlib.Core.List.{List}
 use Prim.Native.Nat.{ℕ, _+_}
-use lib.ListN.{length}
 use Rattle.plan.specs.Meaning.{Readable}
 use Rattle.plan.specs.Causes.{answerOf}
 use Rattle.plan.proofs.Refusals.{readable-is}
@@ -12,10 +11,26 @@ use Rattle.schedule.specs.Lists.{at}
 use Rattle.schedule.proofs.Weights.{starts-weights}
 use Rattle.planner.specs.Open.{planIn, rowsOf, readFault, faultOf}
 use Rattle.planner.specs.Starts.{startNumbers}
-use Rattle.planner.specs.Flow.{flowFault, flowAnswer, flowOut}
-use Rattle.planner.specs.Sheet.{sheetFault, sheetAnswer, sheetOut}
+use Rattle.planner.specs.Verdict.{verdictFault}
+use Rattle.planner.specs.Needs.{needsFault, needNumbers, needsOut}
+use Rattle.planner.specs.Overload.{overloadFault, overloadOut}
+use Rattle.planner.specs.Flow.{flowFault, flowOut}
+use Rattle.planner.specs.Sheet.{sheetFault, sheetOut}
 use Rattle.planner.proofs.OpenLaws.{plan-in}
-use Rattle.promises.specs.Same.{SamePlan, SameWaits}
+use Rattle.promises.specs.Ours.{ours, ourSheet}
+use Rattle.promises.specs.Same.{SamePlan, SameWaits, WritesAlike}
+use Rattle.promises.specs.Waits.{QuotedAlike}
+
+-- FILES THAT ARE READ ALIKE get the same verdict, needs, overload record and flows: these go by nothing else
+pub alike : (s t : List ℕ) → answerOf s ≡ answerOf t → planIn s ≡ planIn t → QuotedAlike ours s t
+unfolding verdictFault needsFault needsOut needNumbers overloadFault overloadOut flowFault flowOut faultOf readFault
+alike s t answers plans =
+    record {
+      verdict = rw (answers, plans);
+      needs = λ out. (rw (answers, plans), rw (answers, plans));
+      overload = λ out. (rw (answers, plans), rw (answers, plans));
+      flow = λ kind out. (rw (answers, plans), rw (answers, plans));
+    }
 
 module _ (s t : List ℕ) (e : Readable s) (f : Readable t) (same : SamePlan s t) where
   pub answers : answerOf s ≡ answerOf t
@@ -27,12 +42,9 @@ module _ (s t : List ℕ) (e : Readable s) (f : Readable t) (same : SamePlan s t
       ∙ plan-same s t e f (same .count) (same .kinds) (same .duration) (same .demand) (same .available) (same .job) (same .extra)
       ∙ sym (plan-in t f)
 
-  pub equal-flows : (kind : ℕ) (out : List ℕ)
-      → (flowAnswer s kind (length out) ≡ flowAnswer t kind (length out)) × (flowOut s kind out ≡ flowOut t kind out)
-  unfolding flowOut flowFault faultOf readFault
-  equal-flows kind out = (rw (answers, plans), rw (answers, plans))
+  pub equal-flows : (kind : ℕ) → WritesAlike (ours .flow kind) s t
+  equal-flows = alike s t answers plans .flow
 
-  pub equal-sheets : SameWaits s t → (kind page : ℕ) (out : List ℕ)
-      → (sheetAnswer s kind page (length out) ≡ sheetAnswer t kind page (length out)) × (sheetOut s kind page out ≡ sheetOut t kind page out)
+  pub equal-sheets : SameWaits s t → (kind page : ℕ) → WritesAlike (ourSheet kind page) s t
   unfolding sheetOut sheetFault faultOf readFault startNumbers
   equal-sheets waits kind page out = (rw (answers, plans), rw (answers, plans, starts-weights (rowsOf t) _ _ (λ i j _ _. ap (λ (x : ℕ). at (planIn t .duration) i + x) (waits i j))))

@@ -1,5 +1,5 @@
 -- CHANGE 5 OF DOCUMENT 02 HOLDS OF OURS: `waits-keep`. Assumes nothing.
-use mathlib.Core.Path.{_≡_, ap}
+use mathlib.Core.Path.{ap}
 use mathlib.Core.List.{List}
 use mathlib.Core.Logic.{_↔_, inl, inr, ⊎-elim, by-cases}
 use Prim.Native.Nat.{ℕ, _+_, _≤_, _<_}
@@ -10,7 +10,6 @@ use Rattle.order.specs.Before.{Acyclic}
 use Rattle.records.specs.Bytes.{AreBytes}
 use Rattle.plan.specs.Records.{activityCount}
 use Rattle.plan.specs.Meaning.{Readable, JobArc, ExtraArc, FileArc, jobWait, extraWait}
-use Rattle.plan.specs.Causes.{answerOf}
 use Rattle.plan.specs.Differing.{OnlyInWaits}
 use Rattle.plan.specs.model.Reads.{readOf}
 use Rattle.plan.specs.declared.Reading.{Reading}
@@ -20,19 +19,16 @@ use Rattle.flow_math.specs.Kept.{Keeps}
 use Rattle.schedule.specs.Lists.{at}
 use Rattle.schedule.proofs.Arrays.{starts-bound}
 use Rattle.planner.specs.Times.{arcWeight, KeepsArcs}
-use Rattle.planner.specs.Open.{planIn, rowsOf, readFault, faultOf, Opens}
+use Rattle.planner.specs.Open.{planIn, rowsOf, Opens}
 use Rattle.planner.specs.Starts.{firstStarts, endStart, startNumbers}
-use Rattle.planner.specs.Verdict.{verdictFault}
-use Rattle.planner.specs.Needs.{needsFault, needNumbers, needsOut}
-use Rattle.planner.specs.Overload.{overloadFault, overloadOut}
-use Rattle.planner.specs.Flow.{flowFault, flowOut}
 use Rattle.planner.proofs.OpenLaws.{opens-small}
+use Rattle.planner.proofs.TimesLaws.{weights-small}
 use Rattle.planner.proofs.StartsLaws.{before-end, numbers-fit}
 use Rattle.planner.proofs.QuotedNeeds.{count-in}
 use Rattle.promises.specs.Ours.{ours}
 use Rattle.promises.proofs.CircleFaults.{opens-when}
 use Rattle.promises.proofs.EarliestStarts.{number}
-use Rattle.promises.proofs.EqualFlowsHold.{answers, plans}
+use Rattle.promises.proofs.EqualFlowsHold.{alike, answers, plans}
 use Rattle.promises.specs.Waits.{FileWaits, StartsFit, QuotedAlike, WaitSentence}
 
 -- ---- the waits of a readable plan
@@ -77,22 +73,12 @@ module _ (s : List ℕ) (small : AreBytes s) (r : Readable s) (free : Acyclic (F
               arith,
               number s o out l i (omega arith),
               before-end (planIn s .count) (firstStarts s) (endStart s) i c,
-              starts-bound (rowsOf s) (arcWeight s (at (planIn s .duration))) (65535 + 65535) (λ i j. omega (arith, opens-small s small o i, file-wait-small s small i j)) i,
+              starts-bound (rowsOf s) (arcWeight s (at (planIn s .duration))) (65535 + 65535) (weights-small s small (planIn s .duration) (opens-small s small o)) i,
             );
         fits = λ i h. omega (arith, number s o out l i h, numbers-fit s small o i);
       }
 
--- ---- who does not read waits: they go by what is read, which holds none
-
-alike : (s t : List ℕ) → answerOf s ≡ answerOf t → planIn s ≡ planIn t → QuotedAlike ours s t
-unfolding verdictFault needsFault needsOut needNumbers overloadFault overloadOut flowFault flowOut faultOf readFault
-alike s t answers plans =
-    record {
-      verdict = rw (answers, plans);
-      needs = λ out. (rw (answers, plans), rw (answers, plans));
-      overload = λ out. (rw (answers, plans), rw (answers, plans));
-      flow = λ kind out. (rw (answers, plans), rw (answers, plans));
-    }
+-- ---- who does not read waits: files that differ only in them are read alike
 
 only : (s t : List ℕ) → OnlyInWaits s t → QuotedAlike ours s t
 unfolding readOf

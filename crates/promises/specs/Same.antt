@@ -8,7 +8,7 @@ use Prim.Native.Nat.{ℕ, _<_}
 use lib.ListN.{length}
 use Rattle.plan.specs.Records.{activityCount}
 use Rattle.plan.specs.Meaning.{Readable, fileDuration, fileDemand, fileKinds, fileAvailable, JobArc, ExtraArc, fileWait}
-use Rattle.promises.specs.Planner.{Planner}
+use Rattle.promises.specs.Planner.{Planner, Writing}
 
 pub record SamePlan (s t : List ℕ) : Type 0 where
   -- the same activities: as many, with the same durations, and the same demands of each of the eight kinds
@@ -26,8 +26,10 @@ pub record SamePlan (s t : List ℕ) : Type 0 where
 abbrev pub SameWaits : List ℕ → List ℕ → Type 0
 SameWaits s t = (i j : ℕ) → fileWait s i j ≡ fileWait t i j
 
--- "Which such flow is free, but plans with the same .. get equal flows.": whichever kind is asked for and whatever is lent, Flow answers and leaves the same
+-- an operation that writes, whatever it is lent, answers the same of both files, and leaves the same, byte for byte
+abbrev pub WritesAlike : Writing → List ℕ → List ℕ → Type 0
+WritesAlike O s t = (out : List ℕ) → (O .answer s (length out) ≡ O .answer t (length out)) × (O .left s out ≡ O .left t out)
+
+-- "Which such flow is free, but plans with the same .. get equal flows.": whichever kind is asked for, Flow answers and leaves the same
 abbrev pub EqualFlows : Planner → Type 0
-EqualFlows P =
-    (s t : List ℕ) → Readable s → Readable t → SamePlan s t → (kind : ℕ) (out : List ℕ)
-    → (P .flow kind .answer s (length out) ≡ P .flow kind .answer t (length out)) × (P .flow kind .left s out ≡ P .flow kind .left t out)
+EqualFlows P = (s t : List ℕ) → Readable s → Readable t → SamePlan s t → (kind : ℕ) → WritesAlike (P .flow kind) s t

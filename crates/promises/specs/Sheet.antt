@@ -18,7 +18,7 @@ use Rattle.planner.specs.declared.Output.the-variants.{Written, Refused}
 use Rattle.promises.specs.Planner.{Writing, Planner}
 use Rattle.promises.specs.EveryInput.{OneOf, opening, AnswersBy, KeepsLent}
 use Rattle.promises.specs.PriceList.{Exceeds, Enough}
-use Rattle.promises.specs.Same.{SamePlan, SameWaits}
+use Rattle.promises.specs.Same.{SamePlan, SameWaits, WritesAlike}
 
 -- "The caller names kind and page"
 abbrev pub SheetOperation : Type 0
@@ -84,5 +84,4 @@ pub record SheetSentence (P : Planner) (S : SheetOperation) : Type 0 where
       → ((P .flow kind .answer s lent ≡ Refused c) → (S kind page .answer s n ≡ Refused c)) × ((S kind page .answer s n ≡ Refused c) → (P .flow kind .answer s lent ≡ Refused c))
   pub sheets : (s : List ℕ) → AreBytes s → Readable s → Acyclic (FileArc s) → Sheets P S s
   -- "plans with the same activities, crew, set of job arcs and set of extra arcs get equal flows" (01, Flow): and with the same waits, since a sheet shows starts, equal sheets
-  pub same : (s t : List ℕ) → Readable s → Readable t → SamePlan s t → SameWaits s t → (kind page : ℕ) (out : List ℕ)
-      → (S kind page .answer s (length out) ≡ S kind page .answer t (length out)) × (S kind page .left s out ≡ S kind page .left t out)
+  pub same : (s t : List ℕ) → Readable s → Readable t → SamePlan s t → SameWaits s t → (kind page : ℕ) → WritesAlike (S kind page) s t

@@ -13,8 +13,8 @@ use Rattle.plan.specs.Meaning.{Readable, Names, JobArc, ExtraArc, FileArc, jobW
 use Rattle.plan.specs.Differing.{OnlyInWaits}
 use Rattle.flow_math.specs.Kept.{Keeps}
 use Rattle.planner.specs.Times.{KeepsArcs}
-use Rattle.promises.specs.Planner.{Planner, Writing}
-use Rattle.promises.specs.Same.{SamePlan}
+use Rattle.promises.specs.Planner.{Planner}
+use Rattle.promises.specs.Same.{SamePlan, WritesAlike}
 
 -- of a readable plan
 pub record FileWaits (s : List ℕ) : Type 0 where
@@ -37,10 +37,7 @@ pub record StartsFit (P : Planner) (s out : List ℕ) : Type 0 where
 
 -- ---- "Need and flow do not read waits."
 
--- an operation that writes answers the same of both files, and leaves the same of what it is lent, byte for byte
-abbrev pub WritesAlike : Writing → List ℕ → List ℕ → Type 0
-WritesAlike O s t = (out : List ℕ) → (O .answer s (length out) ≡ O .answer t (length out)) × (O .left s out ≡ O .left t out)
-
+-- of both files, answers and what is left of what was lent
 pub record QuotedAlike (P : Planner) (s t : List ℕ) : Type 0 where
   pub verdict : P .verdict s ≡ P .verdict t
   pub needs : WritesAlike (P .needs) s t

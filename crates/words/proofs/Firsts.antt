@@ -1,6 +1,6 @@
 -- The first of the numbers below n that have a property, and whether there is one. Assumes nothing.
-use mathlib.Core.Path.{_≡_, refl, sym, ap, _∙_}
-use mathlib.Core.Bool.{Bool, true, false, false≢true}
+use mathlib.Core.Path.{_≡_, refl, sym, ap, ap₂, _∙_}
+use mathlib.Core.Bool.{Bool, true, false, false≢true, _||_}
 use mathlib.Core.Logic.{_↔_, ⊎-elim}
 use Prim.Native.Nat.{ℕ, zero, suc, _≤_, _<_}
 use native.Mathlib.Nat.{not-suc-le-zero}
@@ -97,3 +97,9 @@ some-here (suc n) p k l h =
 
 pub some-none : (n : ℕ) (p : ℕ → Bool) → ((k : ℕ) → k < n → p k ≡ false) → some n p ≡ false
 some-none n p h = fails (some n p) (λ e. let w = some-found n p e in clash (w .2) (h (w .0) (w .1)))
+
+-- that there is one goes by the property alone
+pub some-cong : (n : ℕ) (p q : ℕ → Bool) → ((k : ℕ) → k < n → p k ≡ q k) → some n p ≡ some n q
+unfolding some
+some-cong zero p q e = refl
+some-cong (suc n) p q e = ap₂ _||_ (some-cong n p q (λ k l. e k (omega arith))) (e n (omega arith))
