@@ -10,11 +10,11 @@ use borrow.Author.Tests.{ltb-true, ltb-false, lt-ltb, le-ltb}
 use Rattle.words.proofs.Tests.{by-test}
 use Rattle.words.proofs.Tables.{getD-table}
 use Rattle.records.specs.Bytes.{field}
-use Rattle.records.specs.Records.{joined, startingWith}
+use Rattle.records.specs.Records.{joined, startingWith, fromOf, toOf, unitsOf}
 use Rattle.records.proofs.Runs.{length-joined}
 use Rattle.lines.specs.Text.{Text, text, more}
 use Rattle.lines.proofs.Texts.{more-length, more-more, grown-by}
-use Rattle.crew_sheet.specs.Sheet.{lineBytes, pageRecords, pageBytes, fromOf, toOf, unitsOf, startOf, sheetLines, rowLine, blankLine, headLine, recordLine, onLine, pageLines, sheetPage, pagesOf}
+use Rattle.crew_sheet.specs.Sheet.{lineBytes, pageRecords, pageBytes, startOf, sheetLines, rowLine, blankLine, headLine, recordLine, onLine, pageLines, sheetPage, pagesOf}
 use Rattle.crew_sheet.specs.Underway.{onto}
 use Rattle.crew_sheet.proofs.LinesWritten.{length-row, length-blank, length-head}
 use Rattle.crew_sheet.proofs.PageRecords.{rowsOf}

@@ -13,10 +13,10 @@ use Rattle.words.proofs.Tests.{by-test}
 use Rattle.words.proofs.Tables.{getD-zeros}
 use Rattle.words.proofs.Maxima.{maximum-cong}
 use Rattle.records.specs.Bytes.{byte}
-use Rattle.records.specs.Records.{joined}
+use Rattle.records.specs.Records.{joined, toOf, unitsOf}
 use Rattle.records.proofs.Fields.{field-same}
 use Rattle.records.proofs.Runs.{joined-same}
-use Rattle.crew_sheet.specs.Sheet.{toOf, unitsOf, nodeStart, startOf, startingAt, sheetLines, headLine, recordLine, onLine, pageLines, sheetPage}
+use Rattle.crew_sheet.specs.Sheet.{nodeStart, startOf, startingAt, sheetLines, headLine, recordLine, onLine, pageLines, sheetPage}
 use Rattle.crew_sheet.proofs.Filling.{record-some, record-none}
 
 module _ (flow flow′ starts starts′ : List ℕ) (n : ℕ)

@@ -9,7 +9,7 @@ use native.Mathlib.Nat.{mul-le-mul, mul-le-mul-left}
 use native.Mathlib.Omega.{arith}
 use lib.ListN.{length, getD}
 use Rattle.records.specs.Bytes.{AreBytes}
-use Rattle.records.specs.Records.{startingWith}
+use Rattle.records.specs.Records.{startingWith, fromOf, toOf, unitsOf}
 use Rattle.order.specs.Stored.{elements}
 use Rattle.order.specs.Arcs.{StrictOrder}
 use Rattle.order.proofs.Before.{strict-first}
@@ -30,7 +30,7 @@ use Rattle.kinds.specs.model.Writing.{Room, lent, putFlow}
 use Rattle.kinds.specs.Reading.{unitsRead}
 use Rattle.kinds.proofs.RecordsWritten.{length-flow, flow-written, flow-same, pairs-same}
 use Rattle.kinds.proofs.RecordsRead.{flow-read, flow-read-none}
-use Rattle.kinds.proofs.RecordsAscend.{from, to, units, Less, flow-ends, flow-ascends}
+use Rattle.kinds.proofs.RecordsAscend.{Less, flow-ends, flow-ascends}
 use Rattle.planner.specs.Open.{planIn, planOrder, Opens}
 use Rattle.planner.specs.Need.{demandFor, availableFor, needFor}
 use Rattle.planner.specs.Flow.{mostRecords, flowUnits, flowCount, recordBytes}
@@ -59,7 +59,7 @@ records-length q k = length-flow (k + 1) (flowUnits q k) (markOf (q .job) (q .co
 
 -- they ascend by from, then to, whatever stands behind them
 pub records-ascend : (q : Plan) (k : ℕ) (rest : List ℕ) (i j : ℕ) → i < j → j < flowCount q k
-    → Less (from (recordBytes q k ++ rest) i) (to (recordBytes q k ++ rest) i) (from (recordBytes q k ++ rest) j) (to (recordBytes q k ++ rest) j)
+    → let F = recordBytes q k ++ rest in Less (fromOf F i) (toOf F i) (fromOf F j) (toOf F j)
 unfolding flowCount recordBytes
 records-ascend q k = flow-ascends (k + 1) (flowUnits q k) (markOf (q .job) (q .count)) (q .count + 2)
 
@@ -105,12 +105,12 @@ module _ (s : List ℕ) (small : AreBytes s) (o : Opens s) (k : ℕ) (hk : k < 8
   -- ---- ITS RECORDS are between such nodes, with such units, whatever stands behind them
 
   pub record-ends : (rest : List ℕ) (i : ℕ) → i < flowCount (planIn s) k
-      → let F = recordBytes (planIn s) k ++ rest in (from F i < planIn s .count + 2) × (to F i < planIn s .count + 2) × (units F i ≤ 65535)
+      → let F = recordBytes (planIn s) k ++ rest in (fromOf F i < planIn s .count + 2) × (toOf F i < planIn s .count + 2) × (unitsOf F i ≤ 65535)
   unfolding flowCount recordBytes
   record-ends rest i h =
       let F : List ℕ = flowBytes (k + 1) (flowUnits (planIn s) k) (markOf (planIn s .job) (planIn s .count)) (planIn s .count + 2) ++ rest in
       let r = flow-ends (k + 1) (flowUnits (planIn s) k) (markOf (planIn s .job) (planIn s .count)) (planIn s .count + 2) rest i h in
-      (r .0, r .1, omega (arith, r .2 (units-below (from F i) (to F i)), units-most (from F i) (to F i)))
+      (r .0, r .1, omega (arith, r .2 .units (units-below (fromOf F i) (toOf F i)), units-most (fromOf F i) (toOf F i)))
 
   -- ---- THERE IS ROOM FOR THEM
 

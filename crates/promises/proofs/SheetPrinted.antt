@@ -6,7 +6,8 @@ use Prim.Native.Nat.{ℕ, _+_, _*_, _-_, _≤_, _<_}
 use native.Mathlib.Omega.{arith}
 use lib.ListN.{length, getD, drop, replicate}
 use Rattle.records.specs.Bytes.{AreBytes}
-use Rattle.crew_sheet.specs.Sheet.{pageBytes, fromOf, toOf, unitsOf, startOf, sheetLines, recordLine, blankLine, onLine, pagesOf, sheetPage}
+use Rattle.records.specs.Records.{fromOf, toOf, unitsOf}
+use Rattle.crew_sheet.specs.Sheet.{pageBytes, startOf, sheetLines, recordLine, blankLine, onLine, pagesOf, sheetPage}
 use Rattle.crew_sheet.specs.Meaning.{Ordered}
 use Rattle.crew_sheet.specs.Printed.{pageLine, ShowsHead, ShowsRecord}
 use Rattle.crew_sheet.proofs.Filling.{record-some, some-page, enough-pages, no-more-pages, few-pages}

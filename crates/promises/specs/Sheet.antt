@@ -7,7 +7,8 @@ use Prim.Native.Nat.{ℕ, _+_, _*_, _-_, _≤_, _<_}
 use lib.ListN.{length, drop, replicate}
 use Rattle.order.specs.Before.{Acyclic}
 use Rattle.records.specs.Bytes.{AreBytes}
-use Rattle.crew_sheet.specs.Sheet.{pageBytes, fromOf, toOf, unitsOf, startOf}
+use Rattle.records.specs.Records.{fromOf, toOf, unitsOf}
+use Rattle.crew_sheet.specs.Sheet.{pageBytes, startOf}
 use Rattle.crew_sheet.specs.Meaning.{LineOrder}
 use Rattle.crew_sheet.specs.Printed.{pageLine, ShowsHead, ShowsRecord}
 use Rattle.plan.specs.Meaning.{Readable, FileArc, fileKinds}
