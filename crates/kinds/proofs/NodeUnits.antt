@@ -2,11 +2,12 @@
 use mathlib.Core.Path.{_≡_, refl, sym, ap, _∙_, subst}
 use mathlib.Core.Bool.{Bool, true, false, cond, _&&_}
 use mathlib.Core.List.{List}
+use mathlib.Core.Logic.{⊎-elim, _↔_}
 use Prim.Native.Nat.{ℕ, zero, suc, _-_, _≤_, _<_}
 use native.Mathlib.Omega.{arith}
 use lib.Dec.{ltb}
-use borrow.Author.Tests.{lt-ltb, le-ltb, eq-eqb}
-use Rattle.order.specs.Rows.{after}
+use borrow.Author.Tests.{lt-ltb, le-ltb, eq-eqb, ltb-true}
+use Rattle.words.proofs.Tests.{holds, fails, and-left, and-right, cond-true, cond-false, cond-has, cond-least, cond-reached}
 use Rattle.order.specs.declared.Order.{Order}
 use Rattle.flow_math.specs.Handover.{row, col}
 use Rattle.solver.specs.model.Network.{handed}
@@ -37,20 +38,45 @@ module _ (m : ℕ) (demand flow : List ℕ) (spare : ℕ) where
 
 -- ---- the mark of a pair
 
-module _ (job : List ℕ) (m : ℕ) where
-  pub mark-end : (from j : ℕ) → j ≡ m → 0 ≡ markOf job m from (suc j)
+module _ (b : ℕ → ℕ → Bool) (m : ℕ) where
+  pub mark-end : (from j : ℕ) → j ≡ m → 0 ≡ markOf b m from (suc j)
   mark-end zero j e = refl
-  mark-end (suc i) j e = rw (le-ltb j m (omega arith)) (sym (none (ltb i m) (cond (after job i j) 0 1)))
+  mark-end (suc i) j e = rw (le-ltb j m (omega arith)) (sym (none (ltb i m) (cond (b i j) 0 1)))
     where
       none : (t : Bool) (x : ℕ) → cond (t && false) x 0 ≡ 0
       none true x = refl
       none false x = refl
 
-  pub mark-job : (i from j : ℕ) → suc i ≡ from → from ≤ m → j < m → true ≡ after job i j → 0 ≡ markOf job m from (suc j)
-  mark-job i from j e h l t = rw (← e, lt-ltb i m (omega arith), lt-ltb j m l, ← t)
+  pub mark-held : (i from j : ℕ) → suc i ≡ from → from ≤ m → j < m → true ≡ b i j → 0 ≡ markOf b m from (suc j)
+  mark-held i from j e h l t = rw (← e, lt-ltb i m (omega arith), lt-ltb j m l, ← t)
 
-  pub mark-other : (i from j : ℕ) → suc i ≡ from → from ≤ m → j < m → false ≡ after job i j → 1 ≡ markOf job m from (suc j)
+  pub mark-other : (i from j : ℕ) → suc i ≡ from → from ≤ m → j < m → false ≡ b i j → 1 ≡ markOf b m from (suc j)
   mark-other i from j e h l t = rw (← e, lt-ltb i m (omega arith), lt-ltb j m l, ← t)
+
+  pub mark-most : (u v : ℕ) → markOf b m u v ≤ 1
+  mark-most zero v = omega arith
+  mark-most (suc i) zero = omega arith
+  mark-most (suc i) (suc j) = cond-least (ltb i m && ltb j m) (cond (b i j) 0 1) 1 (λ _. cond-has (λ x. x ≤ 1) (b i j) 0 1 (λ _. omega arith) (λ _. omega arith))
+
+  mark-at : (i j : ℕ) → i < m → j < m → cond (b i j) 0 1 ≡ markOf b m (suc i) (suc j)
+  mark-at i j k l = rw (lt-ltb i m k, lt-ltb j m l)
+
+  -- WHAT IT SAYS, where the test is one of a relation R: 1 exactly where both ends are elements that are not in the relation, and of elements 0 only where they are
+  module _ {R : ℕ → ℕ → Type 0} (means : (i j : ℕ) → (b i j ≡ true) ↔ R i j) (i j : ℕ) where
+    pub mark-one : (markOf b m (suc i) (suc j) ≡ 1) ↔ ((i < m) × (j < m) × (R i j → ⊥))
+    mark-one = (
+      (λ e.
+          ⊎-elim (λ z. absurd (omega (arith, e, z)))
+          (λ p.
+          let k : i < m = ltb-true i m (and-left (ltb i m) (ltb j m) (p .0)) in
+          let l : j < m = ltb-true j m (and-right (ltb i m) (ltb j m) (p .0)) in
+          (k, l, λ r. omega (arith, e, mark-at i j k l, cond-true {A = ℕ} 0 1 (means i j .1 r))))
+          (cond-reached (ltb i m && ltb j m) (cond (b i j) 0 1))),
+      (λ h. sym (mark-at i j (h .0) (h .1)) ∙ cond-false 0 1 (fails (b i j) (λ t. h .2 (means i j .0 t)))),
+    )
+
+    pub mark-zero : i < m → j < m → markOf b m (suc i) (suc j) ≡ 0 → R i j
+    mark-zero k l e = means i j .0 (holds (b i j) (λ f. omega (arith, e, mark-at i j k l, cond-false {A = ℕ} 0 1 f)))
 
 -- ---- what the solver says of kind k: the demands, the quote and the flow as code has them are those of the definitions
 

@@ -1,10 +1,9 @@
 -- The flow of a kind, from node to node and as records: node 0 is the start, node i + 1 the element i, node m + 1 the end. Assumes nothing.
-use mathlib.Core.Bool.{cond, _&&_}
+use mathlib.Core.Bool.{Bool, cond, _&&_}
 use mathlib.Core.List.{List, []}
 use Prim.Native.Nat.{ℕ, zero, suc, _-_, _≤_, _<_, _^_}
 use lib.Dec.{ltb, eqb}
 use Rattle.words.specs.Sums.{sum}
-use Rattle.order.specs.Rows.{after}
 use Rattle.order.specs.declared.Order.{Order}
 use Rattle.records.specs.Records.{flowRecord, joined}
 use Rattle.flow_math.specs.Handover.{row, col}
@@ -33,11 +32,11 @@ pub record Bounded (m : ℕ) (d : ℕ → ℕ) (f : ℕ → ℕ → ℕ) : Type 
 
 -- ---- records. `g u v` are the units from node u to node v of n nodes, `mark u v` is the pair's added mark
 
--- "The added mark is 1 when both ends are activities and no job arc record names this pair, else 0.": with the job arcs as rows, of m activities
-abbrev pub markOf : List ℕ → ℕ → ℕ → ℕ → ℕ
-markOf job m zero v = 0
-markOf job m (suc i) zero = 0
-markOf job m (suc i) (suc j) = cond (ltb i m && ltb j m) (cond (after job i j) 0 1) 0
+-- "The added mark is 1 when both ends are activities and no job arc record names this pair, else 0.": of m activities, where `b` says which pairs are named
+abbrev pub markOf : (ℕ → ℕ → Bool) → ℕ → ℕ → ℕ → ℕ
+markOf b m zero v = 0
+markOf b m (suc i) zero = 0
+markOf b m (suc i) (suc j) = cond (ltb i m && ltb j m) (cond (b i j) 0 1) 0
 
 -- "One record for each pair with positive units, ascending by from, then to."
 unfoldable pub pairBytes : ℕ → (ℕ → ℕ → ℕ) → (ℕ → ℕ → ℕ) → ℕ → ℕ → List ℕ

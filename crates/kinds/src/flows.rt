@@ -1,6 +1,7 @@
 // The flow of one kind, as records: one for each pair of nodes with positive units, ascending by from, then to.
 ghost use mathlib.Core.Path.{_≡_};
 ghost use Prim.Native.Nat.{suc, _+_, _≤_, _<_};
+ghost use Rattle.order.specs.Rows.{after};
 ghost use Rattle.order.specs.Stored.{elements};
 ghost use Rattle.solver.specs.model.Network.{handed};
 ghost use Rattle.solver.specs.model.Quote.{quoteOf, flowOf};
@@ -26,7 +27,7 @@ pub fn byte(x: usize) -> u8
 // The added mark of the pair from a node to node j + 1.
 fn mark(job: &Rows, m: usize, from: usize, j: usize) -> u8
     requires { ⌜ (m ≤ elements) × (from ≤ m) × (j ≤ m) ⌝ }
-    ensures { λ r. ⌜ r ≡ markOf (now (job .entry)) m from (suc j) ⌝ }
+    ensures { λ r. ⌜ r ≡ markOf (after (now (job .entry))) m from (suc j) ⌝ }
 {
     if from == 0 {
         return 0;
@@ -75,7 +76,7 @@ fn put_row(
     requires { ⌜ (m ≤ elements) × (from ≤ m) × Bounded m (asked (now demand)) (handed (now flow))
         × Room (n + pairsFrom (units m (now demand) (now flow) spare) (m + 2) from) (now out) ⌝ }
     ensures { λ r. ⌜ lent r (now (out .exit))
-        ≡ putRow kind (units m (now (demand .entry)) (now (flow .entry)) spare) (markOf (now (job .entry)) m) m from (lent n (now (out .entry))) ⌝ }
+        ≡ putRow kind (units m (now (demand .entry)) (now (flow .entry)) spare) (markOf (after (now (job .entry))) m) m from (lent n (now (out .entry))) ⌝ }
 {
     let mut count = n;
     for j in 0..m + 1 {
@@ -98,7 +99,7 @@ fn put_flow(
     requires { ⌜ (m ≤ elements) × Bounded m (asked (now demand)) (handed (now flow))
         × Room (pairsOf (units m (now demand) (now flow) spare) (m + 2)) (now out) ⌝ }
     ensures { λ r. ⌜ lent r (now (out .exit))
-        ≡ putFlow kind (units m (now (demand .entry)) (now (flow .entry)) spare) (markOf (now (job .entry)) m) m (lent 0 (now (out .entry))) ⌝ }
+        ≡ putFlow kind (units m (now (demand .entry)) (now (flow .entry)) spare) (markOf (after (now (job .entry))) m) m (lent 0 (now (out .entry))) ⌝ }
 {
     let mut count: usize = 0;
     for from in 0..m + 1 {
@@ -122,7 +123,7 @@ pub fn write_flow(
         × (quoteOf m order (demandsFor (now demand) k) .need ≤ available)
         × Room (pairsOf (kindUnits order (now demand) k available m) (m + 2)) (now out) ⌝ }
     ensures { λ r. ⌜ lent r (now (out .exit))
-        ≡ putFlow (k + 1) (kindUnits order (now (demand .entry)) k available m) (markOf (now (job .entry)) m) m (lent 0 (now (out .entry))) ⌝ }
+        ≡ putFlow (k + 1) (kindUnits order (now (demand .entry)) k available m) (markOf (after (now (job .entry))) m) m (lent 0 (now (out .entry))) ⌝ }
 {
     let own = demands_for(demand, k);
     let mut flow: [u32; ELEMENTS * ELEMENTS] = [0; ELEMENTS * ELEMENTS];

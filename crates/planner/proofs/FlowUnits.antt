@@ -25,7 +25,7 @@ use Rattle.solver.specs.model.Network.{handed}
 use Rattle.solver.specs.model.Quote.{flowOf}
 use Rattle.solver.specs.Sound.{asked}
 use Rattle.kinds.specs.Needs.{demandsFor}
-use Rattle.kinds.specs.Flows.{units as nodeUnits, kindUnits, Bounded, markOf, flowBytes, pairsFrom, pairsOf}
+use Rattle.kinds.specs.Flows.{units as nodeUnits, kindUnits, Bounded, flowBytes, pairsFrom, pairsOf}
 use Rattle.kinds.specs.model.Writing.{Room, lent, putFlow}
 use Rattle.kinds.specs.Reading.{unitsRead}
 use Rattle.kinds.proofs.RecordsWritten.{length-flow, flow-written, flow-same, pairs-same}
@@ -33,7 +33,7 @@ use Rattle.kinds.proofs.RecordsRead.{flow-read, flow-read-none}
 use Rattle.kinds.proofs.RecordsAscend.{Less, flow-ends, flow-ascends}
 use Rattle.planner.specs.Open.{planIn, planOrder, Opens}
 use Rattle.planner.specs.Need.{demandFor, availableFor, needFor}
-use Rattle.planner.specs.Flow.{mostRecords, flowUnits, flowCount, recordBytes}
+use Rattle.planner.specs.Flow.{mostRecords, flowUnits, flowMark, flowCount, recordBytes}
 use Rattle.planner.specs.File.{flowLength}
 use Rattle.planner.proofs.OpenLaws.{plan-in, opens-readable, count-few, count-within}
 use Rattle.planner.proofs.FileOrders.{opens-strict}
@@ -55,13 +55,13 @@ length-few m h = omega (arith, pairs-room m h)
 -- a record takes 24 bytes
 pub records-length : (q : Plan) (k : ℕ) → length (recordBytes q k) ≡ 24 * flowCount q k
 unfolding flowCount recordBytes
-records-length q k = length-flow (k + 1) (flowUnits q k) (markOf (q .job) (q .count)) (q .count + 2)
+records-length q k = length-flow (k + 1) (flowUnits q k) (flowMark q) (q .count + 2)
 
 -- they ascend by from, then to, whatever stands behind them
 pub records-ascend : (q : Plan) (k : ℕ) (rest : List ℕ) (i j : ℕ) → i < j → j < flowCount q k
     → let F = recordBytes q k ++ rest in Less (fromOf F i) (toOf F i) (fromOf F j) (toOf F j)
 unfolding flowCount recordBytes
-records-ascend q k = flow-ascends (k + 1) (flowUnits q k) (markOf (q .job) (q .count)) (q .count + 2)
+records-ascend q k = flow-ascends (k + 1) (flowUnits q k) (flowMark q) (q .count + 2)
 
 -- the units of kind k as the code has them
 abbrev pub codedUnits : List ℕ → ℕ → ℕ → ℕ → ℕ
@@ -108,8 +108,8 @@ module _ (s : List ℕ) (small : AreBytes s) (o : Opens s) (k : ℕ) (hk : k < 8
       → let F = recordBytes (planIn s) k ++ rest in (fromOf F i < planIn s .count + 2) × (toOf F i < planIn s .count + 2) × (unitsOf F i ≤ 65535)
   unfolding flowCount recordBytes
   record-ends rest i h =
-      let F : List ℕ = flowBytes (k + 1) (flowUnits (planIn s) k) (markOf (planIn s .job) (planIn s .count)) (planIn s .count + 2) ++ rest in
-      let r = flow-ends (k + 1) (flowUnits (planIn s) k) (markOf (planIn s .job) (planIn s .count)) (planIn s .count + 2) rest i h in
+      let F : List ℕ = flowBytes (k + 1) (flowUnits (planIn s) k) (flowMark (planIn s)) (planIn s .count + 2) ++ rest in
+      let r = flow-ends (k + 1) (flowUnits (planIn s) k) (flowMark (planIn s)) (planIn s .count + 2) rest i h in
       (r .0, r .1, omega (arith, r .2 .units (units-below (fromOf F i) (toOf F i)), units-most (fromOf F i) (toOf F i)))
 
   -- ---- THERE IS ROOM FOR THEM
@@ -149,11 +149,10 @@ module _ (s : List ℕ) (small : AreBytes s) (o : Opens s) (k : ℕ) (hk : k < 8
   unfolding flowCount
   count-coded = pairs-same (codedUnits s k) (flowUnits (planIn s) k) (planIn s .count + 2) (λ u v a b. units-coded u v)
 
-  bytes-coded : flowBytes (k + 1) (codedUnits s k) (markOf (planIn s .job) (planIn s .count)) (planIn s .count + 2) ≡ recordBytes (planIn s) k
+  bytes-coded : flowBytes (k + 1) (codedUnits s k) (flowMark (planIn s)) (planIn s .count + 2) ≡ recordBytes (planIn s) k
   unfolding recordBytes
   bytes-coded =
-      let mark : ℕ → ℕ → ℕ = markOf (planIn s .job) (planIn s .count) in
-      flow-same (k + 1) (codedUnits s k) (flowUnits (planIn s) k) mark mark (planIn s .count + 2) (λ u v a b. units-coded u v) (λ u v a b. refl)
+      flow-same (k + 1) (codedUnits s k) (flowUnits (planIn s) k) (flowMark (planIn s)) (flowMark (planIn s)) (planIn s .count + 2) (λ u v a b. units-coded u v) (λ u v a b. refl)
 
   pub room-in : (out : List ℕ) → needFor (planIn s) k ≤ availableFor (planIn s) k → flowLength (planIn s .count) ≤ length out
       → Room (pairsOf (codedUnits s k) (planIn s .count + 2)) out
@@ -173,10 +172,10 @@ module _ (s : List ℕ) (small : AreBytes s) (o : Opens s) (k : ℕ) (hk : k < 8
   none-out v = units-out-of-end (planIn s .count) (demandFor (planIn s) k) _ 0 _ v
 
   pub flow-put : (out : List ℕ)
-      → putFlow (k + 1) (codedUnits s k) (markOf (planIn s .job) (planIn s .count)) (planIn s .count) (lent 0 out)
+      → putFlow (k + 1) (codedUnits s k) (flowMark (planIn s)) (planIn s .count) (lent 0 out)
       ≡ lent (flowCount (planIn s) k) (startingWith (recordBytes (planIn s) k) out)
   flow-put out =
-      flow-written (k + 1) (codedUnits s k) (markOf (planIn s .job) (planIn s .count)) (planIn s .count) out none-in none-out
+      flow-written (k + 1) (codedUnits s k) (flowMark (planIn s)) (planIn s .count) out none-in none-out
       ∙ ap₂ (λ (n : ℕ) (r : List ℕ). lent n (startingWith r out)) count-coded bytes-coded
 
   -- ---- READ BACK, its records say the same units
@@ -194,7 +193,7 @@ module _ (s : List ℕ) (small : AreBytes s) (o : Opens s) (k : ℕ) (hk : k < 8
       n = planIn s .count + 2
 
       mark : ℕ → ℕ → ℕ
-      mark = markOf (planIn s .job) (planIn s .count)
+      mark = flowMark (planIn s)
 
       none : (planIn s .count + 2 ≤ u) ⊎ (planIn s .count + 2 ≤ v)
           → unitsRead (pairsOf (flowUnits (planIn s) k) n) (flowBytes (k + 1) (flowUnits (planIn s) k) mark n ++ rest) u v ≡ flowUnits (planIn s) k u v

@@ -4,6 +4,7 @@ use mathlib.Core.List.{List}
 use Prim.Native.Nat.{ℕ, _+_, _-_, _*_, _/_}
 use lib.Dec.{ltb, leb}
 use lib.ListN.{length}
+use Rattle.order.specs.Rows.{after}
 use Rattle.plan.specs.Records.{activities}
 use Rattle.plan.specs.declared.Plan.{Plan}
 use Rattle.flow_math.specs.Flow.{nodeFlow}
@@ -45,12 +46,16 @@ unfoldable pub flowUnits : Plan → ℕ → ℕ → ℕ → ℕ
 flowUnits q k u v =
     nodeFlow (q .count) (demandFor q k) (handed (flowOf (q .count) (orderFor q) (demandsFor (q .demand) k))) (needFor q k) (availableFor q k) u v
 
+-- the added mark of a pair of nodes, by the job arcs
+abbrev pub flowMark : Plan → ℕ → ℕ → ℕ
+flowMark q = markOf (after (q .job)) (q .count)
+
 -- "One record for each pair with positive units": how many, and their bytes
 unfoldable pub flowCount : Plan → ℕ → ℕ
 flowCount q k = pairsOf (flowUnits q k) (q .count + 2)
 
 unfoldable pub recordBytes : Plan → ℕ → List ℕ
-recordBytes q k = flowBytes (k + 1) (flowUnits q k) (markOf (q .job) (q .count)) (q .count + 2)
+recordBytes q k = flowBytes (k + 1) (flowUnits q k) (flowMark q) (q .count + 2)
 
 -- THE ANSWER: "Flow returns its record count"
 abbrev pub flowAnswer : List ℕ → ℕ → ℕ → Output

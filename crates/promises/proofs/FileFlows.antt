@@ -1,31 +1,29 @@
--- The flow of a kind of a plan that opens, in the file's terms, and what the added mark of its records means there. Assumes nothing.
-use mathlib.Core.Path.{_≡_, refl, ap, _∙_}
-use mathlib.Core.Bool.{true, cond, false≢true, _&&_, _||_}
+-- The flow of a kind of a plan that opens, in the file's terms. Assumes nothing.
+use mathlib.Core.Path.{_≡_, ap, _∙_}
+use mathlib.Core.Bool.{true, false≢true, _&&_, _||_}
 use mathlib.Core.List.{List}
-use mathlib.Core.Logic.{_⊎_, inl, inr, by-cases, _↔_}
+use mathlib.Core.Logic.{inl, inr, by-cases}
 use Prim.Native.Nat.{ℕ, zero, suc, _+_, _-_, _≤_, _<_}
 use native.Mathlib.Decide.{decLt}
 use native.Mathlib.Numerals.{add-one}
 use native.Mathlib.Omega.{arith}
 use lib.Dec.{ltb, eqb}
-use borrow.Author.Tests.{lt-ltb, ltb-true, eqb-true}
+use borrow.Author.Tests.{ltb-true, eqb-true}
 use Rattle.words.specs.Sums.{sum}
 use Rattle.words.proofs.Sums.{sum-cong}
-use Rattle.words.proofs.Tests.{fails, and-left, and-right, and-both, or-cases, cond-true, cond-false}
+use Rattle.words.proofs.Tests.{and-left, and-right, or-cases}
 use Rattle.records.specs.Bytes.{AreBytes}
 use Rattle.order.specs.Nodes.{nodeBefore}
 use Rattle.order.specs.Orders.{isBefore}
-use Rattle.order.specs.Rows.{after}
 use Rattle.order.proofs.Orders.{order-means}
-use Rattle.plan.specs.Meaning.{Readable, JobArc, fileDemand, fileAvailable}
+use Rattle.plan.specs.Meaning.{Readable, fileDemand, fileAvailable}
 use Rattle.plan.specs.Records.{activityCount}
-use Rattle.kinds.specs.Flows.{markOf}
 use Rattle.planner.specs.Open.{planIn, planOrder, Opens}
 use Rattle.planner.specs.Need.{availableFor, needFor}
 use Rattle.planner.specs.Flow.{flowUnits}
 use Rattle.planner.specs.File.{NodeBefore, FileFlow}
-use Rattle.planner.proofs.OpenLaws.{said-in, opens-readable}
-use Rattle.planner.proofs.FileOrders.{job-arcs, plan-order}
+use Rattle.planner.proofs.OpenLaws.{opens-readable}
+use Rattle.planner.proofs.FileOrders.{plan-order}
 use Rattle.planner.proofs.QuotedNeeds.{count-in, demand-in, available-in}
 use Rattle.planner.proofs.FlowUnits.{flow-made, flow-spare, units-past}
 
@@ -45,39 +43,6 @@ module _ (s : List ℕ) (e : Readable s) where
             (λ t. inl (eqb-true j m t ∙ count-in s e))
             (λ t. inr (order-means (plan-order s e) i j .0 (and-right (ltb j m) b t))),
       )
-
-  -- ---- THE ADDED MARK: 1 between activities that no job arc record names as a pair
-
-  mark-at : (i j : ℕ) → i < planIn s .count → j < planIn s .count
-      → markOf (planIn s .job) (planIn s .count) (suc i) (suc j) ≡ cond (after (planIn s .job) i j) 0 1
-  mark-at i j hi hj =
-      let m = planIn s .count in
-      cond-true (cond (after (planIn s .job) i j) 0 1) 0 (and-both (ltb i m) (ltb j m) (lt-ltb i m hi) (lt-ltb j m hj))
-
-  pub mark-means : (i j : ℕ) → i < planIn s .count → j < planIn s .count
-      → (markOf (planIn s .job) (planIn s .count) (suc i) (suc j) ≡ 1) ↔ (JobArc s i j → ⊥)
-  mark-means i j hi hj =
-      let few = said-in s e .few in (
-        (λ p n. absurd (omega (arith, mark-at i j hi hj, cond-true {A = ℕ} 0 1 (job-arcs s e i j .1 n .drawn)))),
-        (λ no.
-            mark-at i j hi hj
-            ∙ cond-false 0 1 (fails (after (planIn s .job) i j) (λ t. no (job-arcs s e i j .0 (record { from = omega arith; to = omega arith; drawn = t }))))),
-      )
-
-  -- and 0 where an end is no activity
-  pub mark-none : (u v : ℕ) → ((u ≡ 0) ⊎ (planIn s .count < u)) ⊎ ((v ≡ 0) ⊎ (planIn s .count < v)) → markOf (planIn s .job) (planIn s .count) u v ≡ 0
-  mark-none zero v h = refl
-  mark-none (suc i) zero h = refl
-  mark-none (suc i) (suc j) h =
-      let m = planIn s .count in
-      cond-false (cond (after (planIn s .job) i j) 0 1) 0 (fails (ltb i m && ltb j m)
-      (λ t. outside h (ltb-true i m (and-left (ltb i m) (ltb j m) t)) (ltb-true j m (and-right (ltb i m) (ltb j m) t))))
-    where
-      outside : ((suc i ≡ 0) ⊎ (planIn s .count < suc i)) ⊎ ((suc j ≡ 0) ⊎ (planIn s .count < suc j)) → i < planIn s .count → j < planIn s .count → ⊥
-      outside (inl (inl z)) a b = omega arith
-      outside (inl (inr l)) a b = omega arith
-      outside (inr (inl z)) a b = omega arith
-      outside (inr (inr l)) a b = omega arith
 
 -- ---- UNITS g THAT ARE THOSE OF THE PLAN'S FLOW are a flow of the file, where the need is available, and leave what is not needed
 

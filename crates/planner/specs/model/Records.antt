@@ -9,8 +9,9 @@ use Rattle.solver.specs.model.Network.{handed}
 use Rattle.solver.specs.model.Quote.{quoteOf, flowOf}
 use Rattle.solver.specs.Sound.{asked}
 use Rattle.kinds.specs.Needs.{demandsFor}
-use Rattle.kinds.specs.Flows.{Bounded, markOf, kindUnits, pairsOf}
+use Rattle.kinds.specs.Flows.{Bounded, kindUnits, pairsOf}
 use Rattle.kinds.specs.model.Writing.{Room, Lent, lent, putFlow}
+use Rattle.planner.specs.Flow.{flowMark}
 
 -- what it asks
 abbrev pub FlowAsked : Order → Plan → ℕ → List ℕ → Type 0
@@ -22,4 +23,4 @@ FlowAsked o q k out =
 
 -- what it counts, and leaves
 abbrev pub flowPut : Order → Plan → ℕ → List ℕ → Lent
-flowPut o q k out = putFlow (k + 1) (kindUnits o (q .demand) k (getD (q .available) k 0) (q .count)) (markOf (q .job) (q .count)) (q .count) (lent 0 out)
+flowPut o q k out = putFlow (k + 1) (kindUnits o (q .demand) k (getD (q .available) k 0) (q .count)) (flowMark q) (q .count) (lent 0 out)

@@ -4,8 +4,9 @@ use Prim.Native.Nat.{ℕ, suc, _-_, _<_}
 use native.Mathlib.Omega.{arith}
 use borrow.Author.Needs.{needs}
 use Rattle.words.specs.Bits.{bit}
+use Rattle.order.specs.Rows.{after}
 use Rattle.order.proofs.Stored.{number-of}
-use Rattle.kinds.proofs.NodeUnits.{mark-end, mark-job, mark-other}
+use Rattle.kinds.proofs.NodeUnits.{mark-end, mark-held, mark-other}
 use Rattle.kinds.proofs.flows.mark.Statement.{statement}
 use Rattle.kinds.proofs.flows.mark.Tie as tie
 
@@ -15,14 +16,14 @@ one-less h = omega arith
 returns-2 : tie.Need-returns-2
 returns-2 c =
     let a = c .before .before .args in
-    mark-end (a .job .now) (a .m) (a .from) (a .j) (omega arith)
+    mark-end (after (a .job .now)) (a .m) (a .from) (a .j) (omega arith)
 
 returns-3 : tie.Need-returns-3
 returns-3 c =
     let has = c .before in
     let row = has .before in
     let a = row .before .before .before .args in
-    mark-job (a .job .now) (a .m) (a .from - 1) (a .from) (a .j) (one-less (omega arith)) (omega arith) (omega arith)
+    mark-held (after (a .job .now)) (a .m) (a .from - 1) (a .from) (a .j) (one-less (omega arith)) (omega arith) (omega arith)
     (sym (c .if3 .taken) ∙ has .has .ensures ∙ ap (λ (w : ℕ). bit w (a .j)) (number-of (row .row .result) (row .row .ensures)))
 
 returns-4 : tie.Need-returns-4
@@ -30,7 +31,7 @@ returns-4 c =
     let has = c .before in
     let row = has .before in
     let a = row .before .before .before .args in
-    mark-other (a .job .now) (a .m) (a .from - 1) (a .from) (a .j) (one-less (omega arith)) (omega arith) (omega arith)
+    mark-other (after (a .job .now)) (a .m) (a .from - 1) (a .from) (a .j) (one-less (omega arith)) (omega arith) (omega arith)
     (sym (c .if3 .left) ∙ has .has .ensures ∙ ap (λ (w : ℕ). bit w (a .j)) (number-of (row .row .result) (row .row .ensures)))
 
 pub mark-spec : {M : Type 1} → statement M

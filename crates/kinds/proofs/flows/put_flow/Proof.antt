@@ -5,6 +5,7 @@ use native.Mathlib.Omega.{arith}
 use borrow.Author.Needs.{needs}
 use Rattle.words.specs.model.Loops.{upto}
 use Rattle.words.proofs.Loops.{up-none, up-again}
+use Rattle.order.specs.Rows.{after}
 use Rattle.kinds.specs.Flows.{units, markOf}
 use Rattle.kinds.specs.model.Writing.{lent, putRow}
 use Rattle.kinds.proofs.RecordRoom.{row-room, rows-length, rows-end}
@@ -13,7 +14,7 @@ use Rattle.kinds.proofs.flows.put_flow.Tie as tie
 
 abbrev Inv-loop : tie.InvT-loop
 Inv-loop out₀ kind m demand flow spare job count₀ from₀ from-end out count from =
-    (lent count out ≡ upto (putRow kind (units m demand flow spare) (markOf job m) m) from (lent 0 out₀)) × (from ≤ m + 1)
+    (lent count out ≡ upto (putRow kind (units m demand flow spare) (markOf (after job) m) m) from (lent 0 out₀)) × (from ≤ m + 1)
 
 abbrev μ-loop : tie.MeasureT-loop
 μ-loop out₀ kind m demand flow spare job count₀ from₀ from-end out count from = m + 1 - from
@@ -30,7 +31,7 @@ put-row-requires c κs =
       omega arith,
       omega arith,
       s .pre .1,
-      row-room (a .kind) g (markOf (a .job .now) (a .m)) (a .m) (at .loop .from) (at .loop .count) (a .out .now) (at .loop .out) (s .pre .2)
+      row-room (a .kind) g (markOf (after (a .job .now)) (a .m)) (a .m) (at .loop .from) (at .loop .count) (a .out .now) (at .loop .out) (s .pre .2)
           (omega arith) (at .loop .inv .0),
     )
 
@@ -40,7 +41,7 @@ loop-again c =
     let at = w .before .before .before in
     let a = at .before .before .args in
     let g = units (a .m) (a .demand .now) (a .flow .now) (a .spare) in
-    up-again (putRow (a .kind) g (markOf (a .job .now) (a .m)) (a .m)) (a .m + 1) (at .loop .from) (lent 0 (a .out .now)) (omega arith) (at .loop .inv)
+    up-again (putRow (a .kind) g (markOf (after (a .job .now)) (a .m)) (a .m)) (a .m + 1) (at .loop .from) (lent 0 (a .out .now)) (omega arith) (at .loop .inv)
     (w .put-row .ensures)
 
 same-length : tie.Need-same-length Inv-loop μ-loop
@@ -49,7 +50,7 @@ same-length c =
     let s = at .before .before in
     let a = s .args in
     let g = units (a .m) (a .demand .now) (a .flow .now) (a .spare) in
-    rows-length (a .kind) g (markOf (a .job .now) (a .m)) (a .m) (at .loop .from) (at .loop .count) (a .out .now) (at .loop .out) (s .pre .2)
+    rows-length (a .kind) g (markOf (after (a .job .now)) (a .m)) (a .m) (at .loop .from) (at .loop .count) (a .out .now) (at .loop .out) (s .pre .2)
     (omega arith) (at .loop .inv .0)
 
 returns : tie.Need-returns Inv-loop μ-loop
@@ -57,7 +58,7 @@ returns c =
     let at = c .before in
     let a = at .before .before .args in
     let g = units (a .m) (a .demand .now) (a .flow .now) (a .spare) in
-    rows-end (a .kind) g (markOf (a .job .now) (a .m)) (a .m) (at .loop .from) (at .loop .count) (a .out .now) (at .loop .out) (omega arith)
+    rows-end (a .kind) g (markOf (after (a .job .now)) (a .m)) (a .m) (at .loop .from) (at .loop .count) (a .out .now) (at .loop .out) (omega arith)
     (at .loop .inv)
 
 pub put-flow-spec : {M : Type 1} → statement M

@@ -5,6 +5,7 @@ use native.Mathlib.Omega.{arith}
 use borrow.Author.Needs.{needs}
 use Rattle.words.specs.model.Loops.{upto}
 use Rattle.words.proofs.Loops.{up-none}
+use Rattle.order.specs.Rows.{after}
 use Rattle.kinds.specs.Flows.{units, markOf}
 use Rattle.kinds.specs.model.Writing.{lent}
 use Rattle.kinds.proofs.RecordRoom.{pairStep, pair-room, pair-next, pairs-length, pairs-end}
@@ -13,7 +14,7 @@ use Rattle.kinds.proofs.flows.put_row.Tie as tie
 
 abbrev Inv-loop : tie.InvT-loop
 Inv-loop out₀ n kind from m demand flow spare job count₀ j₀ j-end out count j =
-    (lent count out ≡ upto (pairStep kind (units m demand flow spare) (markOf job m) from) j (lent n out₀)) × (j ≤ m + 1)
+    (lent count out ≡ upto (pairStep kind (units m demand flow spare) (markOf (after job) m) from) j (lent n out₀)) × (j ≤ m + 1)
 
 abbrev μ-loop : tie.MeasureT-loop
 μ-loop out₀ n kind from m demand flow spare job count₀ j₀ j-end out count j = m + 1 - j
@@ -30,7 +31,7 @@ put-pair-requires c κs =
     let g = units (a .m) (a .demand .now) (a .flow .now) (a .spare) in (
       omega arith,
       omega arith,
-      pair-room (a .kind) g (markOf (a .job .now) (a .m)) (a .m) (a .from) (a .n) (at .loop .j) (at .loop .count) (x .units .result) (a .out .now)
+      pair-room (a .kind) g (markOf (after (a .job .now)) (a .m)) (a .m) (a .from) (a .n) (at .loop .j) (at .loop .count) (x .units .result) (a .out .now)
           (at .loop .out) (s .pre .3) (omega arith) (at .loop .inv .0) (x .units .ensures),
     )
 
@@ -42,7 +43,7 @@ loop-again c =
     let at = x .before .before in
     let a = at .before .before .args in
     let g = units (a .m) (a .demand .now) (a .flow .now) (a .spare) in
-    pair-next (a .kind) g (markOf (a .job .now) (a .m)) (a .m) (a .from) (a .n) (at .loop .j) (at .loop .count) (at .loop .j + 1) (x .units .result)
+    pair-next (a .kind) g (markOf (after (a .job .now)) (a .m)) (a .m) (a .from) (a .n) (at .loop .j) (at .loop .count) (at .loop .j + 1) (x .units .result)
     (k .mark .result) (w .put-pair .result) (a .out .now) (at .loop .out) (w .put-pair .last .0) (omega arith) (at .loop .inv) (omega arith)
     (x .units .ensures) (k .mark .ensures) (w .put-pair .ensures)
 
@@ -52,7 +53,7 @@ same-length c =
     let s = at .before .before in
     let a = s .args in
     let g = units (a .m) (a .demand .now) (a .flow .now) (a .spare) in
-    pairs-length (a .kind) g (markOf (a .job .now) (a .m)) (a .m) (a .from) (a .n) (at .loop .j) (at .loop .count) (a .out .now) (at .loop .out)
+    pairs-length (a .kind) g (markOf (after (a .job .now)) (a .m)) (a .m) (a .from) (a .n) (at .loop .j) (at .loop .count) (a .out .now) (at .loop .out)
     (s .pre .3) (omega arith) (at .loop .inv .0)
 
 returns : tie.Need-returns Inv-loop μ-loop
@@ -60,7 +61,7 @@ returns c =
     let at = c .before in
     let a = at .before .before .args in
     let g = units (a .m) (a .demand .now) (a .flow .now) (a .spare) in
-    pairs-end (a .kind) g (markOf (a .job .now) (a .m)) (a .m) (a .from) (a .n) (at .loop .j) (at .loop .count) (a .out .now) (at .loop .out)
+    pairs-end (a .kind) g (markOf (after (a .job .now)) (a .m)) (a .m) (a .from) (a .n) (at .loop .j) (at .loop .count) (a .out .now) (at .loop .out)
     (omega arith) (at .loop .inv)
 
 pub put-row-spec : {M : Type 1} → statement M

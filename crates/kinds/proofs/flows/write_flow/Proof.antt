@@ -3,6 +3,7 @@ use mathlib.Core.Path.{refl, sym, subst, _∙_}
 use Prim.Native.Nat.{ℕ, _+_}
 use native.Mathlib.Omega.{arith}
 use borrow.Author.Needs.{needs}
+use Rattle.order.specs.Rows.{after}
 use Rattle.solver.specs.model.Quote.{unused}
 use Rattle.kinds.specs.Flows.{markOf, pairsOf}
 use Rattle.kinds.specs.model.Writing.{Room, lent}
@@ -48,7 +49,7 @@ returns c =
     let own = q .before .before .before in
     let a = own .before .before .args in
     w .put-flow .ensures
-    ∙ units-written (markOf (a .job .now) (a .m)) (a .m) (lent 0 (a .out .now)) (b .byte .ensures)
+    ∙ units-written (markOf (after (a .job .now)) (a .m)) (a .m) (lent 0 (a .out .now)) (b .byte .ensures)
     (solved-units (a .m) (a .order) (a .demand .now) (a .k) _ _ (q .quote .result) (own .demands-for .ensures) (q .quote .ensures .0) (q .quote .ensures .1)
     (a .available))
 
