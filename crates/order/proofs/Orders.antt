@@ -43,9 +43,9 @@ extended-order o x y r hx hy = Represents.grow-represents elements (o .rows) x y
 pub after-member : (o : Order) (i j : ℕ) → member (afterOf o i) j ≡ isBefore o i j
 after-member o i j = member-set (row (o .rows) i) j
 
-pub after-row : (o : Order) (i : ℕ) → row (afterRows o) i ≡ numberOf (afterOf o i)
+pub after-rows : (o : Order) (i j : ℕ) → after (afterRows o) i j ≡ isBefore o i j
 unfolding afterRows
-after-row o i = sym (number-set (row (o .rows) i))
+after-rows o i j = refl
 
 pub circle-le : (o : Order) → circleOf o ≤ elements
 unfolding circleOf

@@ -6,9 +6,9 @@
 --   need-small          the need is at most elements times 65,535
 --   handed-small        no element hands over more than its demand
 --   no-flow-frees-more  no resource flow of a units sends more than a - need straight from the start to the end
-use mathlib.Core.Path.{_≡_, sym, ap, _∙_, subst}
+use mathlib.Core.Path.{sym, subst}
 use mathlib.Core.List.{List}
-use Prim.Native.Nat.{ℕ, suc, _*_, _+_, _≤_, _<_}
+use Prim.Native.Nat.{ℕ, suc, _*_, _+_, _≤_}
 use native.Mathlib.Omega.{arith}
 use Rattle.words.specs.Bits.{bit}
 use Rattle.order.specs.Stored.{elements}
@@ -17,7 +17,7 @@ use Rattle.order.specs.Arcs.{StrictOrder}
 use Rattle.order.specs.Orders.{afterRows, isBefore}
 use Rattle.order.specs.Rows.{after}
 use Rattle.order.specs.declared.Order.{Order}
-use Rattle.order.proofs.Orders.{after-member, after-row}
+use Rattle.order.proofs.Orders.{after-rows}
 use Rattle.flow_math.specs.Flow.{ResourceFlow}
 use Rattle.flow_math.proofs.Theorems
 use Rattle.solver.specs.model.Network.{handed}
@@ -26,12 +26,9 @@ use Rattle.solver.specs.Sound.{Plan, Sound, SoundQuote, asked}
 use Rattle.solver.proofs.Outcome.{amount-small, outcome-ends, outcome-sound}
 use Rattle.solver.proofs.Carried.{sound-carried, strict-carried}
 
--- the rows that the solver is given say what the order says
-rows-agree : (o : Order) (i j : ℕ) → i < elements → j < elements → after (afterRows o) i j ≡ isBefore o i j
-rows-agree o i j hi hj = ap (λ (w : ℕ). bit w j) (after-row o i) ∙ after-member o i j
-
+-- the rows that the solver is given say what the order says (`after-rows`)
 rows-strict : (o : Order) → StrictOrder elements (isBefore o) → StrictOrder elements (after (afterRows o))
-rows-strict o s = strict-carried elements (isBefore o) (after (afterRows o)) (λ i j hi hj. sym (rows-agree o i j hi hj)) s
+rows-strict o s = strict-carried elements (isBefore o) (after (afterRows o)) (λ i j hi hj. sym (after-rows o i j)) s
 
 pub sound : (m : ℕ) (o : Order) (demand : List ℕ) → Plan m o demand → SoundQuote m o demand
 unfolding quoteIn flowIn
@@ -39,7 +36,7 @@ sound m o demand P =
     let s = rows-strict o (P .strict) in
     let w = chosen m (outcome m (afterRows o) demand .search) demand in
     subst (λ (x : ℕ). Sound elements (isBefore o) (asked demand) (quoteOf m o demand .need) (bit x) (handed (flowOf m o demand))) (sym (number-set w))
-    (sound-carried elements (after (afterRows o)) (isBefore o) (rows-agree o) s (outcome-sound m (P .within) (afterRows o) demand (P .idle) (P .small) s))
+    (sound-carried elements (after (afterRows o)) (isBefore o) (λ i j hi hj. after-rows o i j) s (outcome-sound m (P .within) (afterRows o) demand (P .idle) (P .small) s))
 
 pub ends : (m : ℕ) (o : Order) (demand : List ℕ) → Plan m o demand → elements ≤ outcome m (afterRows o) demand .search .at
 ends m o demand P = outcome-ends m (P .within) (afterRows o) demand (P .idle) (P .small)
