@@ -159,7 +159,7 @@ circles-as before job whole a b c d = rw (d, c, b, a)
 
 pub ordered-as :
     (q : Plan) (before : Fault) {rows : List ℕ} {job whole : Order} {f : Fault} → rows ≡ joinedRows (q .job) (q .extra) → job ≡ orderIn (q .job)
-    → whole ≡ extendedBy job (q .extra) → f ≡ orCircles before job whole → record { plan = q; rows = rows; order = whole; fault = f } ≡ orderedOf q before
+    → whole ≡ extendedBy job (q .extra) → f ≡ orCircles before job whole → record { plan = q; rows = rows; job = job; order = whole; fault = f } ≡ orderedOf q before
 ordered-as q before joined j w e = rw (e, w, j, joined, order-begun (q .job) (q .extra))
 
 -- the plan that the code holds has no more activities than there are elements

@@ -32,8 +32,11 @@ abbrev pub rowsOf : List ℕ → List ℕ
 rowsOf s = rowsFor (planIn s)
 
 -- "The job order uses job arcs, the plan order all arcs." (01, Order)
+abbrev pub jobOrderFor : Plan → Order
+jobOrderFor q = orderIn (q .job)
+
 abbrev pub jobOrder : List ℕ → Order
-jobOrder s = orderIn (planIn s .job)
+jobOrder s = jobOrderFor (planIn s)
 
 abbrev pub orderFor : Plan → Order
 orderFor q = orderIn (rowsFor q)

@@ -14,10 +14,11 @@ pub struct Read {
     pub fault: Fault,
 }
 
-// A plan with its direct arcs (job and extra together, as rows), its plan order, and the fault with 5 and 6 in their turn.
+// A plan with its direct arcs (job and extra together, as rows), its job order and its plan order, and the fault with 5 and 6 in their turn.
 pub struct Opened {
     pub plan: plan::Plan,
     pub rows: order::Rows,
+    pub job: Order,
     pub order: Order,
     pub fault: Fault,
 }
@@ -66,6 +67,7 @@ pub fn ordered(q: plan::Plan, found: Fault) -> Opened
     Opened {
         plan: q,
         rows,
+        job,
         order: whole,
         fault,
     }

@@ -3,13 +3,12 @@ use mathlib.Core.Bool.{not}
 use mathlib.Core.List.{List}
 use Prim.Native.Nat.{ℕ, _+_}
 use lib.Dec.{ltb}
-use Rattle.order.specs.Orders.{orderIn}
 use Rattle.order.specs.declared.Order.{Order}
 use Rattle.plan.specs.declared.Plan.{Plan}
 use Rattle.kinds.specs.Needs.{lowestOverload}
 use Rattle.kinds.specs.declared.Overload.{Overload}
 use Rattle.planner.specs.Faults.{orCause, orShort}
-use Rattle.planner.specs.Open.{planIn, rowsFor, rowsOf, orderFor, planOrder, readFault, orCircles, faultOf}
+use Rattle.planner.specs.Open.{planIn, rowsFor, rowsOf, jobOrderFor, jobOrder, orderFor, planOrder, readFault, orCircles, faultOf}
 use Rattle.planner.specs.Flow.{isKind}
 use Rattle.planner.specs.declared.Cause.the-variants.{Overloaded, NoKind}
 use Rattle.planner.specs.declared.Fault.{Fault}
@@ -22,11 +21,11 @@ readPlan s = record { plan = planIn s; fault = readFault s }
 
 -- the orders of a plan are built, after a fault
 abbrev pub orderedOf : Plan → Fault → Opened
-orderedOf q f = record { plan = q; rows = rowsFor q; order = orderFor q; fault = orCircles f (orderIn (q .job)) (orderFor q) }
+orderedOf q f = record { plan = q; rows = rowsFor q; job = jobOrderFor q; order = orderFor q; fault = orCircles f (jobOrderFor q) (orderFor q) }
 
 -- both
 abbrev pub openedOf : List ℕ → Opened
-openedOf s = record { plan = planIn s; rows = rowsOf s; order = planOrder s; fault = faultOf s }
+openedOf s = record { plan = planIn s; rows = rowsOf s; job = jobOrder s; order = planOrder s; fault = faultOf s }
 
 -- the overload that a search finds in a plan, by its order
 abbrev pub overloadIn : Order → Plan → Overload
