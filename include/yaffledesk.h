@@ -149,8 +149,9 @@ uint64_t yaffledesk_crew_check(const uint8_t *plan, size_t len, const uint32_t *
  *     flow      0: 33   1: kind   2: from   3: to     4-7: units   8: added mark
  *     overload  0: 32   1: kind   2: size             4-7: need    8-15: the set, bit i - 1 for activity i
  *
- * In a flow record 0 is the start and m + 1 the end. The added mark is 1 where both ends are activities and no job arc record
- * names this pair, else 0. */
+ * In a flow record 0 is the start and m + 1 the end. The added mark is 1 where both ends are activities and the sender is not before
+ * the receiver in the job order, directly or through other jobs, else 0. It marks a handover that the job arcs do not force: a way
+ * that takes an extra arc counts as added. */
 
 enum {
     YAFFLEDESK_OVERLOAD_RECORD = 32, /* byte 0 of an overload record */

@@ -18,6 +18,7 @@ void results(void);
 void milestones(void);
 void repeats(void);
 void waits(void);
+void added(void);
 
 // Counts one check, and prints a line where it fails.
 extern unsigned passed, failed;

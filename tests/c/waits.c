@@ -188,7 +188,7 @@ static void milestone(void) {
 }
 
 void waits(void) {
-    static const char *const names[] = {"a", "b", "d", "e", "e_job", "hall", "handed_back", "cured", "pasted"};
+    static const char *const names[] = {"a", "b", "d", "e", "e_job", "hall", "handed_back", "cured", "pasted", "briefed"};
     records();
     repeated();
     both_types();

@@ -1,5 +1,5 @@
 -- What passes from node to node: the units of each pair, its mark, and what the solver says. Assumes nothing.
-use mathlib.Core.Path.{_≡_, refl, sym, ap, _∙_, subst}
+use mathlib.Core.Path.{_≡_, refl, sym, ap, _∙_, subst, fun-ext}
 use mathlib.Core.Bool.{Bool, true, false, cond, _&&_}
 use mathlib.Core.List.{List}
 use mathlib.Core.Logic.{⊎-elim, _↔_}
@@ -8,7 +8,10 @@ use native.Mathlib.Omega.{arith}
 use lib.Dec.{ltb}
 use borrow.Author.Tests.{lt-ltb, le-ltb, eq-eqb, ltb-true}
 use Rattle.words.proofs.Tests.{holds, fails, and-left, and-right, cond-true, cond-false, cond-has, cond-least, cond-reached}
+use Rattle.order.specs.Orders.{isBefore, afterRows}
+use Rattle.order.specs.Rows.{after}
 use Rattle.order.specs.declared.Order.{Order}
+use Rattle.order.proofs.Orders.{after-rows}
 use Rattle.flow_math.specs.Handover.{row, col}
 use Rattle.solver.specs.model.Network.{handed}
 use Rattle.solver.specs.model.Quote.{quoteOf, flowOf}
@@ -77,6 +80,10 @@ module _ (b : ℕ → ℕ → Bool) (m : ℕ) where
 
     pub mark-zero : i < m → j < m → markOf b m (suc i) (suc j) ≡ 0 → R i j
     mark-zero k l e = means i j .0 (holds (b i j) (λ f. omega (arith, e, mark-at i j k l, cond-false {A = ℕ} 0 1 f)))
+
+-- by the rows of an order it is the mark by the order
+pub mark-rows : (o : Order) (m : ℕ) {rows : List ℕ} → rows ≡ afterRows o → markOf (after rows) m ≡ markOf (isBefore o) m
+mark-rows o m e = rw e (ap (λ (b : ℕ → ℕ → Bool). markOf b m) (fun-ext (λ i. fun-ext (λ j. after-rows o i j))))
 
 -- ---- what the solver says of kind k: the demands, the quote and the flow as code has them are those of the definitions
 

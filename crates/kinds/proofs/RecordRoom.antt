@@ -190,8 +190,8 @@ module _ (kind : ℕ) (g mark : ℕ → ℕ → ℕ) (m : ℕ) where
   unfolding putFlow
   rows-end u count out now h i = up-end (putRow kind g mark m) (m + 1) u (lent 0 out) h i
 
--- what is written goes by the kind and the units alone
-pub units-written : {kind k : ℕ} {g h : ℕ → ℕ → ℕ} (mark : ℕ → ℕ → ℕ) (m : ℕ) (l : Lent) → kind ≡ k → g ≡ h
-    → putFlow kind g mark m l ≡ putFlow k h mark m l
-units-written {kind} {k} {g} {h} mark m l p q =
-    ap (λ (x : ℕ). putFlow x g mark m l) p ∙ ap (λ (f : ℕ → ℕ → ℕ). putFlow k f mark m l) q
+-- what is written goes by the kind, the units and the marks alone
+pub units-written : {kind k : ℕ} {g h mark tag : ℕ → ℕ → ℕ} (m : ℕ) (l : Lent) → kind ≡ k → g ≡ h → mark ≡ tag
+    → putFlow kind g mark m l ≡ putFlow k h tag m l
+units-written {kind} {k} {g} {h} {mark} {tag} m l p q e =
+    ap (λ (x : ℕ). putFlow x g mark m l) p ∙ ap (λ (f : ℕ → ℕ → ℕ). putFlow k f mark m l) q ∙ ap (λ (f : ℕ → ℕ → ℕ). putFlow k h f m l) e

@@ -32,7 +32,8 @@ pub record Bounded (m : ℕ) (d : ℕ → ℕ) (f : ℕ → ℕ → ℕ) : Type 
 
 -- ---- records. `g u v` are the units from node u to node v of n nodes, `mark u v` is the pair's added mark
 
--- "The added mark is 1 when both ends are activities and no job arc record names this pair, else 0.": of m activities, where `b` says which pairs are named
+-- "The added mark shall be 1 exactly where both ends are activities and the sender is not before the receiver in the job order, directly or through others." (02, change 6): of m
+-- activities, where `b` says which is before which in the job order. (What that says of arcs is `mark-one` of proofs/NodeUnits.antt.)
 abbrev pub markOf : (ℕ → ℕ → Bool) → ℕ → ℕ → ℕ → ℕ
 markOf b m zero v = 0
 markOf b m (suc i) zero = 0

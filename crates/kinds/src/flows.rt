@@ -1,6 +1,7 @@
 // The flow of one kind, as records: one for each pair of nodes with positive units, ascending by from, then to.
 ghost use mathlib.Core.Path.{_≡_};
 ghost use Prim.Native.Nat.{suc, _+_, _≤_, _<_};
+ghost use Rattle.order.specs.Orders.{isBefore};
 ghost use Rattle.order.specs.Rows.{after};
 ghost use Rattle.order.specs.Stored.{elements};
 ghost use Rattle.solver.specs.model.Network.{handed};
@@ -24,7 +25,7 @@ pub fn byte(x: usize) -> u8
     x as u8
 }
 
-// The added mark of the pair from a node to node j + 1.
+// The added mark of the pair from a node to node j + 1, by the rows of the job order.
 fn mark(job: &Rows, m: usize, from: usize, j: usize) -> u8
     requires { ⌜ (m ≤ elements) × (from ≤ m) × (j ≤ m) ⌝ }
     ensures { λ r. ⌜ r ≡ markOf (after (now (job .entry))) m from (suc j) ⌝ }
@@ -108,11 +109,12 @@ fn put_flow(
     count
 }
 
-// Writes the flow of kind k, of which `available` are available, to the front of the lent bytes. Gives the number of records.
+// Writes the flow of kind k, of which `available` are available, to the front of the lent bytes, with the added marks by the job order. Gives the number
+// of records.
 pub fn write_flow(
     out: &mut [u8],
     order: Order,
-    job: &Rows,
+    job: Order,
     demand: &[u32; 8 * ELEMENTS],
     k: usize,
     available: u32,
@@ -123,12 +125,13 @@ pub fn write_flow(
         × (quoteOf m order (demandsFor (now demand) k) .need ≤ available)
         × Room (pairsOf (kindUnits order (now demand) k available m) (m + 2)) (now out) ⌝ }
     ensures { λ r. ⌜ lent r (now (out .exit))
-        ≡ putFlow (k + 1) (kindUnits order (now (demand .entry)) k available m) (markOf (after (now (job .entry))) m) m (lent 0 (now (out .entry))) ⌝ }
+        ≡ putFlow (k + 1) (kindUnits order (now (demand .entry)) k available m) (markOf (isBefore job) m) m (lent 0 (now (out .entry))) ⌝ }
 {
     let own = demands_for(demand, k);
     let mut flow: [u32; ELEMENTS * ELEMENTS] = [0; ELEMENTS * ELEMENTS];
     let quoted = solver::quote(order, m, &own, &mut flow);
     let need = quoted.need;
     let spare = available - need;
-    put_flow(out, byte(k + 1), m, &own, &flow, spare, job)
+    let before = job.after_rows();
+    put_flow(out, byte(k + 1), m, &own, &flow, spare, &before)
 }

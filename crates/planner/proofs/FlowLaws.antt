@@ -162,7 +162,7 @@ module _ (s : List ℕ) (kind : ℕ) (out : List ℕ) (bytes : AreBytes s) {o : 
         )
 
     -- the records are written
-    pub written : {r : ℕ} {after : List ℕ} → lent r after ≡ flowPut (o .order) (o .plan) (kind - 1) out
+    pub written : {r : ℕ} {after : List ℕ} → lent r after ≡ flowPut (o .order) (o .job) (o .plan) (kind - 1) out
         → (r ≡ flowCount (planIn s) (kind - 1)) × (after ≡ startingWith (recordBytes (planIn s) (kind - 1)) out)
     written q =
         let put = (rw held at q) ∙ flow-put s bytes (goes .0) (kind - 1) below out in

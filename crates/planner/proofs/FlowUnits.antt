@@ -30,7 +30,7 @@ use Rattle.kinds.specs.model.Writing.{Room, lent, putFlow}
 use Rattle.kinds.specs.Reading.{unitsRead}
 use Rattle.kinds.proofs.RecordsWritten.{length-flow, flow-written, flow-same, pairs-same}
 use Rattle.kinds.proofs.RecordsRead.{flow-read, flow-read-none}
-use Rattle.kinds.proofs.RecordsAscend.{Less, flow-ends, flow-ascends}
+use Rattle.kinds.proofs.RecordsAscend.{Less, Says, Given, flow-ends, flow-ascends}
 use Rattle.planner.specs.Open.{planIn, planOrder, Opens}
 use Rattle.planner.specs.Need.{demandFor, availableFor, needFor}
 use Rattle.planner.specs.Flow.{mostRecords, flowUnits, flowMark, flowCount, recordBytes}
@@ -62,6 +62,11 @@ pub records-ascend : (q : Plan) (k : ℕ) (rest : List ℕ) (i j : ℕ) → i < 
     → let F = recordBytes q k ++ rest in Less (fromOf F i) (toOf F i) (fromOf F j) (toOf F j)
 unfolding flowCount recordBytes
 records-ascend q k = flow-ascends (k + 1) (flowUnits q k) (flowMark q) (q .count + 2)
+
+-- what each says: units pass between its ends, and its mark is the pair's
+pub record-given : (q : Plan) (k : ℕ) (rest : List ℕ) (i : ℕ) → i < flowCount q k → Says (Given (flowUnits q k) (flowMark q)) (recordBytes q k ++ rest) i
+unfolding flowCount recordBytes
+record-given q k rest i h = flow-ends (k + 1) (flowUnits q k) (flowMark q) (q .count + 2) rest i h .2
 
 -- the units of kind k as the code has them
 abbrev pub codedUnits : List ℕ → ℕ → ℕ → ℕ → ℕ

@@ -1,7 +1,7 @@
 -- Laws of the definitions of `specs/`, which the proofs of the code and the crate `promises` go by.
 --
 -- FaultLaws (causes in turn), OutputLaws (answers, lent memory, and how an operation ends), OpenLaws (the causes of the opening), FileOrders (arcs, orders and
--- starts, in the file's own terms), QuotedNeeds (needs and overload), FlowUnits (flows), and for each operation one: VerdictLaws (Verdict), NeedsLaws (Needs),
+-- starts, in the file's own terms), QuotedNeeds (needs and overload), FlowUnits (flows), MarkLaws (added marks), and for each operation one: VerdictLaws (Verdict), NeedsLaws (Needs),
 -- StartsLaws, FlowLaws (Flow, and the causes of the operations on one kind), SheetLaws (Sheet), SheetFaults (which refusal when, of Flow and Sheet), OverloadLaws (Overload),
 -- CrewCheckLaws (Crew check); RefusalBounds (what a refusal tells is small).
 pub mod FaultLaws
@@ -13,6 +13,7 @@ pub mod TimesLaws
 pub mod FileOrders
 pub mod QuotedNeeds
 pub mod FlowUnits
+pub mod MarkLaws
 pub mod VerdictLaws
 pub mod NeedsLaws
 pub mod OverloadLaws

@@ -108,7 +108,7 @@ module _ (s : List ℕ) (kind page : ℕ) (out : List ℕ) where
     records-asked = flow-asked s kind room bytes held flows
 
     -- `n` records are in `records`, the starts in `starts`
-    module _ {n : ℕ} {records starts : List ℕ} (put : lent n records ≡ flowPut (o .order) (o .plan) (kind - 1) room) (begin : starts ≡ startsIn s (o .rows) (o .plan)) where
+    module _ {n : ℕ} {records starts : List ℕ} (put : lent n records ≡ flowPut (o .order) (o .job) (o .plan) (kind - 1) room) (begin : starts ≡ startsIn s (o .rows) (o .plan)) where
       has : (n ≡ flowCount (planIn s) (kind - 1)) × (records ≡ startingWith (recordBytes (planIn s) (kind - 1)) room)
       has = written s kind room bytes held flows put
 

@@ -4,7 +4,7 @@ use mathlib.Core.List.{List}
 use Prim.Native.Nat.{ℕ, _+_, _-_, _*_, _/_}
 use lib.Dec.{ltb, leb}
 use lib.ListN.{length}
-use Rattle.order.specs.Rows.{after}
+use Rattle.order.specs.Orders.{isBefore}
 use Rattle.plan.specs.Records.{activities}
 use Rattle.plan.specs.declared.Plan.{Plan}
 use Rattle.flow_math.specs.Flow.{nodeFlow}
@@ -14,7 +14,7 @@ use Rattle.kinds.specs.Needs.{demandsFor}
 use Rattle.kinds.specs.Flows.{markOf, flowBytes, pairsOf}
 use Rattle.planner.specs.File.{flowLength}
 use Rattle.planner.specs.Faults.{orCause, orShort}
-use Rattle.planner.specs.Open.{planIn, orderFor, faultOf}
+use Rattle.planner.specs.Open.{planIn, jobOrderFor, orderFor, faultOf}
 use Rattle.planner.specs.Output.{outputOf, lentAfter}
 use Rattle.planner.specs.Need.{demandFor, availableFor, needFor, orOverloaded}
 use Rattle.planner.specs.declared.Cause.the-variants.{NoKind}
@@ -46,9 +46,9 @@ unfoldable pub flowUnits : Plan → ℕ → ℕ → ℕ → ℕ
 flowUnits q k u v =
     nodeFlow (q .count) (demandFor q k) (handed (flowOf (q .count) (orderFor q) (demandsFor (q .demand) k))) (needFor q k) (availableFor q k) u v
 
--- the added mark of a pair of nodes, by the job arcs
+-- the added mark of a pair of nodes, by the job order. (In the file's own terms it is `Added` of File: `mark-added` of proofs/MarkLaws.antt.)
 abbrev pub flowMark : Plan → ℕ → ℕ → ℕ
-flowMark q = markOf (after (q .job)) (q .count)
+flowMark q = markOf (isBefore (jobOrderFor q)) (q .count)
 
 -- "One record for each pair with positive units": how many, and their bytes
 unfoldable pub flowCount : Plan → ℕ → ℕ

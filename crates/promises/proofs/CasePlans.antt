@@ -1,4 +1,4 @@
--- The plans A to H and what is made of them, opened: what their bytes are read as, and which fault they have. Each is computed once, here; what an operation makes of a plan goes by these two
+-- The plans A to I and what is made of them, opened: what their bytes are read as, and which fault they have. Each is computed once, here; what an operation makes of a plan goes by these two
 -- alone (`opened-as`). Assumes nothing.
 use mathlib.Core.Path.{_≡_, refl, ap, _∙_}
 use mathlib.Core.List.{List, [], _∷_, _++_}
@@ -25,7 +25,7 @@ use Rattle.planner.specs.Open.{planIn, orderFor, unreadFault, readFault, orCirc
 use Rattle.planner.specs.declared.Cause.the-variants.{JobCircle, PlanCircle}
 use Rattle.planner.specs.declared.Fault.{Fault}
 use Rattle.planner.specs.declared.Fault.the-variants.{Fine, Refused}
-use Rattle.promises.specs.Cases.{planA, planB, planC, planD, planE, planEJob, planF, planG, planH, planABoth, planAPasted, planASpare, planEPasted, planCThrice, planAWait, planAJobWaits, planAExtraWaits, planAWaitPasted, planAWaitSpare}
+use Rattle.promises.specs.Cases.{planA, planB, planC, planD, planE, planEJob, planF, planG, planH, planABoth, planAPasted, planASpare, planEPasted, planCThrice, planAWait, planAJobWaits, planAExtraWaits, planAWaitPasted, planAWaitSpare, planIJob, planIExtra, planIBoth}
 
 -- ---- the plans as tables
 
@@ -33,18 +33,22 @@ use Rattle.promises.specs.Cases.{planA, planB, planC, planD, planE, plan
 abbrev padded : ℕ → List ℕ → List ℕ
 padded n xs = xs ++ replicate (n - length xs) 0
 
--- a plan of one kind, with 4 available: durations, demands, and the sets that its rows of job arcs and of extra arcs are
-abbrev planWith : List ℕ → List ℕ → List ℕ → List ℕ → Plan
-planWith duration demand job extra =
+-- a plan of one kind: how many are available, durations, demands, and the sets that its rows of job arcs and of extra arcs are
+abbrev planOn : ℕ → List ℕ → List ℕ → List ℕ → List ℕ → Plan
+planOn available duration demand job extra =
     record {
       count = length duration;
       kinds = 1;
       duration = padded elements duration;
       demand = padded (8 * elements) demand;
-      available = padded 8 (4 ∷ []);
+      available = padded 8 (available ∷ []);
       job = rowTable elements (λ i. getD job i 0);
       extra = rowTable elements (λ i. getD extra i 0);
     }
+
+-- with 4 available
+abbrev planWith : List ℕ → List ℕ → List ℕ → List ℕ → Plan
+planWith = planOn 4
 
 -- the plans A to E
 abbrev fourWith : List ℕ → List ℕ → Plan
@@ -80,6 +84,19 @@ inG = planWith (0 ∷ []) [] [] []
 abbrev pub inH : Plan
 inH = planWith (1 ∷ 2 ∷ 0 ∷ 3 ∷ 1 ∷ []) (2 ∷ 2 ∷ 0 ∷ 2 ∷ 2 ∷ []) [] (4 ∷ 4 ∷ 24 ∷ [])
 
+-- the plans I
+abbrev threeWith : List ℕ → List ℕ → Plan
+threeWith job extra = planOn 2 (1 ∷ 1 ∷ 1 ∷ []) (2 ∷ 0 ∷ 2 ∷ []) job extra
+
+abbrev pub inIJob : Plan
+inIJob = threeWith (2 ∷ 4 ∷ []) []
+
+abbrev pub inIExtra : Plan
+inIExtra = threeWith (2 ∷ []) (0 ∷ 4 ∷ [])
+
+abbrev pub inIBoth : Plan
+inIBoth = threeWith (2 ∷ 4 ∷ []) (4 ∷ [])
+
 -- ---- so they are read
 
 abbrev Reads : List ℕ → Plan → Type 0
@@ -100,10 +117,13 @@ record AllRead : Type 0 where
   w : Reads planAWait inA
   w-job : Reads planAJobWaits inABoth
   w-extra : Reads planAExtraWaits inABoth
+  i-job : Reads planIJob inIJob
+  i-extra : Reads planIExtra inIExtra
+  i-both : Reads planIBoth inIBoth
 
 all-read : AllRead
 unfolding digit bit first some table row putRow rowTable cells field zeros leading activityFields demandsSome crewFields arcFields arcRepeats demandsOf fileDuration fileDemand fileKinds fileAvailable withArc arcsAfter arcsUpTo durationsOf demandTable availableOf planOf rule activityCause crewCause arcCause causeAt firstRefusal recordsCause isLength answerOf readOf
-all-read = record { a = refl; a-both = refl; b = refl; c = refl; d = refl; e = refl; e-job = refl; f4 = refl; f5 = refl; g = refl; h = refl; w = refl; w-job = refl; w-extra = refl }
+all-read = record { a = refl; a-both = refl; b = refl; c = refl; d = refl; e = refl; e-job = refl; f4 = refl; f5 = refl; g = refl; h = refl; w = refl; w-job = refl; w-extra = refl; i-job = refl; i-extra = refl; i-both = refl }
 
 -- and these are not
 pub record AllRefused : Type 0 where
@@ -152,6 +172,9 @@ pub record AllOpened : Type 0 where
   pub w : OpenedAs planAWait inA Fine
   pub w-job : OpenedAs planAJobWaits inABoth Fine
   pub w-extra : OpenedAs planAExtraWaits inABoth Fine
+  pub i-job : OpenedAs planIJob inIJob Fine
+  pub i-extra : OpenedAs planIExtra inIExtra Fine
+  pub i-both : OpenedAs planIBoth inIBoth Fine
 
 pub all-opened : AllOpened
 unfolding digit bit first table row rowTable cells grow arcsFrom arcsIn circleIn extended circleOf orderOf orderIn joinedRows
@@ -171,6 +194,9 @@ all-opened =
       w = reads-as (all-read .w) refl;
       w-job = reads-as (all-read .w-job) refl;
       w-extra = reads-as (all-read .w-extra) refl;
+      i-job = reads-as (all-read .i-job) refl;
+      i-extra = reads-as (all-read .i-extra) refl;
+      i-both = reads-as (all-read .i-both) refl;
     }
 
 -- what goes by the plan and the fault of a file

@@ -49,6 +49,7 @@ use Rattle.promises.specs.Ours.{ours}
 use Rattle.promises.specs.Cases.{Cases, planG, planAPasted, planASpare, planEPasted, planCThrice, planAWaitPasted, planAWaitSpare}
 use Rattle.promises.proofs.RefusalsHold.{unreadables}
 use Rattle.promises.proofs.CasePlans.{OpenedAs, all-opened, all-refused, opened-as}
+use Rattle.promises.proofs.CaseFlows.{all-flows}
 
 -- ---- what ours says of a file that is opened so
 
@@ -152,4 +153,8 @@ cases =
       w-extra-breaks = crew-as (all-opened .w-extra) (0 ∷ 256 ∷ 0 ∷ 259 ∷ []) (1 ∷ 2 ∷ 3 ∷ 1 ∷ []);
       w-spare = verdict-refused planAWaitSpare (all-refused .w-spare);
       w-pasted = verdict-refused planAWaitPasted (all-refused .w-pasted);
+      a-flow = all-flows .a;
+      i-job = all-flows .i-job;
+      i-extra = all-flows .i-extra;
+      i-both = all-flows .i-both;
     }

@@ -6,7 +6,8 @@
 -- CHANGE 1 of document 02, Sheet, is SheetHolds; it rests on SheetAnswers (what Sheet answers and leaves) and SheetPrinted (what is on the page).
 -- CHANGE 2, Milestones, is MilestonesHold; it rests on plan's laws of 12 and on demand 2. CHANGE 3, No arc twice, is RepeatedArcsHold; it rests on plan's laws of 13.
 -- CHANGE 4, Period load in the paper's order, is `loads` of PaperHolds; it rests on PeriodLoads. CHANGE 5, Waits on arcs, is WaitsHold; it rests on plan's laws of waits.
--- EqualFlowsHold: files that are read alike get the same quotes, so plans that say the same get equal flows, and with equal waits equal sheets. CasesHold: the starred cases, of the plans that CasePlans opens. HollowFail: the hollow planners keep no price list.
+-- CHANGE 6, Added means added, is AddedMarksHold; it rests on planner's laws of the mark (MarkLaws) and on demand 3's flows.
+-- EqualFlowsHold: files that are read alike get the same quotes, so plans that say the same get equal flows, and with equal waits equal sheets. CasesHold: the starred cases, of the plans that CasePlans opens and whose flows CaseFlows has. HollowFail: the hollow planners keep no price list.
 -- What the other answers mean, in the file's own terms: CircleFaults (the opening's causes), CrewCheckMeaning (the crew check), AnswersWhen (which case has which answer).
 pub mod FileNeeds
 pub mod FileFlows
@@ -30,6 +31,8 @@ pub mod SheetHolds
 pub mod MilestonesHold
 pub mod RepeatedArcsHold
 pub mod WaitsHold
+pub mod AddedMarksHold
 pub mod CasePlans
+pub mod CaseFlows
 pub mod CasesHold
 pub mod HollowFail

@@ -209,7 +209,7 @@ module _ (s : List ℕ) (small : AreBytes s) (o : Opens s) where
     kind-there = omega (arith, kind-within (k + 1) (planIn s .kinds) (went .1) .1, kinds-in s readable)
 
     -- the records, read back
-    units-said : (u v : ℕ) → unitsRead n (flowOut s (k + 1) out) u v ≡ flowUnits (planIn s) k u v
+    pub units-said : (u v : ℕ) → unitsRead n (flowOut s (k + 1) out) u v ≡ flowUnits (planIn s) k u v
     units-said u v =
         ap (λ (x : ℕ). unitsRead x (flowOut s (k + 1) out) u v) (left .1)
         ∙ ap (λ (l : List ℕ). unitsRead (flowCount (planIn s) k) l u v) (left .2)

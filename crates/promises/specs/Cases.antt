@@ -91,6 +91,32 @@ planAWaitPasted = planAWait ++ waitBytes 4 1 2 5 0
 abbrev pub planAWaitSpare : List ℕ
 planAWaitSpare = planAWait ++ (4 ∷ 1 ∷ 3 ∷ 0 ∷ 5 ∷ 0 ∷ 1 ∷ replicate 17 0)
 
+-- three activities in a row, of which the second demands nobody, with 2 available; both arcs as job arcs, the second as an extra arc, and both with an extra arc from 1 to 3
+abbrev pub planI : List ℕ
+planI = activityBytes 1 1 2 ++ (activityBytes 2 1 0 ++ (activityBytes 3 1 2 ++ crewBytes 2))
+
+abbrev pub planIJob : List ℕ
+planIJob = planI ++ (arcBytes 3 1 2 ++ arcBytes 3 2 3)
+
+abbrev pub planIExtra : List ℕ
+planIExtra = planI ++ (arcBytes 3 1 2 ++ arcBytes 4 2 3)
+
+abbrev pub planIBoth : List ℕ
+planIBoth = planIJob ++ arcBytes 4 1 3
+
+-- a flow record of kind 1, as the report prints it: from, to, units, added mark
+abbrev pub handoverBytes : ℕ → ℕ → ℕ → ℕ → List ℕ
+handoverBytes from to units mark = 33 ∷ 1 ∷ from ∷ to ∷ units ∷ 0 ∷ 0 ∷ 0 ∷ mark ∷ replicate 15 0
+
+-- the flow of plan A, at the front of the 360 bytes that it needs; and that of the plans I, where the handover from 1 to 3 has this mark, at the front of 240
+abbrev pub flowA : List ℕ
+flowA =
+    handoverBytes 0 1 2 0
+    ++ (handoverBytes 0 3 2 0 ++ (handoverBytes 1 2 2 1 ++ (handoverBytes 2 4 2 1 ++ (handoverBytes 3 5 2 0 ++ (handoverBytes 4 5 2 0 ++ replicate 216 9)))))
+
+abbrev pub flowI : ℕ → List ℕ
+flowI mark = handoverBytes 0 1 2 0 ++ (handoverBytes 1 3 2 mark ++ (handoverBytes 3 4 2 0 ++ replicate 168 9))
+
 pub record Cases (P : Planner) : Type 0 where
   -- "*A accepted, need 4."
   pub a-accepted : verdictNumbers (P .verdict planA) ≡ 0 ∷ 4 ∷ 1 ∷ []
@@ -159,3 +185,9 @@ pub record Cases (P : Planner) : Type 0 where
   -- "so 4 covers the other spare bytes only"; and another wait makes no other pair, so that 13 is given
   pub w-spare : verdictNumbers (P .verdict planAWaitSpare) ≡ 4 ∷ 7 ∷ []
   pub w-pasted : verdictNumbers (P .verdict planAWaitPasted) ≡ 13 ∷ 7 ∷ []
+  -- "and plan A's listing keeps its marks" (02, change 6): its six flow lines, as document 01 has them
+  pub a-flow : P .flow 1 .left planA (replicate 360 9) ≡ flowA
+  -- "a handover .. that the job order forces through a third job" is not added; one on a way that uses an extra arc is; and one that has both ways is not
+  pub i-job : P .flow 1 .left planIJob (replicate 240 9) ≡ flowI 0
+  pub i-extra : P .flow 1 .left planIExtra (replicate 240 9) ≡ flowI 1
+  pub i-both : P .flow 1 .left planIBoth (replicate 240 9) ≡ flowI 0

@@ -42,7 +42,8 @@ fn read_record(facts: &Facts, kind: usize, record: &[u8]) -> Result<Pass, String
         return fail("units against the plan order");
     }
     let between_activities = from >= 1 && to <= facts.plan.size();
-    let added = between_activities && !facts.plan.job.contains_key(&(from, to));
+    // A handover that the job order forces, through other jobs too, is not added; one that takes an extra arc is.
+    let added = between_activities && !facts.job.is_before(from, to);
     if record[8] != added as u8 {
         return fail("wrong added mark");
     }

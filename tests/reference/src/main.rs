@@ -3,6 +3,7 @@
 
 #![deny(unsafe_code)]
 
+mod added;
 mod bench;
 mod big;
 mod bytes;
@@ -42,6 +43,7 @@ const DAMAGED_PLANS: usize = 8;
 const PASSING_PLANS: usize = 800;
 const REPEATED_PLANS: usize = 400;
 const TWIN_PLANS: usize = 400;
+const ADDED_PLANS: usize = 1_200;
 
 fn seed() -> u64 {
     let given = std::env::args().nth(1).or_else(|| std::env::var("REFERENCE_SEED").ok());
@@ -68,6 +70,7 @@ fn main() -> ExitCode {
     part("repeated arcs", &|bench| repeats::repeats(bench, REPEATED_PLANS));
     part("waits", &waits::waits);
     part("other waits", &|bench| twins::twins(bench, TWIN_PLANS));
+    part("added marks", &|bench| added::added(bench, ADDED_PLANS));
     part("random plans", &|bench| sweep::random_plans(bench, RANDOM_PLANS));
     part("damaged plans", &|bench| damage::damaged_plans(bench, DAMAGED_PLANS));
     part("big plans", &|bench| big::big_plans(bench, BIG_PLANS));

@@ -99,6 +99,9 @@ fn weigh(plan: &Plan, kind: usize, set: u64, need: &mut Need) {
 /// Everything that the paper determines of a readable plan without a circle.
 pub struct Facts {
     pub plan: Plan,
+    /// The job order.
+    pub job: Order,
+    /// The plan order.
     pub order: Order,
     pub needs: Vec<Need>,
 }
@@ -120,16 +123,16 @@ impl Case {
 
     fn with(bytes: Vec<u8>, weigh: impl FnOnce(&Plan, &Order) -> Vec<Need>) -> Case {
         let facts = read(&bytes).and_then(|plan| {
-            let order = ordered(&plan)?;
+            let (job, order) = ordered(&plan)?;
             let needs = weigh(&plan, &order);
-            Ok(Facts { plan, order, needs })
+            Ok(Facts { plan, job, order, needs })
         });
         Case { bytes, facts }
     }
 }
 
-/// The plan order, or cause 5 or 6.
-pub fn ordered(plan: &Plan) -> Result<Order, Refusal> {
+/// The job order and the plan order, or cause 5 or 6.
+pub fn ordered(plan: &Plan) -> Result<(Order, Order), Refusal> {
     let job = Order::of(plan.size(), &plan.job.keys().copied().collect());
     let all = Order::of(plan.size(), &plan.arcs());
     for (number, order) in [(5, &job), (6, &all)] {
@@ -137,7 +140,7 @@ pub fn ordered(plan: &Plan) -> Result<Order, Refusal> {
             return Err(Refusal { number, value: activity as u64 });
         }
     }
-    Ok(all)
+    Ok((job, all))
 }
 
 /// Why lists of starts and worked durations are refused as 10.

@@ -68,7 +68,7 @@ fn left_out(random: &mut Random, most: usize) -> Pair {
     let mut second = random_draft(random, size, 1_000);
     second.activities[random.index(size)] = MILESTONE;
     let plan = read(&second.bytes()).expect("a built plan is readable");
-    let order = ordered(&plan).unwrap_or_else(|refusal| panic!("a built plan has a circle: {refusal:?}"));
+    let (_, order) = ordered(&plan).unwrap_or_else(|refusal| panic!("a built plan has a circle: {refusal:?}"));
     let numbers: Vec<usize> = (1..=size).filter(|&number| !plan.is_milestone(number - 1)).collect();
     between_others(&mut second, &order, &numbers);
     let ways = ways(&read(&second.bytes()).expect("it is readable with other waits"));

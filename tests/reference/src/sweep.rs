@@ -117,7 +117,7 @@ pub fn add_circle(random: &mut Random, draft: &mut Draft) {
 fn crowd(random: &mut Random, draft: &mut Draft) {
     let plan = read(&draft.bytes()).unwrap_or_else(|refusal| panic!("a built plan is refused: {refusal:?}"));
     let needs = match ordered(&plan) {
-        Ok(order) => needs_by_subsets(&plan, &order).iter().map(|need| need.units).collect(),
+        Ok((_, order)) => needs_by_subsets(&plan, &order).iter().map(|need| need.units).collect(),
         Err(_) => vec![1; plan.kinds],
     };
     draft.available = around(random, &needs);

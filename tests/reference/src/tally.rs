@@ -21,7 +21,7 @@ const OTHERS: [(&str, &[u64]); 7] = [
     ("Crew check", &[10, BROKEN, OVERLOAD, 0]),
 ];
 /// What a number alone does not say.
-const NOTES: [&str; 21] = [
+const NOTES: [&str; 25] = [
     "no overload",
     "sheet of one page",
     "sheet of more pages",
@@ -43,6 +43,10 @@ const NOTES: [&str; 21] = [
     "crew with waits fits",
     "crew with waits breaks an arc only by its wait",
     "crew with waits overloads",
+    "handover along a job arc",
+    "handover through other jobs",
+    "handover along an extra arc",
+    "handover on a way with an extra arc",
 ];
 
 #[derive(Default)]

@@ -1,17 +1,17 @@
--- The writing of a kind's flow, of a plan and its order. Kind k stands for kind k + 1 of the file. Assumes nothing.
+-- The writing of a kind's flow, of a plan and its orders. Kind k stands for kind k + 1 of the file. Assumes nothing.
 use mathlib.Core.List.{List}
 use Prim.Native.Nat.{ℕ, _+_, _≤_, _<_}
 use lib.ListN.{getD}
 use Rattle.order.specs.Stored.{elements}
+use Rattle.order.specs.Orders.{isBefore}
 use Rattle.order.specs.declared.Order.{Order}
 use Rattle.plan.specs.declared.Plan.{Plan}
 use Rattle.solver.specs.model.Network.{handed}
 use Rattle.solver.specs.model.Quote.{quoteOf, flowOf}
 use Rattle.solver.specs.Sound.{asked}
 use Rattle.kinds.specs.Needs.{demandsFor}
-use Rattle.kinds.specs.Flows.{Bounded, kindUnits, pairsOf}
+use Rattle.kinds.specs.Flows.{Bounded, markOf, kindUnits, pairsOf}
 use Rattle.kinds.specs.model.Writing.{Room, Lent, lent, putFlow}
-use Rattle.planner.specs.Flow.{flowMark}
 
 -- what it asks
 abbrev pub FlowAsked : Order → Plan → ℕ → List ℕ → Type 0
@@ -22,5 +22,5 @@ FlowAsked o q k out =
     × Room (pairsOf (kindUnits o (q .demand) k (getD (q .available) k 0) (q .count)) (q .count + 2)) out
 
 -- what it counts, and leaves
-abbrev pub flowPut : Order → Plan → ℕ → List ℕ → Lent
-flowPut o q k out = putFlow (k + 1) (kindUnits o (q .demand) k (getD (q .available) k 0) (q .count)) (flowMark q) (q .count) (lent 0 out)
+abbrev pub flowPut : Order → Order → Plan → ℕ → List ℕ → Lent
+flowPut o job q k out = putFlow (k + 1) (kindUnits o (q .demand) k (getD (q .available) k 0) (q .count)) (markOf (isBefore job) (q .count)) (q .count) (lent 0 out)

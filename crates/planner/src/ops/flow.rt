@@ -58,15 +58,14 @@ pub fn kind_fault(
     or_overloaded(roomy, order, q)
 }
 
-// Writes the records of a plan's flow of kind k + 1 to the front of the lent bytes. Gives their number.
-pub fn write_records(out: &mut [u8], order: Order, q: plan::Plan, k: usize) -> usize
+// Writes the records of a plan's flow of kind k + 1 to the front of the lent bytes, with the added marks by the job order. Gives their number.
+pub fn write_records(out: &mut [u8], order: Order, job: Order, q: plan::Plan, k: usize) -> usize
     requires { ⌜ FlowAsked order q k (now out) ⌝ }
-    ensures { λ r. ⌜ lent r (now (out .exit)) ≡ flowPut order q k (now (out .entry)) ⌝ }
+    ensures { λ r. ⌜ lent r (now (out .exit)) ≡ flowPut order job q k (now (out .entry)) ⌝ }
 {
-    let job = q.job;
     let demand = q.demand;
     let available = q.available;
-    kinds::write_flow(out, order, &job, &demand, k, available[k], q.count)
+    kinds::write_flow(out, order, job, &demand, k, available[k], q.count)
 }
 
 // Flow: the records of a kind's flow, to the front of the lent bytes.
@@ -84,6 +83,7 @@ pub fn flow(s: &[u8], kind: usize, out: &mut [u8]) -> Output
         return output_of(fault, 0);
     }
     let k = kind - 1;
-    let value = write_records(out, order, q, k);
+    let job = opened.job;
+    let value = write_records(out, order, job, q, k);
     output_of(fault, value)
 }

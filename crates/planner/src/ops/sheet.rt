@@ -90,6 +90,7 @@ pub fn sheet(s: &[u8], kind: usize, page: usize, out: &mut [u8]) -> Output
     let rows = opened.rows;
     let starts = starts_of(s, &rows, q);
     let mut records = [0u8; RECORDS];
-    let n = write_records(&mut records, order, q, kind - 1);
+    let job = opened.job;
+    let n = write_records(&mut records, order, job, q, kind - 1);
     print_page(out, &records, n, &starts, kind, page)
 }

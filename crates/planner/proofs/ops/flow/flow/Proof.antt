@@ -54,7 +54,7 @@ sub-k c = let t = c .before in positive (s t) (kind t) (out t) (bytes t) (o t .o
 
 write-records-requires : tie.Need-write-records-requires
 write-records-requires c κs =
-    let h = c .before in
+    let h = c .before .before in
     let t = h .before in
     flow-asked (s t) (kind t) (out t) (bytes t) (o t .open-plan .ensures) (goes-on (found t) (h .if1 .left))
 
@@ -62,7 +62,7 @@ returns-2 : tie.Need-returns-2
 unfolding flowOut
 returns-2 c =
     let p = c .before .before .before in
-    let h = p .before .before in
+    let h = p .before .before .before in
     let t = h .before in
     let w = written (s t) (kind t) (out t) (bytes t) (o t .open-plan .ensures) (goes-on (found t) (h .if1 .left)) (p .write-records .ensures) in
     done (found t) (flowCount (planIn (s t)) (kind t - 1)) (recordBytes (planIn (s t)) (kind t - 1)) (out t) (h .if1 .left) (c .output-of2 .ensures) (w .0) (w .1)

@@ -63,20 +63,20 @@ starts-of-requires c κs =
 
 sub-write-records : tie.Need-sub-write-records
 sub-write-records c =
-    let h = c .before .before .before .before in
+    let h = c .before .before .before .before .before in
     let t = h .before in
     counts (s t) (kind t) (page t) (out t) (bytes t) (o t .open-plan .ensures) (goes-on (found t) (h .if1 .left))
 
 write-records-requires : tie.Need-write-records-requires
 write-records-requires c κs =
-    let h = c .before .before .before .before in
+    let h = c .before .before .before .before .before in
     let t = h .before in
     records-asked (s t) (kind t) (page t) (out t) (bytes t) (o t .open-plan .ensures) (goes-on (found t) (h .if1 .left))
 
 print-page-requires : tie.Need-print-page-requires
 print-page-requires c κs =
     let w = c .before .before .before .before in
-    let b = w .before .before in
+    let b = w .before .before .before in
     let h = b .before .before .before in
     let t = h .before in
     print-asked (s t) (kind t) (page t) (out t) (bytes t) (o t .open-plan .ensures) (goes-on (found t) (h .if1 .left)) (w .write-records .ensures) (b .starts-of .ensures)
@@ -85,7 +85,7 @@ returns-2 : tie.Need-returns-2
 returns-2 c =
     let p = c .before .before in
     let w = p .before .before .before .before .before in
-    let b = w .before .before in
+    let b = w .before .before .before in
     let h = b .before .before .before in
     let t = h .before in
     printed (s t) (kind t) (page t) (out t) (bytes t) (o t .open-plan .ensures) (goes-on (found t) (h .if1 .left)) (w .write-records .ensures) (b .starts-of .ensures)
