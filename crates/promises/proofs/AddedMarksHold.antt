@@ -1,8 +1,8 @@
 -- CHANGE 6 OF DOCUMENT 02 HOLDS OF OURS: `added-keep`. Assumes nothing.
-use mathlib.Core.Path.{_≡_, sym, ap, _∙_}
+use mathlib.Core.Path.{_≡_, sym, _∙_}
 use mathlib.Core.List.{List}
 use mathlib.Core.Logic.{⊎-elim, _↔_}
-use Prim.Native.Nat.{ℕ, suc, _<_}
+use Prim.Native.Nat.{ℕ, suc, _+_, _<_}
 use native.Mathlib.Numerals.{add-one}
 use native.Mathlib.Omega.{arith}
 use lib.ListN.{length, drop}
@@ -10,12 +10,12 @@ use Rattle.order.specs.Before.{Before, Joined, Acyclic}
 use Rattle.order.specs.Orders.{isBefore}
 use Rattle.order.proofs.Before.{before-least, before-trans, before-joined}
 use Rattle.records.specs.Bytes.{AreBytes}
-use Rattle.records.specs.Records.{startingWith, fromOf, toOf, addedOf}
 use Rattle.plan.specs.Meaning.{Readable, JobArc, FileArc}
 use Rattle.kinds.proofs.NodeUnits.{mark-most}
+use Rattle.kinds.proofs.RecordsAscend.{Says, Given}
 use Rattle.planner.specs.Open.{planIn, jobOrder, Opens}
 use Rattle.planner.specs.File.{NodeBefore, Added}
-use Rattle.planner.specs.Flow.{flowUnits, flowMark, recordBytes}
+use Rattle.planner.specs.Flow.{flowUnits, flowMark, recordBytes, flowOut}
 use Rattle.planner.proofs.FlowUnits.{record-given}
 use Rattle.planner.proofs.MarkLaws.{mark-added, mark-job}
 use Rattle.promises.specs.Ours.{ours}
@@ -38,12 +38,9 @@ module _ (s : List ℕ) (small : AreBytes s) (r : Readable s) (free : Acyclic (F
     given : (0 < flowUnits (planIn s) k u v) × (mark ≡ flowMark (planIn s) u v)
     given =
         let left = flow-left s k (w .lent) (w .count) (w .answers) in
-        let F : List ℕ = startingWith (recordBytes (planIn s) k) (w .lent) in
-        let g = record-given (planIn s) k (drop (length (recordBytes (planIn s) k)) (w .lent)) (w .place) (omega (arith, w .written, left .1)) in
-        let from : fromOf F (w .place) ≡ u = ap (λ (l : List ℕ). fromOf l (w .place)) (sym (left .2)) ∙ w .from-is in
-        let to : toOf F (w .place) ≡ v = ap (λ (l : List ℕ). toOf l (w .place)) (sym (left .2)) ∙ w .to-is in
-        let added : addedOf F (w .place) ≡ mark = ap (λ (l : List ℕ). addedOf l (w .place)) (sym (left .2)) ∙ w .mark-is in
-        (rw (from, to) at (g .some), sym added ∙ (rw (from, to) at (g .added)))
+        let g : Says (Given (flowUnits (planIn s) k) (flowMark (planIn s))) (flowOut s (k + 1) (w .lent)) (w .place) =
+        rw (left .2) (record-given (planIn s) k (drop (length (recordBytes (planIn s) k)) (w .lent)) (w .place) (omega (arith, w .written, left .1))) in
+        (rw (w .from-is, w .to-is) at (g .some), sym (w .mark-is) ∙ (rw (w .from-is, w .to-is) at (g .added)))
 
     -- and passes along the plan order
     along : NodeBefore s u v

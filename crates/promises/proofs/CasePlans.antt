@@ -15,16 +15,15 @@ use Rattle.plan.specs.Records.{leading, activityFields, demandsSome, crewFields
 use Rattle.plan.specs.Meaning.{fileDuration, fileDemand, fileKinds, fileAvailable}
 use Rattle.plan.specs.model.ArcRows.{withArc, arcsAfter, arcsUpTo}
 use Rattle.plan.specs.model.Plans.{durationsOf, demandTable, availableOf, planOf}
-use Rattle.plan.specs.Causes.{rule, activityCause, crewCause, arcCause, causeAt, firstRefusal, recordsCause, isLength, answerOf}
-use Rattle.plan.specs.model.Reads.{readOf}
+use Rattle.plan.specs.Causes.{rule, activityCause, crewCause, arcCause, causeAt, firstRefusal, recordsCause, isLength, answerOf, isReadable}
 use Rattle.plan.specs.declared.Plan.{Plan}
-use Rattle.plan.specs.declared.Reading.{Reading}
 use Rattle.plan.specs.declared.Answer.the-variants as answer
 use Rattle.plan.specs.declared.Cause.the-variants.{MilestoneDemand, Spare, RepeatedArc}
-use Rattle.planner.specs.Open.{planIn, orderFor, unreadFault, readFault, orCircles, faultOf}
+use Rattle.planner.specs.Open.{planIn, orderFor, readFault, orCircles, faultOf}
 use Rattle.planner.specs.declared.Cause.the-variants.{JobCircle, PlanCircle}
 use Rattle.planner.specs.declared.Fault.{Fault}
 use Rattle.planner.specs.declared.Fault.the-variants.{Fine, Refused}
+use Rattle.planner.proofs.OpenLaws.{plan-in}
 use Rattle.promises.specs.Cases.{planA, planB, planC, planD, planE, planEJob, planF, planG, planH, planABoth, planAPasted, planASpare, planEPasted, planCThrice, planAWait, planAJobWaits, planAExtraWaits, planAWaitPasted, planAWaitSpare, planIJob, planIExtra, planIBoth}
 
 -- ---- the plans as tables
@@ -99,8 +98,10 @@ inIBoth = threeWith (2 ∷ 4 ∷ []) (4 ∷ [])
 
 -- ---- so they are read
 
-abbrev Reads : List ℕ → Plan → Type 0
-Reads s q = readOf s ≡ record { plan = q; answer = answer.Readable }
+-- (its answer and its plan apart: `readOf` would have the answer computed twice)
+record Reads (s : List ℕ) (q : Plan) : Type 0 where
+  answers : answerOf s ≡ answer.Readable
+  says : planOf s ≡ q
 
 record AllRead : Type 0 where
   a : Reads planA inA
@@ -122,8 +123,27 @@ record AllRead : Type 0 where
   i-both : Reads planIBoth inIBoth
 
 all-read : AllRead
-unfolding digit bit first some table row putRow rowTable cells field zeros leading activityFields demandsSome crewFields arcFields arcRepeats demandsOf fileDuration fileDemand fileKinds fileAvailable withArc arcsAfter arcsUpTo durationsOf demandTable availableOf planOf rule activityCause crewCause arcCause causeAt firstRefusal recordsCause isLength answerOf readOf
-all-read = record { a = refl; a-both = refl; b = refl; c = refl; d = refl; e = refl; e-job = refl; f4 = refl; f5 = refl; g = refl; h = refl; w = refl; w-job = refl; w-extra = refl; i-job = refl; i-extra = refl; i-both = refl }
+unfolding digit bit first some table row putRow rowTable cells field zeros leading activityFields demandsSome crewFields arcFields arcRepeats demandsOf fileDuration fileDemand fileKinds fileAvailable withArc arcsAfter arcsUpTo durationsOf demandTable availableOf planOf rule activityCause crewCause arcCause causeAt firstRefusal recordsCause isLength answerOf
+all-read =
+    record {
+      a = record { answers = refl; says = refl };
+      a-both = record { answers = refl; says = refl };
+      b = record { answers = refl; says = refl };
+      c = record { answers = refl; says = refl };
+      d = record { answers = refl; says = refl };
+      e = record { answers = refl; says = refl };
+      e-job = record { answers = refl; says = refl };
+      f4 = record { answers = refl; says = refl };
+      f5 = record { answers = refl; says = refl };
+      g = record { answers = refl; says = refl };
+      h = record { answers = refl; says = refl };
+      w = record { answers = refl; says = refl };
+      w-job = record { answers = refl; says = refl };
+      w-extra = record { answers = refl; says = refl };
+      i-job = record { answers = refl; says = refl };
+      i-extra = record { answers = refl; says = refl };
+      i-both = record { answers = refl; says = refl };
+    }
 
 -- and these are not
 pub record AllRefused : Type 0 where
@@ -141,21 +161,16 @@ all-refused = record { g = refl; a-pasted = refl; a-spare = refl; e-pasted = ref
 
 -- ---- and so they are opened
 
--- the fault of what was read
-abbrev faultIn : Reading → Fault
-faultIn r = orCircles (unreadFault (r .answer)) (orderIn (r .plan .job)) (orderFor (r .plan))
-
-fault-in : (s : List ℕ) → faultOf s ≡ faultIn (readOf s)
-unfolding faultOf readFault readOf
-fault-in s = refl
-
 -- the plan and the fault of a file
 pub record OpenedAs (s : List ℕ) (q : Plan) (f : Fault) : Type 0 where
   pub plan : planIn s ≡ q
   pub fault : faultOf s ≡ f
 
-reads-as : {s : List ℕ} {q : Plan} {f : Fault} → Reads s q → faultIn (record { plan = q; answer = answer.Readable }) ≡ f → OpenedAs s q f
-reads-as {s} r e = record { plan = ap (λ (x : Reading). x .plan) r; fault = fault-in s ∙ ap faultIn r ∙ e }
+reads-as : {s : List ℕ} {q : Plan} {f : Fault} → Reads s q → orCircles Fine (orderIn (q .job)) (orderFor q) ≡ f → OpenedAs s q f
+unfolding faultOf readFault
+reads-as {s} {q} r e =
+    let plan : planIn s ≡ q = plan-in s (ap isReadable (r .answers)) ∙ r .says in
+    record { plan = plan; fault = rw (r .answers, plan) e }
 
 pub record AllOpened : Type 0 where
   pub a : OpenedAs planA inA Fine

@@ -15,7 +15,7 @@ use Rattle.planner.specs.File.{Added}
 use Rattle.planner.specs.declared.Output.the-variants.{Written}
 use Rattle.promises.specs.Planner.{Planner}
 
--- Flow writes, of some kind k + 1 and to whatever it is lent, a record from node u to node v with this added mark
+-- Flow writes, of some kind (as everywhere, `kind` is kind + 1 of the file) and to whatever it is lent, a record from node u to node v with this added mark
 pub record Writes (P : Planner) (s : List ℕ) (u v mark : ℕ) : Type 0 where
   pub kind : ℕ
   pub lent : List ℕ
