@@ -1,5 +1,5 @@
 -- What the definitions of the operations mean, in the file's own terms: the arcs, the two orders, the starts. Assumes nothing.
-use mathlib.Core.Path.{_≡_, sym}
+use mathlib.Core.Path.{_≡_, sym, ap}
 use mathlib.Core.List.{List}
 use mathlib.Core.Logic.{⊎-elim, _↔_, Iff·rfl, Iff·trans}
 use Prim.Native.Nat.{ℕ, _≤_, _<_, _+_}
@@ -9,7 +9,7 @@ use Rattle.order.specs.Stored.{elements}
 use Rattle.order.specs.Before.{Before, Acyclic}
 use Rattle.order.specs.Arcs.{StrictOrder, Within}
 use Rattle.order.specs.Orders.{Direct, OrderOf, isBefore}
-use Rattle.order.proofs.Before.{before-same, before-within}
+use Rattle.order.proofs.Before.{acyclic-joined, before-same, before-within}
 use Rattle.order.proofs.Represents.{represents-same}
 use Rattle.order.proofs.Orders.{direct-order, direct-joined, order-strict}
 use Rattle.schedule.specs.Network.{Keeps}
@@ -18,10 +18,12 @@ use Rattle.schedule.specs.model.Arrays.{netOf}
 use Rattle.schedule.proofs.Arrays as arrays
 use Rattle.schedule.proofs.Starts as earliest
 use Rattle.plan.specs.Meaning.{Readable, JobArc, ExtraArc, FileArc, fileDuration}
-use Rattle.planner.specs.Open.{planIn, rowsOf, jobOrder, planOrder, Opens}
+use Rattle.planner.specs.Faults.{isFine}
+use Rattle.planner.specs.Open.{planIn, rowsOf, jobOrder, planOrder, readFault, orCircle, faultOf, Opens}
+use Rattle.planner.specs.declared.Cause.the-variants.{JobCircle, PlanCircle}
 use Rattle.planner.specs.Starts.{firstStarts, endStart}
 use Rattle.planner.specs.Times.{arcWeight, KeepsArcs, NoWaits}
-use Rattle.planner.proofs.OpenLaws.{said-in, opens-readable, opens-plan}
+use Rattle.planner.proofs.OpenLaws.{said-in, read-none, round-none, opens-readable, opens-plan}
 
 -- ---- the arcs of the rows are the arcs of the file
 
@@ -54,6 +56,17 @@ opens-acyclic s o i b = opens-plan s o i (before-same (plan-arcs s (opens-readab
 
 pub opens-strict : (s : List ℕ) → Opens s → StrictOrder elements (isBefore (planOrder s))
 opens-strict s o = order-strict (plan-order s (opens-readable s o)) (opens-acyclic s o)
+
+-- ---- A PLAN MEETS NONE OF THE CAUSES 1 TO 6 exactly when it is readable and its arcs lead nothing back to itself
+
+pub opens-when : (s : List ℕ) → Opens s ↔ (Readable s × Acyclic (FileArc s))
+unfolding faultOf
+opens-when s = ((λ o. (opens-readable s o, opens-acyclic s o)), back)
+  where
+    back : Readable s × Acyclic (FileArc s) → Opens s
+    back h =
+        let five = round-none (readFault s) (jobOrder s) JobCircle (job-order s (h .0)) (ap isFine (read-none s (h .0))) (acyclic-joined (h .1)) in
+        ap isFine (round-none (orCircle (readFault s) (jobOrder s) JobCircle) (planOrder s) PlanCircle (plan-order s (h .0)) (ap isFine five) (h .1))
 
 -- ---- THE STARTS: the least that keep every arc of the file with the file's durations and waits. So is whatever starts the m activities as they do.
 

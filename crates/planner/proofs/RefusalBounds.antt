@@ -79,7 +79,7 @@ over-small s small o e =
 -- ---- Verdict, Needs, Starts, Overload
 
 pub verdict-refuses : (s : List ℕ) → AreBytes s → SmallFault (verdictFault s)
-unfolding verdictFault
+unfolding verdictFault faultOf
 verdict-refuses s small = small-turn (faultOf s) (isOverloaded (planIn s)) (overCause (planIn s)) (open-refuses s) (over-small s small)
 
 short-small : (f : Fault) (t : Bool) (n : ℕ) → n < 2 ^ 32 → SmallFault f → SmallFault (orCause f t (Short n))

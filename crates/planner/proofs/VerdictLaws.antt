@@ -15,7 +15,7 @@ use Rattle.planner.proofs.QuotedNeeds.{weighed-held}
 -- `o` is the plan that was opened, `f` its fault with 7 in its turn, `r` the answer by that
 pub answered : (s : List ℕ) → AreBytes s → {o : Opened} {f : Fault} {r : Decision} → o ≡ openedOf s
     → f ≡ orFound (o .fault) (overloadIn (o .order) (o .plan)) (o .plan .kinds) → r ≡ verdictOf f (o .plan .count) (o .plan .kinds) → r ≡ verdictAnswer s
-unfolding verdictFault
+unfolding verdictFault faultOf
 answered s bytes {o} {f} held found e =
     let fault-of : o .fault ≡ faultOf s = ap (λ (x : Opened). x .fault) held in
     let fault-is : f ≡ verdictFault s =

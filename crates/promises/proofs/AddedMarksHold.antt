@@ -18,10 +18,10 @@ use Rattle.planner.specs.File.{NodeBefore, Added}
 use Rattle.planner.specs.Flow.{flowUnits, flowMark, recordBytes, flowOut}
 use Rattle.planner.proofs.FlowUnits.{record-given}
 use Rattle.planner.proofs.MarkLaws.{mark-added, mark-job}
+use Rattle.planner.proofs.FileOrders.{opens-when}
 use Rattle.promises.specs.Ours.{ours}
 use Rattle.promises.specs.AddedMarks.{Writes, AddedMarks, Marked, FullOrder, AddedSentence}
 use Rattle.promises.proofs.AnswersWhen.{flow-left}
-use Rattle.promises.proofs.CircleFaults.{opens-when}
 use Rattle.promises.proofs.PriceListHolds.{price-list, units-said}
 
 module _ (s : List ℕ) (small : AreBytes s) (r : Readable s) (free : Acyclic (FileArc s)) where

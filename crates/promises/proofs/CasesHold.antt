@@ -31,7 +31,7 @@ use Rattle.solver.specs.model.Quote.{unused, copied, outcome, amount, quoteIn}
 use Rattle.kinds.specs.Needs.{demandsFor}
 use Rattle.planner.specs.Faults.{orCause, orShort}
 use Rattle.planner.specs.Answers.{unreadNumbers, verdictNumbers, outputNumbers, crewCheckNumbers}
-use Rattle.planner.specs.Open.{rowsFor}
+use Rattle.planner.specs.Open.{rowsFor, faultOf}
 use Rattle.planner.specs.Output.{outputOf, lentAfter}
 use Rattle.planner.specs.Need.{needFor, overKind, isOverloaded, overCause, orOverloaded}
 use Rattle.planner.specs.Times.{arcWeight}
@@ -66,7 +66,7 @@ checking s q f starts worked =
 
 module _ {s : List ℕ} {q : Plan} {f : Fault} (o : OpenedAs s q f) where
   verdict-as : verdictNumbers (ours .verdict s) ≡ verdictNumbers (verdictOf (orOverloaded f q) (q .count) (q .kinds))
-  unfolding verdictFault
+  unfolding verdictFault faultOf
   verdict-as = opened-as (λ p g. verdictNumbers (verdictOf (orOverloaded g p) (p .count) (p .kinds))) o
 
   needs-as : (n : ℕ) → outputNumbers (ours .needs .answer s n) ≡ outputNumbers (outputOf (orShort f n (q .kinds)) (q .kinds))

@@ -43,7 +43,7 @@ module _ (s : List ℕ) (c : Cause) (e : faultOf s ≡ Refused c) where
   outputs f v p = ap (λ (x : Fault). outputNumbers (outputOf x v)) p
 
   pub every-gives : EveryGives ours s (numbersOf c)
-  unfolding verdictFault needsFault startsFault overloadFault crewCheckFault
+  unfolding verdictFault faultOf needsFault startsFault overloadFault crewCheckFault
   every-gives =
       record {
         verdict = ap (λ (x : Fault). verdictNumbers (verdictOf x (planIn s .count) (planIn s .kinds))) (cause-before _ _ _ c e);
@@ -96,7 +96,7 @@ module _ (n : ℕ) (ys : List ℕ) (one : OneOf opening n) where
   nine s lent length v e = turn-gives (faultOf s) (ltb lent length) (Short length) refl (output-gives (orShort (faultOf s) lent length) v e)
 
   pub fault-gives : (s : List ℕ) → SomeGives ours s (n ∷ ys) → Gives (faultOf s) (n ∷ ys)
-  unfolding verdictFault needsFault startsFault overloadFault flowFault crewCheckFault overCause
+  unfolding verdictFault faultOf needsFault startsFault overloadFault flowFault crewCheckFault overCause
   fault-gives s (inl e) =
       turn-gives (faultOf s) (isOverloaded (planIn s)) (overCause (planIn s)) refl
       (verdict-gives (verdictFault s) (planIn s .count) (planIn s .kinds) e)

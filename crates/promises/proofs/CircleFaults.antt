@@ -1,7 +1,7 @@
 -- What each of the causes 5 and 6 means, in the file's own terms, and when a plan opens, with no cause of the reader's and neither of these. Assumes nothing.
 use mathlib.Core.Path.{_≡_, refl, sym, ap, _∙_, subst}
 use mathlib.Core.List.{List}
-use mathlib.Core.Logic.{_↔_, _⊎_, inl, inr, ⊎-elim}
+use mathlib.Core.Logic.{_⊎_, inl, inr, ⊎-elim}
 use Prim.Native.Nat.{ℕ, _+_, _≤_, _<_}
 use native.Mathlib.Omega.{arith}
 use native.Mathlib.Decide.{decLt}
@@ -11,7 +11,6 @@ use Rattle.order.specs.Stored.{elements}
 use Rattle.order.specs.Before.{Acyclic}
 use Rattle.order.specs.Orders.{OrderOf, circleOf}
 use Rattle.order.specs.declared.Order.{Order}
-use Rattle.order.proofs.Before.{acyclic-joined}
 use Rattle.order.proofs.Orders.{circle-none, circle-lowest, circle-le}
 use Rattle.plan.specs.Causes.{answerOf}
 use Rattle.plan.specs.Meaning.{Readable, JobArc, FileArc}
@@ -19,25 +18,14 @@ use Rattle.plan.specs.declared.Cause.{Cause as Unread}
 use Rattle.plan.specs.declared.Answer.{Answer}
 use Rattle.plan.specs.declared.Answer.the-variants as answer
 use Rattle.planner.specs.Faults.{isFine}
-use Rattle.planner.specs.Open.{unreadFault, readFault, orCircle, jobOrder, planOrder, faultOf, Opens}
+use Rattle.planner.specs.Open.{unreadFault, readFault, orCircle, jobOrder, planOrder, faultOf}
 use Rattle.promises.specs.Paper.{Lowest}
 use Rattle.planner.specs.declared.Cause.{Cause}
 use Rattle.planner.specs.declared.Cause.the-variants.{Unreadable, JobCircle, PlanCircle}
 use Rattle.planner.specs.declared.Fault.the-variants.{Refused}
 use Rattle.planner.proofs.FaultLaws.{cause-fine, cause-before, cause-from}
-use Rattle.planner.proofs.OpenLaws.{read-fine, read-none, round-none, round-found, opens-readable}
-use Rattle.planner.proofs.FileOrders.{job-order, plan-order, opens-acyclic}
-
--- ---- A PLAN MEETS NONE OF THE CAUSES 1 TO 6 exactly when it is readable and its arcs lead nothing back to itself
-
-pub opens-when : (s : List ℕ) → Opens s ↔ (Readable s × Acyclic (FileArc s))
-unfolding faultOf
-opens-when s = ((λ o. (opens-readable s o, opens-acyclic s o)), back)
-  where
-    back : Readable s × Acyclic (FileArc s) → Opens s
-    back h =
-        let five = round-none (readFault s) (jobOrder s) JobCircle (job-order s (h .0)) (ap isFine (read-none s (h .0))) (acyclic-joined (h .1)) in
-        ap isFine (round-none (orCircle (readFault s) (jobOrder s) JobCircle) (planOrder s) PlanCircle (plan-order s (h .0)) (ap isFine five) (h .1))
+use Rattle.planner.proofs.OpenLaws.{read-fine, read-none, round-none, round-found}
+use Rattle.planner.proofs.FileOrders.{job-order, plan-order}
 
 -- ---- where a fault comes from: the reader (what its causes mean is in plan's proofs/Refused.antt), the job order, or else the plan order
 

@@ -128,7 +128,7 @@ kept f v written out c e = lent-refused f c written out (output-is-refused f v c
 -- ---- the faults of the operations
 
 verdict-only : (s : List ℕ) → Only (opening ++ 7 ∷ []) (verdictFault s)
-unfolding verdictFault overCause
+unfolding verdictFault faultOf overCause
 verdict-only s = then-only s (isOverloaded (planIn s)) (overCause (planIn s))
 
 needs-only : (s : List ℕ) (n : ℕ) → Only (opening ++ 9 ∷ []) (needsFault s n)

@@ -41,13 +41,13 @@ use Rattle.planner.specs.declared.Output.the-variants.{Written}
 use Rattle.planner.proofs.FaultLaws.{fine-is, short-none}
 use Rattle.planner.proofs.OutputLaws.{output-is-fine, lent-front}
 use Rattle.planner.proofs.QuotedNeeds.{kinds-in, kind-in, available-in}
+use Rattle.planner.proofs.FileOrders.{opens-when}
 use Rattle.promises.specs.Planner.{Planner}
 use Rattle.promises.specs.Ours.{ours}
 use Rattle.promises.specs.PriceList.{quotedNeed, PriceList, PriceListSentence}
 use Rattle.promises.specs.Cases.{planA, planC}
 use Rattle.promises.specs.Hollow.{refusesAll, acceptsAll, emptyFlow, availableAsNeed, unordered, sevenUnweighed, oneDemand}
 use Rattle.promises.specs.Hollow.{Refuses, RefusesAll, AcceptsAll, EmptyFlows, NeedIsAvailable, Unweighed, HollowFail, HollowPlannersFail}
-use Rattle.promises.proofs.CircleFaults.{opens-when}
 use Rattle.promises.proofs.PriceListHolds.{price-list}
 use Rattle.promises.proofs.DemandsHold.{same-need}
 use Rattle.promises.proofs.CasePlans.{all-opened}

@@ -5,9 +5,9 @@ use mathlib.Core.List.{List}
 use Prim.Native.Nat.{ℕ}
 use native.Mathlib.Omega.{arith}
 use Rattle.planner.specs.Times.{arcWeight, NoWaits}
+use Rattle.planner.proofs.FileOrders.{opens-when}
 use Rattle.promises.specs.Ours.{ours, ourSteps}
 use Rattle.promises.specs.Paper.{Rule, paperRule, EarliestStarts, CrewCheck, PaperSentence, LoadSentence}
-use Rattle.promises.proofs.CircleFaults.{opens-when}
 use Rattle.promises.proofs.PriceListHolds.{price-list}
 use Rattle.promises.proofs.CircleCauses.{circles}
 use Rattle.promises.proofs.EarliestStarts.{earliest-starts, largest}

@@ -28,6 +28,7 @@ use Rattle.planner.specs.Verdict.{verdictFault, verdictOf, verdictAnswer}
 use Rattle.planner.specs.Overload.{overloadFault, overCount, overBytes, overloadAnswer, overloadOut}
 use Rattle.planner.specs.Flow.{isKind, flowFault, flowUnits, flowCount, recordBytes, flowAnswer, flowOut}
 use Rattle.planner.specs.File.{FileFlow, flowLength}
+use Rattle.planner.proofs.FileOrders.{opens-when}
 use Rattle.promises.specs.Ours.{ours}
 use Rattle.promises.specs.PriceList.{quotedNeed, Exceeds, Enough, IsSeven, Shown, PriceList, PriceListSentence}
 use Rattle.planner.specs.declared.Cause.{Cause}
@@ -40,7 +41,6 @@ use Rattle.planner.specs.declared.Output.the-variants as output
 use Rattle.planner.proofs.FaultLaws.{cause-none, cause-next, fine-is}
 use Rattle.planner.proofs.OutputLaws.{output-fine, output-is-fine, output-is-refused, lent-fine}
 use Rattle.planner.proofs.OpenLaws.{opens-readable}
-use Rattle.promises.proofs.CircleFaults.{opens-when}
 use Rattle.planner.proofs.QuotedNeeds.{count-in, kinds-in, quotable, need-quoted, set-fits}
 use Rattle.promises.proofs.FileNeeds.{need-some, need-every, crew-none, crew-some}
 use Rattle.planner.proofs.FlowUnits.{flow-said}
@@ -72,12 +72,12 @@ module _ (s : List ℕ) (small : AreBytes s) (o : Opens s) where
   -- ---- Decision
 
   verdict-refused : isOverloaded (planIn s) ≡ true → verdictAnswer s ≡ Refused (overCause (planIn s))
-  unfolding verdictFault
+  unfolding verdictFault faultOf
   verdict-refused e =
       ap (λ (f : Fault). verdictOf f (planIn s .count) (planIn s .kinds)) (cause-next (faultOf s) (isOverloaded (planIn s)) (overCause (planIn s)) o e)
 
   verdict-accepted : isOverloaded (planIn s) ≡ false → verdictAnswer s ≡ Accepted (planIn s .count) (planIn s .kinds)
-  unfolding verdictFault
+  unfolding verdictFault faultOf
   verdict-accepted e =
       ap (λ (f : Fault). verdictOf f (planIn s .count) (planIn s .kinds)) (cause-none (faultOf s) (isOverloaded (planIn s)) (overCause (planIn s)) o e)
 

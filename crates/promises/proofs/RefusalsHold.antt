@@ -29,13 +29,14 @@ use Rattle.planner.proofs.FaultLaws.{cause-next, short-next, short-none, Every}
 use Rattle.planner.proofs.OpenLaws.{opens-readable, every-open, unread-apart}
 use Rattle.planner.proofs.QuotedNeeds.{count-in, kinds-in}
 use Rattle.planner.proofs.SheetFaults.{is-kind, not-kind, kind-none, kind-short, kind-over}
+use Rattle.planner.proofs.FileOrders.{opens-when}
 use Rattle.promises.specs.Ours.{ours}
 use Rattle.promises.specs.EveryInput.{OneOf, reading}
 use Rattle.promises.specs.Paper.{SomeGives}
 use Rattle.promises.specs.PriceList.{Exceeds, Enough}
 use Rattle.promises.specs.Refusals.{Unreadables, Refusals, RefusalSentence}
 use Rattle.promises.proofs.EveryInputHolds.{one-more, one-not, unread-one}
-use Rattle.promises.proofs.CircleFaults.{opens-when, unreadable-means, means-unreadable}
+use Rattle.promises.proofs.CircleFaults.{unreadable-means, means-unreadable}
 use Rattle.promises.proofs.OverloadShown.{over-when, enough-not}
 use Rattle.promises.proofs.CircleCauses.{every-gives, fault-gives, heads}
 
@@ -105,7 +106,7 @@ module _ (s : List ℕ) (small : AreBytes s) (o : Opens s) where
 
   -- Verdict's 7
   pub seven : isOverloaded (planIn s) ≡ true → verdictNumbers (verdictAnswer s) ≡ numbersOf (overCause (planIn s))
-  unfolding verdictFault
+  unfolding verdictFault faultOf
   seven t = ap (λ (f : Fault). verdictNumbers (verdictOf f (planIn s .count) (planIn s .kinds))) (cause-next (faultOf s) (isOverloaded (planIn s)) (overCause (planIn s)) o t)
 
   pub refusals-open : Refusals ours s

@@ -27,11 +27,11 @@ use Rattle.planner.proofs.OpenLaws.{opens-readable}
 use Rattle.planner.proofs.OutputLaws.{output-refused, output-is-refused}
 use Rattle.planner.proofs.QuotedNeeds.{count-in, kinds-in}
 use Rattle.planner.proofs.SheetFaults.{not-kind, kind-none, kind-short, kind-over, sheet-kind, flow-before, flow-from, sheet-before, sheet-from}
+use Rattle.planner.proofs.FileOrders.{opens-when}
 use Rattle.promises.specs.Ours.{ours, ourSheet}
 use Rattle.promises.specs.EveryInput.{opening}
 use Rattle.promises.specs.PriceList.{Enough}
 use Rattle.promises.specs.Sheet.{Printed, Sheets, SheetSentence}
-use Rattle.promises.proofs.CircleFaults.{opens-when}
 use Rattle.promises.proofs.OverloadShown.{over-when, enough-not}
 use Rattle.promises.proofs.AnswersWhen.{out-numbers, flow-left}
 use Rattle.promises.proofs.EveryInputHolds.{isOne, one-last, one-not, Only, only-cause, only-more, kind-only, output-by, kept}

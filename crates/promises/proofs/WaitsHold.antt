@@ -25,8 +25,8 @@ use Rattle.planner.proofs.OpenLaws.{opens-small}
 use Rattle.planner.proofs.TimesLaws.{weights-small}
 use Rattle.planner.proofs.StartsLaws.{before-end, numbers-fit}
 use Rattle.planner.proofs.QuotedNeeds.{count-in}
+use Rattle.planner.proofs.FileOrders.{opens-when}
 use Rattle.promises.specs.Ours.{ours}
-use Rattle.promises.proofs.CircleFaults.{opens-when}
 use Rattle.promises.proofs.EarliestStarts.{number}
 use Rattle.promises.proofs.EqualFlowsHold.{alike, answers, plans}
 use Rattle.promises.specs.Waits.{FileWaits, StartsFit, QuotedAlike, WaitSentence}

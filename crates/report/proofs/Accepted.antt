@@ -44,7 +44,7 @@ accepted s m n q e = accepted-is (verdictFault s) (planIn s .count) (planIn s .k
 
 module _ (s : List ℕ) (fine : Accepts s) where
   opens : Opens s × (isOverloaded (planIn s) ≡ false)
-  unfolding verdictFault
+  unfolding verdictFault faultOf
   opens = cause-fine (faultOf s) (isOverloaded (planIn s)) (overCause (planIn s)) fine
 
   -- ---- Needs and Starts, with as many numbers lent as are needed
