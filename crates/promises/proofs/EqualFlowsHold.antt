@@ -39,7 +39,7 @@ module _ (s t : List ℕ) (e : Readable s) (f : Readable t) (same : SamePlan s t
   pub plans : planIn s ≡ planIn t
   plans =
       plan-in s e
-      ∙ plan-same s t e f (same .count) (same .kinds) (same .duration) (same .demand) (same .available) (same .job) (same .extra)
+      ∙ (let w = same .work in plan-same s t e f (w .count) (w .kinds) (w .duration) (w .demand) (w .available) (w .job) (same .extra))
       ∙ sym (plan-in t f)
 
   pub equal-flows : (kind : ℕ) → WritesAlike (ours .flow kind) s t

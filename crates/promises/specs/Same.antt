@@ -10,16 +10,21 @@ use Rattle.plan.specs.Records.{activityCount}
 use Rattle.plan.specs.Meaning.{Readable, fileDuration, fileDemand, fileKinds, fileAvailable, JobArc, ExtraArc, fileWait}
 use Rattle.promises.specs.Planner.{Planner, Writing}
 
-pub record SamePlan (s t : List ℕ) : Type 0 where
-  -- the same activities: as many, with the same durations, and the same demands of each of the eight kinds
+-- the same activities, crew and job arcs
+pub record SameWork (s t : List ℕ) : Type 0 where
+  -- as many activities, with the same durations, and the same demands of each of the eight kinds
   pub count : activityCount s ≡ activityCount t
   pub duration : (i : ℕ) → i < activityCount s → fileDuration s i ≡ fileDuration t i
   pub demand : (k i : ℕ) → k < 8 → i < activityCount s → fileDemand s k i ≡ fileDemand t k i
-  -- the same crew: as many kinds, with the same availabilities
+  -- as many kinds, with the same availabilities
   pub kinds : fileKinds s ≡ fileKinds t
   pub available : (k : ℕ) → k < 8 → fileAvailable s k ≡ fileAvailable t k
-  -- the same sets of arcs
+  -- the same set of job arcs
   pub job : (i j : ℕ) → JobArc s i j ↔ JobArc t i j
+
+-- and the same set of extra arcs
+pub record SamePlan (s t : List ℕ) : Type 0 where
+  pub work : SameWork s t
   pub extra : (i j : ℕ) → ExtraArc s i j ↔ ExtraArc t i j
 
 -- the waits that bind are the same too (02, change 5): whatever goes by starts goes by these
