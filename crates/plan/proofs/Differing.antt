@@ -33,12 +33,12 @@ use Rattle.plan.proofs.Said.{readable-faultless, plan-same}
 
 -- ---- RECORDS WITH THE SAME BYTES keep the same rules
 
-abbrev SameBytes : List ℕ → List ℕ → Type 0
+abbrev pub SameBytes : List ℕ → List ℕ → Type 0
 SameBytes q r = (b : ℕ) → b < 24 → byte q b ≡ byte r b
 
 module _ (q r : List ℕ) (same : SameBytes q r) where
   -- fields of two bytes, and spare bytes
-  two-same : (i : ℕ) → i ≤ 22 → field q i 2 ≡ field r i 2
+  pub two-same : (i : ℕ) → i ≤ 22 → field q i 2 ≡ field r i 2
   two-same i h = field-same q r i 2 (λ k l. same (i + k) (omega arith))
 
   spare-same : (a b : ℕ) → b ≤ 24 → zeros (slice a b q) ≡ zeros (slice a b r)
@@ -48,7 +48,7 @@ module _ (q r : List ℕ) (same : SameBytes q r) where
   unfolding demandsSome
   some-demands = some-cong 8 _ _ (λ k l. ap (ltb 0) (two-same (4 + 2 * k) (omega arith)))
 
-  activity-same : (place : ℕ) → activityCause place q ≡ activityCause place r
+  pub activity-same : (place : ℕ) → activityCause place q ≡ activityCause place r
   unfolding activityCause activityFields
   activity-same place = rw (same 1 (omega arith), two-same 2 (omega arith), some-demands, spare-same 20 24 (omega arith))
 
@@ -60,7 +60,7 @@ module _ (q r : List ℕ) (same : SameBytes q r) where
   crew-spare = rw (spare-same 2 4 (omega arith), spare-same 20 24 (omega arith))
 
 -- the crew record is asked for more than its type only where it has that
-crew-same : (place : ℕ) (demand q r : List ℕ) → byte q 0 ≡ byte r 0 → (byte q 0 ≡ 2 → SameBytes q r) → crewCause place demand q ≡ crewCause place demand r
+pub crew-same : (place : ℕ) (demand q r : List ℕ) → byte q 0 ≡ byte r 0 → (byte q 0 ≡ 2 → SameBytes q r) → crewCause place demand q ≡ crewCause place demand r
 unfolding crewCause
 crew-same place demand q r typed same =
     rule-same (Spare place)
@@ -72,7 +72,7 @@ crew-same place demand q r typed same =
 
 -- ---- RECORDS WITH THE SAME BYTES BUT FOR THE WAIT keep the same rules of arcs, and name the same arcs
 
-abbrev SameButWait : List ℕ → List ℕ → Type 0
+abbrev pub SameButWait : List ℕ → List ℕ → Type 0
 SameButWait q r = (b : ℕ) → b < 24 → b ≢ 4 → b ≢ 5 → byte q b ≡ byte r b
 
 module _ (q r : List ℕ) (same : SameButWait q r) where
@@ -87,7 +87,7 @@ module _ (q r : List ℕ) (same : SameButWait q r) where
         zeros-same q r 6 24 (λ i lo hi. same i hi (λ e. omega arith) (λ e. omega arith)),
       )
 
-  arc-same : (type place m : ℕ) → arcCause type place m q ≡ arcCause type place m r
+  pub arc-same : (type place m : ℕ) → arcCause type place m q ≡ arcCause type place m r
   unfolding arcCause arcFields
   arc-same type place m = rw (front 0 (omega arith), front 1 (omega arith), front 2 (omega arith), arc-spare)
 

@@ -7,12 +7,13 @@ use Prim.Native.Nat.{ℕ, zero, suc, _+_, _≤_, _<_}
 use native.Mathlib.Decide.{ℕ-discrete}
 use native.Mathlib.Omega.{arith}
 use lib.Dec.{ltb, eqb}
+use lib.ListN.{length}
 use borrow.Author.Tests.{ltb-true, ltb-false, eqb-true, eqb-false}
 use Rattle.words.specs.Bits.{bit}
 use Rattle.words.proofs.Bits.{bit-zero, bit-ext}
 use Rattle.words.proofs.Tests.{by-test, clash, test-same}
 use Rattle.records.specs.Bytes.{byte}
-use Rattle.order.specs.Stored.{elements, row, RowsFit}
+use Rattle.order.specs.Stored.{elements, cells, row, RowsFit}
 use Rattle.order.specs.Rows.{after}
 use Rattle.order.proofs.Stored.{row-blank, row-fit, fit-blank, rows-same}
 use Rattle.plan.specs.Records.{recordAt, recordCount, typeAt, activityCount}
@@ -95,7 +96,7 @@ module _ (s : List ℕ) (type n : ℕ) (kept : (p : ℕ) → p < n → typeAt s 
 
 module _ (s : List ℕ) (F : Faultless s) (type : ℕ) (some : 3 ≤ type) where
   -- each record of the type keeps the rules of arcs
-  named-kept : (p : ℕ) → p < recordCount s → typeAt s p ≡ type → ArcKept type (activityCount s) (recordAt s p)
+  pub named-kept : (p : ℕ) → p < recordCount s → typeAt s p ≡ type → ArcKept type (activityCount s) (recordAt s p)
   named-kept p l e =
       by-test (ltb (activityCount s) p)
       (λ t. arc-of e (arc-fine s F p (ltb-true (activityCount s) p t) l))
@@ -104,43 +105,43 @@ module _ (s : List ℕ) (F : Faultless s) (type : ℕ) (some : 3 ≤ type) where
   within-elements : (p : ℕ) → p < recordCount s → typeAt s p ≡ type → ArcKept type elements (recordAt s p)
   within-elements p l e = arc-among (omega (arith, few s F)) (named-kept p l e)
 
+  pub all-named : (i j : ℕ) → (after (arcRows s type) i j ≡ true) ↔ Names s (recordCount s) type i j
+  all-named = means s type (recordCount s) within-elements (recordCount s) (omega arith)
+
+  pub rows-fit : RowsFit elements (arcRows s type)
+  rows-fit = fits s type (recordCount s) within-elements (recordCount s) (omega arith)
+
   -- ALL RECORDS: the rows hold what they name, and the ends are activities
   pub arcs-said : ArcsOf (Names s (recordCount s) type) (activityCount s) (arcRows s type)
   arcs-said =
       record {
         named = λ i j. (
-          (λ d. all i j .0 (d .drawn)),
-          (λ n. let l = ends i j n in record { from = omega (arith, l .0, few s F); to = omega (arith, l .1, few s F); drawn = all i j .1 n }),
+          (λ d. all-named i j .0 (d .drawn)),
+          (λ n. let l = ends i j n in record { from = omega (arith, l .0, few s F); to = omega (arith, l .1, few s F); drawn = all-named i j .1 n }),
         );
         within = ends;
       }
     where
-      all : Means s type (recordCount s) within-elements (recordCount s)
-      all = means s type (recordCount s) within-elements (recordCount s) (omega arith)
-
       ends : (i j : ℕ) → Names s (recordCount s) type i j → (i < activityCount s) × (j < activityCount s)
       ends i j n =
           let K = named-kept (n .place) (n .there) (n .typed) in
           (omega (arith, K .from-high, n .from), omega (arith, K .to-high, n .to))
 
+  -- ROWS THAT HAVE WHAT THEY NAME are theirs
+  pub rows-named : (b : List ℕ) → length b ≡ cells elements → RowsFit elements b → ((i j : ℕ) → Names s (recordCount s) type i j ↔ (after b i j ≡ true)) → arcRows s type ≡ b
+  rows-named b long fit same =
+      rows-same elements a b (length-arcs s type (recordCount s)) long fa fit
+      (λ i h. bit-ext elements (row a i) (row b i) (row-fit elements a fa i) (row-fit elements b fit i)
+      (λ j l. test-same (after a i j) (after b i j) (Iff·trans (all-named i j) (same i j))))
+    where
+      a : List ℕ
+      a = arcRows s type
+
+      fa : RowsFit elements a
+      fa = rows-fit
+
 -- FILES THAT NAME THE SAME ARCS HAVE THE SAME ROWS
 pub arcs-same : (s t : List ℕ) → Faultless s → Faultless t → (type : ℕ) → 3 ≤ type
     → ((i j : ℕ) → Names s (recordCount s) type i j ↔ Names t (recordCount t) type i j) → arcRows s type ≡ arcRows t type
 arcs-same s t F G type some same =
-    rows-same elements a b (length-arcs s type (recordCount s)) (length-arcs t type (recordCount t)) fa fb
-    (λ i h. bit-ext elements (row a i) (row b i) (row-fit elements a fa i) (row-fit elements b fb i)
-    (λ j l. test-same (after a i j) (after b i j)
-    (Iff·trans (means s type (recordCount s) (within-elements s F type some) (recordCount s) (omega arith) i j)
-    (Iff·trans (same i j) (Iff·symm (means t type (recordCount t) (within-elements t G type some) (recordCount t) (omega arith) i j))))))
-  where
-    a : List ℕ
-    a = arcRows s type
-
-    b : List ℕ
-    b = arcRows t type
-
-    fa : RowsFit elements a
-    fa = fits s type (recordCount s) (within-elements s F type some) (recordCount s) (omega arith)
-
-    fb : RowsFit elements b
-    fb = fits t type (recordCount t) (within-elements t G type some) (recordCount t) (omega arith)
+    rows-named s F type some (arcRows t type) (length-arcs t type (recordCount t)) (rows-fit t G type some) (λ i j. Iff·trans (same i j) (Iff·symm (all-named t G type some i j)))

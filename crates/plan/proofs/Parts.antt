@@ -13,13 +13,14 @@ use Rattle.words.specs.model.Loops.{upto}
 use Rattle.words.proofs.Tests.{cond-true, cond-false, false-of-not}
 use Rattle.records.specs.Bytes.{byte}
 use Rattle.order.specs.Stored.{elements, cells}
+use Rattle.plan.specs.declared.Answer.{Answer}
 use Rattle.plan.specs.declared.Answer.the-variants.{Readable, Refused}
 use Rattle.plan.specs.declared.Cause.the-variants.{RecordType}
 use Rattle.plan.specs.Records.{recordAt, recordCount, typeAt, activityCount, jobCount, dueType, activities, arcRepeats, demandsOf}
 use Rattle.plan.specs.model.ArcRows.{arcsUpTo, arcRows}
-use Rattle.plan.specs.Causes.{isReadable, activityCause, causeAt, firstRefusal, crewThere, recordsCause}
+use Rattle.plan.specs.Causes.{isReadable, activityCause, causeAt, firstRefusal, followedBy, crewThere, recordsCause}
 use Rattle.plan.specs.model.Phases.{putArc}
-use Rattle.plan.proofs.Refusals.{followed-left, followed-right, all-readable}
+use Rattle.plan.proofs.Refusals.{followed-left, followed-right, all-readable, none-refused}
 use Rattle.plan.proofs.Places.{record-on, leading-le, leading-typed}
 use Rattle.plan.proofs.RecordRules.{rule-kept, rule-before, few-activities, CrewKept, crew-kept, ArcKept, arc-kept, at-activity, at-crew, at-arc, due-extra}
 use Rattle.plan.proofs.Arcs.{arcs-none, arcs-none-before, arcs-run}
@@ -42,7 +43,7 @@ crew-there s h = cond-false (Refused (RecordType (recordCount s))) Readable (ne-
 pub crew-or-missing : (s : List ℕ) → (activityCount s ≡ recordCount s) ⊎ (activityCount s < recordCount s)
 crew-or-missing s = eq-or-lt-of-le (activities-within s)
 
--- that is what it says that the records have no cause
+-- that is what it says that the records have no cause, and the other way round
 pub faultless : (s : List ℕ) → isReadable (recordsCause s) ≡ true → Faultless s
 unfolding recordsCause
 faultless s e =
@@ -53,13 +54,17 @@ faultless s e =
       crewed = ⊎-elim (λ q. absurd (false≢true (sym (ap isReadable (crew-missing s q)) ∙ c))) (λ l. l) (crew-or-missing s);
     }
 
+pub faultless-says : (s : List ℕ) → Faultless s → recordsCause s ≡ Readable
+unfolding recordsCause
+faultless-says s F = ap (λ (a : Answer). followedBy a (crewThere s)) (none-refused (recordCount s) (causeAt s) (F .fine)) ∙ crew-there s (F .crewed)
+
 -- ---- the records, by their places
 
 pub activity-typed : (s : List ℕ) (p : ℕ) → p < activityCount s → typeAt s p ≡ 1
 activity-typed s p h = leading-typed 1 (recordCount s) s p h
 
 -- the records after the crew record that are counted as job arcs
-job-typed : (s : List ℕ) (i : ℕ) → i < jobCount s → typeAt s (activityCount s + 1 + i) ≡ 3
+pub job-typed : (s : List ℕ) (i : ℕ) → i < jobCount s → typeAt s (activityCount s + 1 + i) ≡ 3
 job-typed s i h =
     let a : ℕ = activityCount s + 1 in
     ap (λ (r : List ℕ). byte r 0) (sym (record-on s a i)) ∙ leading-typed 3 (recordCount s - a) (recordAt s a) i h

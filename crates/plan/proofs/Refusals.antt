@@ -7,7 +7,7 @@ use native.Mathlib.Omega.{arith}
 use lib.Dec.{ltb, leb·suc-suc}
 use borrow.Author.Tests.{lt-ltb, ltb-true, not-false}
 use Rattle.words.specs.Members.{first}
-use Rattle.words.proofs.Tests.{by-test, cond-true, cond-false}
+use Rattle.words.proofs.Tests.{by-test, clash, holds, cond-true, cond-false}
 use Rattle.words.proofs.Firsts.{before-first}
 use Rattle.plan.specs.declared.Answer.{Answer}
 use Rattle.plan.specs.declared.Answer.the-variants.{Readable, Refused}
@@ -113,3 +113,9 @@ first-refused n f e =
     by-test (ltb p n)
     (λ t. (p, ltb-true p n t, cond-true (f p) Readable t, (λ i h. not-false (isReadable (f i)) (before-first n bad i h))))
     (λ t. absurd (false≢true (sym e ∙ ap isReadable (cond-false (f p) Readable t))))
+
+-- so where no answer is a refusal, there is none
+pub none-refused : (n : ℕ) (f : ℕ → Answer) → ((i : ℕ) → i < n → isReadable (f i) ≡ true) → firstRefusal n f ≡ Readable
+none-refused n f h =
+    readable-is (firstRefusal n f)
+    (holds (isReadable (firstRefusal n f)) (λ t. let r = first-refused n f t in clash (h (r .0) (r .1)) (sym (ap isReadable (r .2)) ∙ t)))

@@ -17,13 +17,14 @@ use Rattle.order.specs.Stored.{elements}
 use Rattle.plan.specs.declared.Answer.the-variants.{Refused}
 use Rattle.plan.specs.declared.Cause.the-variants.{Length}
 use Rattle.plan.specs.Records.{recordAt, activityCount}
-use Rattle.plan.specs.model.Plans.{durationsOf, demandTable, availableOf, planOf}
+use Rattle.plan.specs.model.Plans.{durationsOf, demandTable, availableOf, planOf, withExtra}
+use Rattle.plan.specs.model.ArcRows.{arcRows}
 use Rattle.plan.specs.Causes.{isReadable, recordsCause, isLength, answerOf}
 use Rattle.plan.specs.Meaning.{Readable, fileDuration, fileDemand, fileKinds, fileAvailable, JobArc, ExtraArc}
 use Rattle.plan.specs.model.Said.{Said}
 use Rattle.plan.proofs.Stores.{demands-told}
 use Rattle.plan.proofs.NamedArcs.{arcs-said, arcs-same}
-use Rattle.plan.proofs.Parts.{Faultless, faultless, few, crew-fine}
+use Rattle.plan.proofs.Parts.{Faultless, faultless, faultless-says, few, crew-fine}
 
 -- ---- a readable file has no cause
 
@@ -38,6 +39,11 @@ readable-length s e = go (isLength (length s)) e
 pub readable-faultless : (s : List ℕ) → Readable s → Faultless s
 unfolding answerOf
 readable-faultless s e = faultless s (rw (cond-true (recordsCause s) (Refused Length) (readable-length s e)) at e)
+
+-- and the other way round
+pub faultless-readable : (s : List ℕ) → isLength (length s) ≡ true → Faultless s → Readable s
+unfolding answerOf
+faultless-readable s e F = ap isReadable (cond-true (recordsCause s) (Refused Length) e ∙ faultless-says s F)
 
 -- ---- the tables of its fields
 
@@ -90,22 +96,28 @@ module _ (s t : List ℕ) (e : Readable s) (f : Readable t) (count : activityCou
   told-same x y i same =
       cond-cong (ltb i (activityCount s)) (x i) (y i) (λ l. same (ltb-true i (activityCount s) l)) ∙ ap (λ (m : ℕ). cond (ltb i m) (y i) 0) count
 
-  pub plan-same : fileKinds s ≡ fileKinds t → ((i : ℕ) → i < activityCount s → fileDuration s i ≡ fileDuration t i)
+  -- but for their extra arcs
+  pub plan-but : fileKinds s ≡ fileKinds t → ((i : ℕ) → i < activityCount s → fileDuration s i ≡ fileDuration t i)
       → ((k i : ℕ) → k < 8 → i < activityCount s → fileDemand s k i ≡ fileDemand t k i) → ((k : ℕ) → k < 8 → fileAvailable s k ≡ fileAvailable t k)
-      → ((i j : ℕ) → JobArc s i j ↔ JobArc t i j) → ((i j : ℕ) → ExtraArc s i j ↔ ExtraArc t i j) → planOf s ≡ planOf t
-  unfolding planOf durationsOf demandTable availableOf JobArc ExtraArc
-  plan-same kinds duration demand available job extra =
-      let F = readable-faultless s e in
-      let G = readable-faultless t f in
+      → ((i j : ℕ) → JobArc s i j ↔ JobArc t i j) → planOf s ≡ withExtra (planOf t) (arcRows s 4)
+  unfolding planOf durationsOf demandTable availableOf JobArc
+  plan-but kinds duration demand available job =
       rw (
         table-same elements _ _ (λ i h. told-same (fileDuration s) (fileDuration t) i (duration i)),
         table-same (8 * elements) _ _ (λ x h. told-same (fileDemand s (x / elements)) (fileDemand t (x / elements)) (x % elements) (demand (x / elements) (x % elements) (omega arith))),
         table-same 8 _ _ available,
-        arcs-same s t F G 3 (omega arith) job,
-        arcs-same s t F G 4 (omega arith) extra,
+        arcs-same s t (readable-faultless s e) (readable-faultless t f) 3 (omega arith) job,
         kinds,
         count,
       )
+
+  pub plan-same : fileKinds s ≡ fileKinds t → ((i : ℕ) → i < activityCount s → fileDuration s i ≡ fileDuration t i)
+      → ((k i : ℕ) → k < 8 → i < activityCount s → fileDemand s k i ≡ fileDemand t k i) → ((k : ℕ) → k < 8 → fileAvailable s k ≡ fileAvailable t k)
+      → ((i j : ℕ) → JobArc s i j ↔ JobArc t i j) → ((i j : ℕ) → ExtraArc s i j ↔ ExtraArc t i j) → planOf s ≡ planOf t
+  unfolding planOf ExtraArc
+  plan-same kinds duration demand available job extra =
+      plan-but kinds duration demand available job
+      ∙ ap (withExtra (planOf t)) (arcs-same s t (readable-faultless s e) (readable-faultless t f) 4 (omega arith) extra)
 
 -- ---- how large the numbers are, where each byte is below 256
 

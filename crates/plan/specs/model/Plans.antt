@@ -33,6 +33,19 @@ planOf s =
       extra = arcRows s 4;
     }
 
+-- a plan with other extra arcs
+abbrev pub withExtra : Plan → List ℕ → Plan
+withExtra q extra =
+    record {
+      count = q .count;
+      kinds = q .kinds;
+      duration = q .duration;
+      demand = q .demand;
+      available = q .available;
+      job = q .job;
+      extra = extra;
+    }
+
 -- the plan that stands beside a refusal
 unfoldable pub emptyPlan : Plan
 emptyPlan =
