@@ -117,8 +117,9 @@ direct-order rows =
     (before-same (arcs-drawn elements rows))
 
 -- Warshall's closure finds it
-pub direct-closed : (rows : List ℕ) → length rows ≡ cells elements → RowsFit elements rows → record { rows = upto (passingOver elements (endsIn elements rows)) elements rows } ≡ orderIn rows
-direct-closed rows long fit = order-same (closed elements rows long fit) (direct-order rows) (λ i j. (λ b. b, λ b. b))
+pub direct-closed : (rows : List ℕ) → length rows ≡ cells elements → RowsFit elements rows → upto (passingOver elements (endsIn elements rows)) elements rows ≡ afterRows (orderIn rows)
+unfolding afterRows
+direct-closed rows long fit = ap (λ (o : Order). o .rows) (order-same (closed elements rows long fit) (direct-order rows) (λ i j. (λ b. b, λ b. b)))
 
 -- ---- two tables of arcs together
 

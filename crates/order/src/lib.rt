@@ -9,9 +9,8 @@ ghost use Rattle.order.specs.model.Places.{positive};
 ghost use Rattle.order.specs.Orders.{emptyOrder, extended, extendedBy, isBefore, afterOf, afterRows, circleOf, orderIn, joinedRows};
 use halves::places_word;
 use transitive::add_row;
-use transitive::ends_of;
+pub use transitive::close;
 use transitive::gain_all;
-use transitive::pass_over;
 
 mod halves;
 mod transitive;
@@ -255,16 +254,12 @@ impl Order {
         ELEMENTS
     }
 
-    // The order of arcs that are given as rows: from i to each member of row i. (Warshall's closure: one element after the other becomes a way
-    // through. Most elements of a sparse plan lead nowhere, or nothing leads to them: those are passed over.)
+    // The order of arcs that are given as rows: from i to each member of row i.
     pub fn of(arcs: Rows) -> Self
         ensures { λ r. ⌜ r ≡ orderIn arcs ⌝ }
     {
         let mut rows = arcs;
-        let ends = ends_of(&rows);
-        for k in 0..ELEMENTS {
-            pass_over(&mut rows, ends, k);
-        }
+        close(&mut rows);
         Order { rows }
     }
 }

@@ -5,6 +5,7 @@ ghost use lib.ListN.{length};
 ghost use Rattle.order.specs.Stored.{elements, numberOf, cells, RowsFit};
 ghost use Rattle.order.specs.model.Growing.{growFrom};
 ghost use Rattle.order.specs.model.Warshall.{passingBy, gaining, passing, endsIn, passingOver};
+ghost use Rattle.order.specs.Orders.{afterRows, orderIn};
 use crate::ELEMENTS;
 use crate::Rows;
 use crate::Set;
@@ -42,7 +43,7 @@ fn pass(rows: &mut Rows, k: usize)
 }
 
 // The elements at which an arc ends.
-pub fn ends_of(rows: &Rows) -> Set
+fn ends_of(rows: &Rows) -> Set
     ensures { λ r. ⌜ numberOf r ≡ endsIn elements (now (rows .entry)) ⌝ }
 {
     let mut ends = Set::EMPTY;
@@ -53,7 +54,7 @@ pub fn ends_of(rows: &Rows) -> Set
 }
 
 // The same as `pass`, where an arc ends at k and k leads somewhere; else there is nothing to do.
-pub fn pass_over(rows: &mut Rows, ends: Set, k: usize)
+fn pass_over(rows: &mut Rows, ends: Set, k: usize)
     requires { ⌜ k < elements ⌝ }
     ensures { λ _. ⌜ now (rows .exit) ≡ passingOver elements (numberOf ends) k (now (rows .entry)) ⌝ }
 {
@@ -62,6 +63,18 @@ pub fn pass_over(rows: &mut Rows, ends: Set, k: usize)
     }
     if ends.has(k) {
         pass(rows, k);
+    }
+}
+
+// The rows of arcs become those of their order. (Warshall's closure: one element after the other becomes a way through. Most elements of a sparse plan lead nowhere, or nothing leads to them: those
+// are passed over. In place, so that no rows are copied.)
+pub fn close(rows: &mut Rows)
+    requires { ⌜ (length (now rows) ≡ cells elements) × RowsFit elements (now rows) ⌝ }
+    ensures { λ _. ⌜ now (rows .exit) ≡ afterRows (orderIn (now (rows .entry))) ⌝ }
+{
+    let ends = ends_of(rows);
+    for k in 0..ELEMENTS {
+        pass_over(rows, ends, k);
     }
 }
 
