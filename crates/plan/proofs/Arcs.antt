@@ -1,6 +1,6 @@
--- The rows of the arcs that records name: where no record of the type stands they stay, and each record of the type adds its arc. Assumes nothing.
+-- The rows of the arcs that records name: where no record is picked they stay, and each that is picked adds its arc; those of a type are a case. Assumes nothing.
 use mathlib.Core.Path.{_≡_, refl, sym, ap, _∙_, subst}
-use mathlib.Core.Bool.{Bool, true, _||_}
+use mathlib.Core.Bool.{Bool, true, false, _||_}
 use mathlib.Core.List.{List}
 use mathlib.Core.Logic.{_⊎_, inl, inr, ⊎-elim, _↔_, _≢_}
 use Prim.Native.Nat.{ℕ, zero, suc, _+_, _-_, _≤_, _<_}
@@ -9,7 +9,7 @@ use native.Mathlib.Decide.{ℕ-discrete}
 use native.Mathlib.Omega.{arith}
 use lib.ListN.{length, replicate}
 use lib.Dec.{eqb}
-use borrow.Author.Tests.{eqb-true, eqb-false, eq-eqb, ne-eqb}
+use borrow.Author.Tests.{eqb-true, eq-eqb, ne-eqb}
 use Rattle.words.specs.Bits.{bit, withBit}
 use Rattle.words.specs.model.Loops.{upto}
 use Rattle.words.proofs.Bits.{bit-or, bit-single, with-lt}
@@ -19,72 +19,15 @@ use Rattle.records.specs.Bytes.{byte}
 use Rattle.order.specs.Stored.{elements, cells, row, putRow, RowsFit}
 use Rattle.order.proofs.Stored.{length-put, length-blank, row-put-same, row-put-other, row-fit, fit-put}
 use Rattle.plan.specs.Records.{recordAt, typeAt}
-use Rattle.plan.specs.model.ArcRows.{withArc, arcsAfter, arcsUpTo}
+use Rattle.plan.specs.model.ArcRows.{withArc, pickedAfter, pickedUpTo, isOf, arcsAfter, arcsUpTo}
 use Rattle.plan.specs.model.Phases.{putArc}
 use Rattle.plan.proofs.Places.{record-on}
-
--- ---- runs of records
-
--- a record of another type, and one of the type
-pub after-other : (type : ℕ) (r rows : List ℕ) → byte r 0 ≢ type → arcsAfter type r rows ≡ rows
-unfolding arcsAfter
-after-other type r rows ne = cond-false _ _ (ne-eqb (byte r 0) type ne)
-
-pub after-same : (type : ℕ) (r rows : List ℕ) → byte r 0 ≡ type → arcsAfter type r rows ≡ withArc r rows
-unfolding arcsAfter
-after-same type r rows e = cond-true _ _ (eq-eqb (byte r 0) type e)
-
-pub arcs-suc : (s : List ℕ) (type p : ℕ) → arcsUpTo s type (suc p) ≡ arcsAfter type (recordAt s p) (arcsUpTo s type p)
-unfolding arcsUpTo
-arcs-suc s type p = refl
-
-pub arcs-skip : (s : List ℕ) (type p : ℕ) → typeAt s p ≢ type → arcsUpTo s type (suc p) ≡ arcsUpTo s type p
-arcs-skip s type p ne = arcs-suc s type p ∙ after-other type (recordAt s p) (arcsUpTo s type p) ne
-
-pub arcs-more : (s : List ℕ) (type p : ℕ) → typeAt s p ≡ type → arcsUpTo s type (suc p) ≡ withArc (recordAt s p) (arcsUpTo s type p)
-arcs-more s type p e = arcs-suc s type p ∙ after-same type (recordAt s p) (arcsUpTo s type p) e
-
--- n records of other types
-pub arcs-none : (s : List ℕ) (type a n : ℕ) → ((i : ℕ) → i < n → typeAt s (a + i) ≢ type) → arcsUpTo s type (a + n) ≡ arcsUpTo s type a
-arcs-none s type a zero h = ap (arcsUpTo s type) (add-zero a)
-arcs-none s type a (suc n) h =
-    ap (arcsUpTo s type) (add-suc a n) ∙ arcs-skip s type (a + n) (h n (omega arith)) ∙ arcs-none s type a n (λ i l. h i (omega arith))
-
--- n records, whatever they are, as the loop stores them
-pub arcs-run : (s : List ℕ) (type a n : ℕ) → arcsUpTo s type (a + n) ≡ upto (putArc type (recordAt s a)) n (arcsUpTo s type a)
-unfolding upto
-arcs-run s type a zero = ap (arcsUpTo s type) (add-zero a)
-arcs-run s type a (suc n) =
-    ap (arcsUpTo s type) (add-suc a n)
-    ∙ arcs-suc s type (a + n)
-    ∙ ap (λ (r : List ℕ). arcsAfter type r (arcsUpTo s type (a + n))) (sym (record-on s a n))
-    ∙ ap (arcsAfter type (recordAt (recordAt s a) n)) (arcs-run s type a n)
-
-pub arcs-start : (s : List ℕ) (type : ℕ) → arcsUpTo s type 0 ≡ replicate (cells elements) 0
-unfolding arcsUpTo
-arcs-start s type = refl
-
--- the first n records of a file: where none is of the type, and whatever they are
-pub arcs-none-before : (s : List ℕ) (type n : ℕ) → ((i : ℕ) → i < n → typeAt s i ≢ type) → arcsUpTo s type n ≡ replicate (cells elements) 0
-arcs-none-before s type n h =
-    ap (arcsUpTo s type) (sym (zero-add n)) ∙ arcs-none s type 0 n (λ i l. subst (λ (x : ℕ). typeAt s x ≢ type) (sym (zero-add i)) (h i l)) ∙ arcs-start s type
-
-pub arcs-run-whole : (s : List ℕ) (type n : ℕ) → arcsUpTo s type n ≡ upto (putArc type s) n (replicate (cells elements) 0)
-arcs-run-whole s type n = ap (arcsUpTo s type) (sym (zero-add n)) ∙ arcs-run s type 0 n ∙ ap (upto (putArc type s) n) (arcs-start s type)
 
 -- ---- the arc of one record
 
 pub length-with-arc : (r rows : List ℕ) → length (withArc r rows) ≡ length rows
 unfolding withArc
 length-with-arc r rows = length-put rows (byte r 1 - 1) (withBit (row rows (byte r 1 - 1)) (byte r 2 - 1))
-
-pub length-arcs : (s : List ℕ) (type p : ℕ) → length (arcsUpTo s type p) ≡ cells elements
-length-arcs s type zero = ap length (arcs-start s type) ∙ length-blank elements
-length-arcs s type (suc p) =
-    let ih = length-arcs s type p in
-    by-test (eqb (typeAt s p) type)
-    (λ t. ap length (arcs-more s type p (eqb-true (typeAt s p) type t)) ∙ length-with-arc (recordAt s p) (arcsUpTo s type p) ∙ ih)
-    (λ t. ap length (arcs-skip s type p (eqb-false (typeAt s p) type t)) ∙ ih)
 
 pub with-arc-fits : (r rows : List ℕ) → length rows ≡ cells elements → 1 ≤ byte r 1 → byte r 1 ≤ elements → 1 ≤ byte r 2 → byte r 2 ≤ elements
     → RowsFit elements rows → RowsFit elements (withArc r rows)
@@ -125,3 +68,67 @@ with-arc r rows i j long la ha lb = go (byte r 1) (byte r 2) la ha lb
               (λ t. inl (sym other ∙ t)),
               (λ o. ⊎-elim (λ t. other ∙ t) (λ n. absurd (ne (omega (arith, n .0)))) o),
             )
+
+-- ---- the records that a test picks
+
+module _ (s : List ℕ) (pick : List ℕ → Bool) where
+  pub picked-start : pickedUpTo s pick 0 ≡ replicate (cells elements) 0
+  unfolding pickedUpTo
+  picked-start = refl
+
+  picked-suc : (p : ℕ) → pickedUpTo s pick (suc p) ≡ pickedAfter pick (recordAt s p) (pickedUpTo s pick p)
+  unfolding pickedUpTo
+  picked-suc p = refl
+
+  -- a record that is picked, and one that is not
+  pub picked-more : (p : ℕ) → pick (recordAt s p) ≡ true → pickedUpTo s pick (suc p) ≡ withArc (recordAt s p) (pickedUpTo s pick p)
+  picked-more p t = picked-suc p ∙ cond-true _ _ t
+
+  pub picked-skip : (p : ℕ) → pick (recordAt s p) ≡ false → pickedUpTo s pick (suc p) ≡ pickedUpTo s pick p
+  picked-skip p t = picked-suc p ∙ cond-false _ _ t
+
+  pub length-picked : (p : ℕ) → length (pickedUpTo s pick p) ≡ cells elements
+  length-picked zero = ap length picked-start ∙ length-blank elements
+  length-picked (suc p) =
+      by-test (pick (recordAt s p))
+      (λ t. ap length (picked-more p t) ∙ length-with-arc (recordAt s p) (pickedUpTo s pick p) ∙ length-picked p)
+      (λ t. ap length (picked-skip p t) ∙ length-picked p)
+
+  -- n records of which none is picked
+  picked-none : (a n : ℕ) → ((i : ℕ) → i < n → pick (recordAt s (a + i)) ≡ false) → pickedUpTo s pick (a + n) ≡ pickedUpTo s pick a
+  picked-none a zero h = ap (pickedUpTo s pick) (add-zero a)
+  picked-none a (suc n) h = ap (pickedUpTo s pick) (add-suc a n) ∙ picked-skip (a + n) (h n (omega arith)) ∙ picked-none a n (λ i l. h i (omega arith))
+
+  pub picked-none-before : (n : ℕ) → ((i : ℕ) → i < n → pick (recordAt s i) ≡ false) → pickedUpTo s pick n ≡ replicate (cells elements) 0
+  picked-none-before zero h = picked-start
+  picked-none-before (suc n) h = picked-skip n (h n (omega arith)) ∙ picked-none-before n (λ i l. h i (omega arith))
+
+  -- n records, whatever they are, as a loop stores them
+  pub picked-run : (a n : ℕ) → pickedUpTo s pick (a + n) ≡ upto (λ i. pickedAfter pick (recordAt (recordAt s a) i)) n (pickedUpTo s pick a)
+  unfolding upto
+  picked-run a zero = ap (pickedUpTo s pick) (add-zero a)
+  picked-run a (suc n) =
+      ap (pickedUpTo s pick) (add-suc a n)
+      ∙ picked-suc (a + n)
+      ∙ ap (λ (r : List ℕ). pickedAfter pick r (pickedUpTo s pick (a + n))) (sym (record-on s a n))
+      ∙ ap (pickedAfter pick (recordAt (recordAt s a) n)) (picked-run a n)
+
+-- ---- those of a type
+
+pub after-same : (type : ℕ) (r rows : List ℕ) → byte r 0 ≡ type → arcsAfter type r rows ≡ withArc r rows
+after-same type r rows e = cond-true _ _ (eq-eqb (byte r 0) type e)
+
+pub length-arcs : (s : List ℕ) (type p : ℕ) → length (arcsUpTo s type p) ≡ cells elements
+length-arcs s type p = length-picked s (isOf type) p
+
+pub arcs-none : (s : List ℕ) (type a n : ℕ) → ((i : ℕ) → i < n → typeAt s (a + i) ≢ type) → arcsUpTo s type (a + n) ≡ arcsUpTo s type a
+arcs-none s type a n h = picked-none s (isOf type) a n (λ i l. ne-eqb (typeAt s (a + i)) type (h i l))
+
+pub arcs-none-before : (s : List ℕ) (type n : ℕ) → ((i : ℕ) → i < n → typeAt s i ≢ type) → arcsUpTo s type n ≡ replicate (cells elements) 0
+arcs-none-before s type n h = picked-none-before s (isOf type) n (λ i l. ne-eqb (typeAt s i) type (h i l))
+
+pub arcs-run : (s : List ℕ) (type a n : ℕ) → arcsUpTo s type (a + n) ≡ upto (putArc type (recordAt s a)) n (arcsUpTo s type a)
+arcs-run s type a n = picked-run s (isOf type) a n
+
+pub arcs-run-whole : (s : List ℕ) (type n : ℕ) → arcsUpTo s type n ≡ upto (putArc type s) n (replicate (cells elements) 0)
+arcs-run-whole s type n = ap (arcsUpTo s type) (sym (zero-add n)) ∙ arcs-run s type 0 n ∙ ap (upto (putArc type s) n) (picked-start s (isOf type))

@@ -13,7 +13,7 @@ use Rattle.order.specs.Orders.{extended, circleOf, orderOf, orderIn, joinedRows
 use Rattle.records.specs.Bytes.{field, zeros}
 use Rattle.plan.specs.Records.{leading, activityFields, demandsSome, crewFields, arcFields, arcRepeats, demandsOf}
 use Rattle.plan.specs.Meaning.{fileDuration, fileDemand, fileKinds, fileAvailable}
-use Rattle.plan.specs.model.ArcRows.{withArc, arcsAfter, arcsUpTo}
+use Rattle.plan.specs.model.ArcRows.{withArc, pickedUpTo}
 use Rattle.plan.specs.model.Plans.{durationsOf, demandTable, availableOf, planOf}
 use Rattle.plan.specs.Causes.{rule, activityCause, crewCause, arcCause, causeAt, firstRefusal, recordsCause, isLength, answerOf, isReadable}
 use Rattle.plan.specs.declared.Plan.{Plan}
@@ -123,7 +123,7 @@ record AllRead : Type 0 where
   i-both : Reads planIBoth inIBoth
 
 all-read : AllRead
-unfolding digit bit first some table row putRow rowTable cells field zeros leading activityFields demandsSome crewFields arcFields arcRepeats demandsOf fileDuration fileDemand fileKinds fileAvailable withArc arcsAfter arcsUpTo durationsOf demandTable availableOf planOf rule activityCause crewCause arcCause causeAt firstRefusal recordsCause isLength answerOf
+unfolding digit bit first some table row putRow rowTable cells field zeros leading activityFields demandsSome crewFields arcFields arcRepeats demandsOf fileDuration fileDemand fileKinds fileAvailable withArc pickedUpTo durationsOf demandTable availableOf planOf rule activityCause crewCause arcCause causeAt firstRefusal recordsCause isLength answerOf
 all-read =
     record {
       a = record { answers = refl; says = refl };

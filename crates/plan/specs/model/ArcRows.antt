@@ -1,4 +1,4 @@
--- The arcs of a type as a table of sets, record by record: what a reader knows before the record at a place. Assumes nothing.
+-- The arcs of the records that a test picks (those of a type) as a table of sets, record by record: what a reader knows before the record at a place. Assumes nothing.
 use mathlib.Core.Bool.{Bool, cond}
 use mathlib.Core.List.{List}
 use Prim.Native.Nat.{ℕ, zero, suc, _-_, _≤_}
@@ -14,7 +14,7 @@ use Rattle.plan.specs.Records.{recordAt, recordCount}
 abbrev pub ArcRecord : List ℕ → Type 0
 ArcRecord r = (24 ≤ length r) × (1 ≤ byte r 1) × (byte r 1 ≤ elements) × (1 ≤ byte r 2) × (byte r 2 ≤ elements)
 
--- the arcs of a type, as a table of sets: each record of that type puts (to - 1) into the set in row (from - 1)
+-- arcs as a table of sets: a record puts (to - 1) into the set in row (from - 1)
 unfoldable pub withArc : List ℕ → List ℕ → List ℕ
 withArc r rows = putRow rows (byte r 1 - 1) (withBit (row rows (byte r 1 - 1)) (byte r 2 - 1))
 
@@ -22,16 +22,29 @@ withArc r rows = putRow rows (byte r 1 - 1) (withBit (row rows (byte r 1 - 1)) (
 abbrev pub hasArc : List ℕ → List ℕ → Bool
 hasArc rows r = after rows (byte r 1 - 1) (byte r 2 - 1)
 
--- the arcs of a type after a record, from those before it
-unfoldable pub arcsAfter : ℕ → List ℕ → List ℕ → List ℕ
-arcsAfter type r rows =
-    let more = withArc r rows in
-    cond (eqb (byte r 0) type) more rows
+-- ---- the arcs of the records that a test picks
 
--- the arcs of a type before the record at a place: the state in which that record is read
-unfoldable pub arcsUpTo : List ℕ → ℕ → ℕ → List ℕ
-arcsUpTo s type zero = replicate (cells elements) 0
-arcsUpTo s type (suc p) = arcsAfter type (recordAt s p) (arcsUpTo s type p)
+-- after a record, from those before it
+abbrev pub pickedAfter : (List ℕ → Bool) → List ℕ → List ℕ → List ℕ
+pickedAfter pick r rows =
+    let more = withArc r rows in
+    cond (pick r) more rows
+
+-- before the record at a place: the state in which that record is read
+unfoldable pub pickedUpTo : List ℕ → (List ℕ → Bool) → ℕ → List ℕ
+pickedUpTo s pick zero = replicate (cells elements) 0
+pickedUpTo s pick (suc p) = pickedAfter pick (recordAt s p) (pickedUpTo s pick p)
+
+-- ---- those of a type
+
+abbrev pub isOf : ℕ → List ℕ → Bool
+isOf type r = eqb (byte r 0) type
+
+abbrev pub arcsAfter : ℕ → List ℕ → List ℕ → List ℕ
+arcsAfter type r rows = pickedAfter (isOf type) r rows
+
+abbrev pub arcsUpTo : List ℕ → ℕ → ℕ → List ℕ
+arcsUpTo s type p = pickedUpTo s (isOf type) p
 
 abbrev pub arcRows : List ℕ → ℕ → List ℕ
 arcRows s type = arcsUpTo s type (recordCount s)
