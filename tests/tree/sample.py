@@ -8,6 +8,7 @@ SOURCE = "pub fn low(x: u8) -> u8 {\n    x / 2\n}\n\npub fn high(x: u8) -> u8 {\
 EDIT = "file: src/lib.rt\n\nrefuses: sample::{name}\nwrong: the number itself\nold:     {old}\nnew:     {old} + 0\n"
 FACT = "{folder}/proofs/{name}/Proof.antt:9:13: error: `returns`: `omega`: the goal does not follow from what it read\n"
 UNFIT = "{folder}/proofs/{name}/Proof.antt:9:13: error: `returns`: record `Start` has no field `before`\n"
+BROKEN = "{folder}/proofs/{name}/Proof.antt:9:13: error: `returns`: record `Start`\n  has no field `before`\n"
 FOLLOWS = "{folder}/proofs/{name}/Proof.antt:12:5: error: `{name}-spec`: `returns` was not admitted, so this cannot be checked\n"
 
 # a name, the text that is replaced, the log, and what is said of each function that is not as it should be
@@ -16,6 +17,7 @@ CASES = [
     ("low", "x / 2", "fn sample::low: no proof: `search` does not close `returns`\nfn sample::high: proved\n", []),
     ("low", "x / 2", "fn sample::low: proved\nfn sample::high: proved\n", ["low"]),
     ("low", "x / 2", UNFIT + FOLLOWS + "fn sample::low: not proved\nfn sample::high: proved\n", ["low"]),
+    ("low", "x / 2", BROKEN + FOLLOWS + "fn sample::low: not proved\nfn sample::high: proved\n", ["low"]),
     ("low", "x / 2", FOLLOWS + "fn sample::low: not proved\nfn sample::high: proved\n", ["low"]),
     ("high", "low(x) + 1", FACT + "fn sample::low: not proved\nfn sample::high: not proved; it calls `sample::low`, which is not proved\n", ["high", "low"]),
     ("high", "x / 2", FACT + "fn sample::low: proved\nfn sample::high: not proved\n", ["high"]),

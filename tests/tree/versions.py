@@ -72,15 +72,17 @@ class Log:
 
     def __init__(self, folder):
         self.own, self.unfit, self.states = {}, {}, {}
-        for line in (folder / ".log").read_text(errors="replace").splitlines():
+        lines = (folder / ".log").read_text(errors="replace").splitlines()
+        for line, after in zip(lines, lines[1:] + [""]):
             if error := ERROR.match(line):
-                self.error(folder, error)
+                # a long name breaks the line: what is said of it stands on the next one
+                self.error(folder, error, error["said"] + (after if after.startswith("  has no ") else ""))
             elif status := STATUS.match(line):
                 self.states[status["name"]] = status["said"]
 
-    def error(self, folder, error):
+    def error(self, folder, error, said):
         """An error counts for the function whose proof it stands in, or else for the law, and for the law's field."""
-        if FOLLOWS.search(error["said"]):
+        if FOLLOWS.search(said):
             return
         parts = error["file"].removeprefix(f"{folder}/").split("/")
         if parts[-1] == "Proof.antt":
@@ -89,7 +91,7 @@ class Log:
             field = field_at((folder / "/".join(parts)).read_text().splitlines()[: int(error["line"])])
             names = [error["law"], f"{error['law']}.{field}"] if field else [error["law"]]
         for name in names:
-            (self.unfit if UNFIT.search(error["said"]) else self.own).setdefault(name, error["said"])
+            (self.unfit if UNFIT.search(said) else self.own).setdefault(name, said)
 
     def function(self, name):
         """Why a function does not count as refused at a fact of its own, or None where it does."""
