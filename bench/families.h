@@ -1,4 +1,4 @@
-// The families of random orders that flow.cpp and verdict.cpp are measured on: always the same ones, with every compiler.
+// The families of random orders that flow.cpp, verdict.cpp and trim.cpp are measured on: always the same ones, with every compiler.
 #ifndef FAMILIES_H
 #define FAMILIES_H
 #include <array>

@@ -31,6 +31,7 @@ void needs() { answer = yaffledesk_needs(plan.data(), plan.size(), numbers, N + 
 void earliest() { answer = yaffledesk_starts(plan.data(), plan.size(), numbers, N + 1); }
 void flow() { answer = yaffledesk_flow(plan.data(), plan.size(), kind, records, sizeof records); }
 void sheet() { answer = yaffledesk_sheet(plan.data(), plan.size(), kind, page, records, sizeof records); }
+void trim() { answer = yaffledesk_trim(plan.data(), plan.size(), records, sizeof records); }
 void overload() { answer = yaffledesk_overload(plan.data(), plan.size(), records, sizeof records); }
 void crew_check() { answer = yaffledesk_crew_check(plan.data(), plan.size(), starts, N, durations, N); }
 
@@ -41,7 +42,8 @@ struct Operation {
     int given[256]; // how often it gave each number
 } operations[] = {
     {"verdict", verdict, 0, {}}, {"set", set, 0, {}},           {"needs", needs, 0, {}},           {"starts", earliest, 0, {}},
-    {"flow", flow, 0, {}},       {"sheet", sheet, 0, {}},       {"overload", overload, 0, {}},     {"crew_check", crew_check, 0, {}},
+    {"flow", flow, 0, {}},       {"sheet", sheet, 0, {}},       {"trim", trim, 0, {}},             {"overload", overload, 0, {}},
+    {"crew_check", crew_check, 0, {}},
 };
 Operation &flow_operation = operations[4], &sheet_operation = operations[5];
 

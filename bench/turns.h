@@ -1,4 +1,4 @@
-// How flow.cpp and verdict.cpp take their times.
+// How flow.cpp, verdict.cpp, sheet.cpp and trim.cpp take their times.
 #ifndef TURNS_H
 #define TURNS_H
 #include <algorithm>
@@ -22,9 +22,9 @@ inline double median(std::vector<double> a) {
 
 // The least time of the repetitions of one contestant on one plan, in microseconds. They follow each other: caches, branch prediction and the
 // allocator are warm for every contestant alike.
-template <class Run> double least_time(Run run) {
+template <class Run> double least_time(Run run, int repetitions = REPETITIONS) {
     double least = 1e9;
-    for (int r = 0; r < REPETITIONS; r++) {
+    for (int r = 0; r < repetitions; r++) {
         const auto from = std::chrono::steady_clock::now();
         run(r);
         const auto to = std::chrono::steady_clock::now();

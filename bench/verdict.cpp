@@ -5,7 +5,7 @@
 //                     there is to read; nothing is wanted of these
 //   verdict --ours F K   only the proved function, 1,000 times on each of the first K files of the family F (0 to 13): for perf
 //   verdict --plan F S   only checks the file with the seed S of the family F: for a seed that a mismatch has printed
-#include "network.h"
+#include "pipeline.h"
 #include "planfile.h"
 #include "turns.h"
 
@@ -13,11 +13,6 @@
 #include <cstdlib>
 #include <cstring>
 #include <string>
-
-#include "yaffledesk.h"
-extern "C" {
-#include "plain.h"
-}
 
 // At least so many times as fast as LEMON made anew for each kind, and as LEMON kept from kind to kind.
 constexpr double WANTED = 5, WANTED_KEPT = 3.5;
@@ -45,9 +40,7 @@ std::vector<PlanFile> files_of(int family, int files_wanted, bool full, int coun
 
 uint64_t ours() { return yaffledesk_verdict(bytes, length); }
 
-uint64_t packed(unsigned number, uint64_t rest) { return number | rest << 8; }
 uint64_t accepted(size_t activities, size_t kinds) { return packed(YAFFLEDESK_DONE, activities | kinds << 8); }
-uint64_t overloaded(int kind, uint32_t need) { return packed(YAFFLEDESK_OVERLOADED, (kind + 1) | uint64_t(need) << 8); }
 
 // LEMON as in flow.cpp: graph, capacities and Preflow are made anew for each kind.
 class Anew {
@@ -59,58 +52,16 @@ public:
     uint32_t need(const uint32_t *demand) { return lemon_need<false>(rows, demand, n); }
 };
 
-// All kinds of a plan have the same order, so that LEMON's graph and memory can be kept from kind to kind. Only the capacities at the source and the
-// sink change; "infinite" is more than any sum of demands.
-class Kept {
-    Graph graph;
-    const int n, size;
-    Capacities capacity;
-    lemon::Preflow<Graph, Capacities> preflow;
-
-public:
-    Kept(const uint64_t *rows, size_t count)
-        : n(int(count)), size(network(rows, graph, n)), capacity(graph, N * 65535), preflow(graph, capacity, Graph::node(SOURCE), Graph::node(sink_of(n))) {}
-    uint32_t need(const uint32_t *demand) {
-        uint32_t all = 0;
-        for (int i = 0; i < n; i++) {
-            capacity[Graph::arc(i)] = int(demand[i]);
-            capacity[Graph::arc(size - n + i)] = int(demand[i]);
-            all += demand[i];
-        }
-        preflow.runMinCut();
-        return all - uint32_t(preflow.flowValue());
-    }
-};
-
-// The lowest activity before itself, from 1, or 0.
-int circle(const uint64_t *rows) {
-    for (int i = 0; i < N; i++)
-        if (rows[i] >> i & 1) return i + 1;
-    return 0;
-}
-
 template <class Lemon> uint64_t theirs() {
     plain_plan plan;
-    size_t place;
-    if (const int cause = plain_read(bytes, length, &plan, &place)) return packed(cause, place);
-    uint64_t joined[N], order[N];
-    plain_order(plan.job, order);
-    if (const int i = circle(order)) return packed(YAFFLEDESK_JOB_CIRCLE, i);
-    for (int i = 0; i < N; i++) joined[i] = plan.job[i] | plan.extra[i];
-    plain_order(joined, order);
-    if (const int i = circle(order)) return packed(YAFFLEDESK_PLAN_CIRCLE, i);
+    uint64_t order[N];
+    if (const uint64_t refused = opened(bytes, length, plan, order)) return refused;
     Lemon lemon(order, plan.count);
-    for (size_t k = 0; k < plan.kinds; k++) {
-        const uint32_t need = lemon.need(plan.demand + N * k);
-        if (need > plan.available[k]) return overloaded(int(k), need);
-    }
+    if (const uint64_t overload = first_overload(plan, lemon)) return overload;
     return accepted(plan.count, plan.kinds);
 }
 
 // ---- The checks ----
-
-// The answer without the size of the set, which only the proved function gives.
-uint64_t sizeless(uint64_t answer) { return YAFFLEDESK_NUMBER(answer) == YAFFLEDESK_OVERLOADED ? answer & ((uint64_t(1) << 48) - 1) : answer; }
 
 // By the needs that LEMON found when the file was made.
 uint64_t expected(const PlanFile &file) {

@@ -20,7 +20,7 @@
  * are spare. The arc from i to j is kept where the start of i, its duration and the wait together are at most the start of j. Where a
  * pair is a job arc and an extra arc, both waits bind: the longer one decides. Earliest starts, crew check and the starts on a crew
  * sheet go by the waits. Verdict, set, needs, overload record and flow do not read them: plans that differ only in waits get the same
- * of these, byte for byte.
+ * of these, byte for byte. Trim asks of an extra arc's wait only whether it is 0, and carries all waits over as they are.
  *
  * Lent memory. An operation that writes is lent memory as a pointer and a length, and the length counts elements: bytes where
  * the pointer is to uint8_t, numbers where it is to uint32_t. More than needed may be lent. What is written stands at the
@@ -98,6 +98,7 @@ enum {
 
 /* What yaffledesk_flow needs for m activities, in bytes: 24 * (m(m-1)/2 + 2m + 1), whatever the flow then holds. For 64: 51,480. */
 #define YAFFLEDESK_FLOW_BYTES(m) ((size_t)YAFFLEDESK_RECORD_BYTES * ((size_t)(m) * ((size_t)(m) + 3) / 2 + 1))
+/* yaffledesk_trim needs as many bytes as the plan has: YAFFLEDESK_MOST_PLAN_BYTES are enough for any. */
 /* What yaffledesk_needs and yaffledesk_starts need, in numbers. */
 #define YAFFLEDESK_NEEDS_NUMBERS(kinds) ((size_t)(kinds))
 #define YAFFLEDESK_STARTS_NUMBERS(m) ((size_t)(m) + 1)
@@ -129,6 +130,15 @@ uint64_t yaffledesk_flow(const uint8_t *plan, size_t len, uint64_t kind, uint8_t
  * how). Pages count from 1. 0: how many pages the sheet has, 1 or more. Else the file's numbers, then 8, then 9 (needs
  * YAFFLEDESK_SHEET_BYTES bytes), then 7, as yaffledesk_flow gives it, then 11. Kind and page may be any numbers of 64 bits. */
 uint64_t yaffledesk_sheet(const uint8_t *plan, size_t len, uint64_t kind, uint64_t page, uint8_t *out, size_t out_len);
+
+/* Writes an accepted plan without the extra arcs that it can do without. Its extra arcs are considered by from, then to, and not in file
+ * order; each with wait 0 is taken out if the plan then left is still accepted, that is, if no kind of it is overloaded. An extra arc of
+ * wait 0 whose pair is a job arc always goes; one with a longer wait always stays, and counts for the order. The trimmed plan is written
+ * as a plan file, its records in their order in the given one, and the bytes after it are unchanged, those up to the given length
+ * too. It is accepted, and no plan that is made from it by leaving out one or more extra arcs of wait 0 is. 0: how many records were
+ * written. Else the file's numbers, then 9 (needs len bytes, the given file's length, however short the trimmed plan is), then 7, as
+ * yaffledesk_verdict gives it. */
+uint64_t yaffledesk_trim(const uint8_t *plan, size_t len, uint8_t *out, size_t out_len);
 
 /* Writes the overload record of an overloaded plan. 0: how many records were written, 1, or 0 where no kind is overloaded. Else
  * the file's numbers, then 9 (needs 24 bytes, whether the plan is overloaded or not). Never 7. */

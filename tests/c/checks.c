@@ -142,6 +142,13 @@ uint64_t overload(const plan_file *plan, size_t lent) {
     return answer;
 }
 
+uint64_t trim(const plan_file *plan, size_t lent) {
+    fresh_memory();
+    uint64_t answer = yaffledesk_trim(plan->bytes, plan->len, lent_bytes, lent);
+    check_unchanged(plan->name, "Trim", 0, YAFFLEDESK_NUMBER(answer) ? 0 : RECORD * YAFFLEDESK_REST(answer));
+    return answer;
+}
+
 uint64_t crew(const plan_file *plan, const uint32_t *from, const uint32_t *worked) {
     size_t m = 0;
     while (plan->bytes[m * RECORD] == 1) m++; // activities stand first
@@ -162,6 +169,7 @@ void check_refused(plan_file plan, unsigned number, uint64_t rest) {
         check_answer(plan.name, "Flow of kind 1", flow(&plan, 1, lent ? YAFFLEDESK_FLOW_BYTES(64) : 0), number, rest);
         check_answer(plan.name, "Sheet of kind 0, page 0", sheet(&plan, 0, 0, lent), number, rest);
         check_answer(plan.name, "Sheet of kind 1, page 1", sheet(&plan, 1, 1, lent ? PAGE : 0), number, rest);
+        check_answer(plan.name, "Trim", trim(&plan, lent ? plan.len + 1 : 0), number, rest);
         check_answer(plan.name, "Crew check", yaffledesk_crew_check(plan.bytes, plan.len, list, lent, list, lent), number, rest);
     }
 }
@@ -189,6 +197,8 @@ void check_overloaded(const plan_file *plan, size_t m, uint8_t kind, uint8_t nee
     check_answer(plan->name, "Flow", flow(plan, 1, YAFFLEDESK_FLOW_BYTES(m)), YAFFLEDESK_OVERLOADED, rest);
     check_answer(plan->name, "Flow, short", flow(plan, 1, YAFFLEDESK_FLOW_BYTES(m) - 1), YAFFLEDESK_TOO_SHORT, YAFFLEDESK_FLOW_BYTES(m));
     check_answer(plan->name, "Flow of kind 0", flow(plan, 0, 0), YAFFLEDESK_NO_SUCH_KIND, plan->bytes[m * RECORD + 1]);
+    check_answer(plan->name, "Trim", trim(plan, plan->len), YAFFLEDESK_OVERLOADED, rest);
+    check_answer(plan->name, "Trim, short", trim(plan, plan->len - 1), YAFFLEDESK_TOO_SHORT, plan->len);
     for (uint64_t page = 0; page <= 2; page++) {
         check_answer(plan->name, "Sheet", sheet(plan, 1, page, PAGE), YAFFLEDESK_OVERLOADED, rest);
         check_answer(plan->name, "Sheet, short", sheet(plan, 1, page, PAGE - 1), YAFFLEDESK_TOO_SHORT, PAGE);

@@ -19,6 +19,7 @@ void milestones(void);
 void repeats(void);
 void waits(void);
 void added(void);
+void trims(void);
 
 // Counts one check, and prints a line where it fails.
 extern unsigned passed, failed;
@@ -56,6 +57,7 @@ uint64_t starts(const plan_file *plan, size_t lent);
 uint64_t flow(const plan_file *plan, uint64_t kind, size_t lent);
 uint64_t sheet(const plan_file *plan, uint64_t kind, uint64_t page, size_t lent);
 uint64_t overload(const plan_file *plan, size_t lent);
+uint64_t trim(const plan_file *plan, size_t lent);
 
 // The crew check with lists as long as the plan has activities.
 uint64_t crew(const plan_file *plan, const uint32_t *from, const uint32_t *worked);
@@ -72,7 +74,7 @@ typedef struct {
 } byte_fault;
 void check_faults(plan_file plan, const byte_fault *faults, size_t count);
 void check_accepted(const plan_file *plan, unsigned m);
-// An overloaded plan: the 7 of Verdict and Flow, the set, and the overload record byte by byte.
+// An overloaded plan: the 7 of Verdict, Flow, Sheet and Trim, the set, and the overload record byte by byte.
 void check_overloaded(const plan_file *plan, size_t m, uint8_t kind, uint8_t need, uint8_t size, uint8_t set);
 // Needs and Starts of a plan of one kind, lent exactly what they need and one number less.
 void check_numbers(const plan_file *plan, uint32_t need, const uint32_t *expected, size_t count);

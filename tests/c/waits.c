@@ -188,7 +188,7 @@ static void milestone(void) {
 }
 
 void waits(void) {
-    static const char *const names[] = {"a", "b", "d", "e", "e_job", "hall", "handed_back", "cured", "pasted", "briefed"};
+    static const char *const names[] = {"a", "b", "d", "e", "e_job", "hall", "handed_back", "cured", "pasted", "briefed", "comfort"};
     records();
     repeated();
     both_types();

@@ -244,7 +244,7 @@ def lengths(folder):
 def examples(folder):
     texts, plans = sorted(EXAMPLES.glob("*.txt")), sorted(EXAMPLES.glob("*.plan"))
     names = {path.stem for path in texts}
-    check(names >= {"a", "b", "c", "d", "e", "e_job", "f", "f5", "briefed", "cured", "handed_back", "pasted"}, f"examples are missing: {sorted(names)}")
+    check(names >= {"a", "b", "c", "d", "e", "e_job", "f", "f5", "briefed", "comfort", "cured", "handed_back", "pasted"}, f"examples are missing: {sorted(names)}")
     check(names == {path.stem for path in plans}, "each text in examples/ has its plan, and each plan its text")
     for text in texts:
         plan, made = text.with_suffix(".plan"), folder / "made.plan"

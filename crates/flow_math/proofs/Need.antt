@@ -207,6 +207,13 @@ need-unique n b d x y X Y =
 pub need-is : (n : ℕ) (b : ℕ → ℕ → Bool) (d : ℕ → ℕ) (x : ℕ) → StrictOrder n b → Need n b d x → x ≡ needOf n b d
 need-is n b d x o N = need-unique n b d x (needOf n b d) N (needOf-need n b d o)
 
+-- Fewer pairs, no smaller need: what is unrelated in an order is unrelated in every order with fewer pairs.
+pub need-fewer : (n : ℕ) (b c : ℕ → ℕ → Bool) (d : ℕ → ℕ) → StrictOrder n b → StrictOrder n c →
+    ((i j : ℕ) → i < n → j < n → c i j ≡ true → b i j ≡ true) → needOf n b d ≤ needOf n c d
+need-fewer n b c d o p fewer =
+    let B = needOf-need n b d o in
+    omega (arith, B .weighs, needOf-need n c d p .most (B .set) (λ i j h l s t e. B .unrelated i j h l s t (fewer i j h l e)))
+
 -- ---- elements without a demand
 
 module _ (n m : ℕ) (b : ℕ → ℕ → Bool) (d : ℕ → ℕ) (l : n ≤ m) (z : (i : ℕ) → n ≤ i → i < m → d i ≡ 0) where

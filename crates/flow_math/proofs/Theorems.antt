@@ -2,6 +2,7 @@
 --
 --   needOf-need         the computed need is the need: an unrelated set has that weight, and none has more
 --   need-only           there is no other need
+--   need-fewer          an order with fewer pairs has no smaller need
 --   closed-need         where a search for a better handover failed, the need and the units handed over are exactly all demands
 --   closed-flow         then the handover makes a resource flow of any a units that are at least the need;
 --                       exactly a - needOf of them go straight from the start to the end
@@ -10,7 +11,7 @@
 --   crew-peak           for all durations up to `gap`, of 1 or more where there is a demand, some crew occupies all of the need in one
 --                       period; its ordered elements start at least `gap` periods apart
 use mathlib.Core.Path.{_≡_}
-use mathlib.Core.Bool.{Bool}
+use mathlib.Core.Bool.{Bool, true}
 use Prim.Native.Nat.{ℕ, suc, _+_, _-_, _≤_, _<_}
 use Rattle.words.specs.Sums.{sum}
 use Rattle.order.specs.Arcs.{StrictOrder, Drawn}
@@ -32,6 +33,10 @@ needOf-need n b d o = Needs.needOf-need n b d o
 
 pub need-only : (n : ℕ) (b : ℕ → ℕ → Bool) (d : ℕ → ℕ) (x : ℕ) → StrictOrder n b → Need n b d x → x ≡ needOf n b d
 need-only n b d x o N = Needs.need-is n b d x o N
+
+pub need-fewer : (n : ℕ) (b c : ℕ → ℕ → Bool) (d : ℕ → ℕ) → StrictOrder n b → StrictOrder n c →
+    ((i j : ℕ) → i < n → j < n → c i j ≡ true → b i j ≡ true) → needOf n b d ≤ needOf n c d
+need-fewer n b c d o p fewer = Needs.need-fewer n b c d o p fewer
 
 pub closed-need : (n : ℕ) (b : ℕ → ℕ → Bool) (d : ℕ → ℕ) (f : ℕ → ℕ → ℕ) (L R : ℕ → Bool) →
     StrictOrder n b → Handover n b d f → Closed n b d f L R → needOf n b d + total n f ≡ sum n d

@@ -119,6 +119,17 @@ module _ {A : ℕ → ℕ → Type 0} (x y : ℕ) where
   pub before-with : (i j : ℕ) → Before (With A x y) i j ↔ (Before A i j ⊎ Through A x y i j)
   before-with i j = (there, ⊎-elim lift (λ t. around (t .0) (onward (t .1))))
 
+-- a way from k that uses the arc would lead from k back to x: where x has an arc to k, and there is no circle, none does
+pub before-lacking : {A : ℕ → ℕ → Type 0} (x y k : ℕ) → Acyclic (With A x y) → A x k → Before (With A x y) k y → Before A x y
+before-lacking {A} x y k free m b = ⊎-elim (λ c. more m c) (λ t. absurd (back (t .0))) (before-with x y k y .0 b)
+  where
+    circle : Before A x x → ⊥
+    circle c = free x (before-map (λ i j a. inl a) c)
+
+    back : Reaches A k x → ⊥
+    back (inl e) = circle (subst (λ (z : ℕ). Before A x z) e (last m))
+    back (inr c) = circle (more m c)
+
 -- ---- the arcs of a list
 
 pub in-none : (i j : ℕ) → In [] i j ↔ NoArc i j

@@ -10,4 +10,5 @@ pub mod Arcs
 pub mod Growing
 pub mod Gaining
 pub mod Orders
+pub mod Lacking
 pub mod Nonzero

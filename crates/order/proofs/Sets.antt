@@ -11,7 +11,7 @@ use Rattle.words.proofs.Counts.{count-le}
 use Rattle.words.proofs.Firsts.{first-le, first-none, at-first, before-first}
 use Rattle.words.proofs.Members.{bit-rest}
 use Rattle.order.specs.Stored.{elements, bound, numberOf, setOf}
-use Rattle.order.specs.Sets.{member, emptySet, withElement, unionOf, meetOf, minusOf, sizeOf, lowestOf, withoutLowest}
+use Rattle.order.specs.Sets.{member, emptySet, withElement, withoutElement, unionOf, meetOf, minusOf, sizeOf, lowestOf, withoutLowest}
 use Rattle.order.specs.declared.Set.{Set}
 use Rattle.order.proofs.Stored.{number-set, in-bound}
 
@@ -26,6 +26,9 @@ member-empty i = member-set 0 i ∙ bit-zero i
 
 pub member-with : (s : Set) (j i : ℕ) → member (withElement s j) i ≡ member s i || eqb i j
 member-with s j i = member-set (withBit (numberOf s) j) i ∙ bit-or (numberOf s) (2 ^ j) i ∙ ap (λ (b : Bool). member s i || b) (bit-single j i)
+
+pub member-without : (s : Set) (j i : ℕ) → member (withoutElement s j) i ≡ member s i && not (eqb i j)
+member-without s j i = member-set (minus (numberOf s) (2 ^ j)) i ∙ bit-minus (numberOf s) (2 ^ j) i ∙ ap (λ (b : Bool). member s i && not b) (bit-single j i)
 
 pub member-union : (s t : Set) (i : ℕ) → member (unionOf s t) i ≡ member s i || member t i
 member-union s t i = member-set (bitOr (numberOf s) (numberOf t)) i ∙ bit-or (numberOf s) (numberOf t) i

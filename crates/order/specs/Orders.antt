@@ -1,11 +1,14 @@
 -- Orders of all elements, as values of the struct `Order`: what its functions give. Assumes nothing.
-use mathlib.Core.Bool.{Bool}
+use mathlib.Core.Bool.{Bool, _&&_}
 use mathlib.Core.List.{List, [], _∷_}
-use Prim.Native.Nat.{ℕ}
+use Prim.Native.Nat.{ℕ, _^_}
 use lib.Bits.{bitOr}
 use lib.ListN.{replicate}
 use Rattle.order.specs.Arcs.{Arc, Drawn}
-use Rattle.order.specs.Stored.{elements, cells, row, rowTable, setOf}
+use Rattle.words.specs.Bits.{minus}
+use Rattle.words.specs.Members.{some}
+use Rattle.order.specs.Stored.{elements, cells, row, putRow, rowTable, setOf}
+use Rattle.order.specs.Sets.{member}
 use Rattle.order.specs.Rows.{after, Represents, grow, arcsIn, circleIn}
 use Rattle.order.specs.model.Growing.{growBy}
 use Rattle.order.specs.declared.Set.{Set}
@@ -26,6 +29,10 @@ afterOf o i = setOf (row (o .rows) i)
 -- the table of these sets, for all elements
 unfoldable pub afterRows : Order → List ℕ
 afterRows o = o .rows
+
+-- whether a member of a set is before j, by such a table
+unfoldable pub someBefore : List ℕ → Set → ℕ → Bool
+someBefore rows w j = some elements (λ k. member w k && after rows k j)
 
 -- "The order without arcs": `Order::empty()`
 abbrev pub emptyOrder : Order
@@ -57,6 +64,10 @@ orderIn rows = orderOf (arcsIn elements rows elements)
 -- an order so extended: by each arc that it does not hold yet (`extended-by` of proofs/Orders.antt says what order that is)
 unfoldable pub extendedBy : Order → List ℕ → Order
 extendedBy o arcs = record { rows = growBy elements arcs elements (o .rows) }
+
+-- the arcs without that from x to y
+unfoldable pub withoutArc : List ℕ → ℕ → ℕ → List ℕ
+withoutArc arcs x y = putRow arcs x (minus (row arcs x) (2 ^ y))
 
 -- the arcs of two such tables together
 unfoldable pub joinedRows : List ℕ → List ℕ → List ℕ

@@ -7,11 +7,14 @@ ghost use Rattle.order.specs.Sets.{member, emptySet, withElement, withou
 ghost use Rattle.order.specs.model.Warshall.{passed};
 ghost use Rattle.order.specs.model.Places.{positive};
 ghost use Rattle.order.specs.Orders.{emptyOrder, extended, extendedBy, isBefore, afterOf, afterRows, circleOf, orderIn, joinedRows};
+pub use fewer::some_before;
+pub use fewer::without_arc;
 use halves::places_word;
 use transitive::add_row;
 pub use transitive::close;
 use transitive::gain_all;
 
+mod fewer;
 mod halves;
 mod transitive;
 

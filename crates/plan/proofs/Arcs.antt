@@ -25,7 +25,7 @@ use Rattle.plan.proofs.Places.{record-on}
 
 -- ---- the arc of one record
 
-pub length-with-arc : (r rows : List ℕ) → length (withArc r rows) ≡ length rows
+length-with-arc : (r rows : List ℕ) → length (withArc r rows) ≡ length rows
 unfolding withArc
 length-with-arc r rows = length-put rows (byte r 1 - 1) (withBit (row rows (byte r 1 - 1)) (byte r 2 - 1))
 

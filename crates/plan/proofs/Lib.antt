@@ -1,5 +1,6 @@
--- Laws of the definitions of `specs/`. Callers cite Said, Refused, Milestones, RepeatedArcs and Differing (files that differ only in waits are read alike), and `readable-is` of
--- Refusals; the proofs of the code cite ReaderLoops, `looked-up` of RepeatedArcs and `file-read` of Phases; the others lead up to these.
+-- Laws of the definitions of `specs/`. Callers cite Said, Refused, Milestones, RepeatedArcs, Differing (files that differ only in waits are read alike), Selected and
+-- Filtered (a file without some of its arc records is readable, and says the same but for those), FreeArcs (the extra arcs with wait 0), and `readable-is` of Refusals; the proofs of the code cite
+-- ReaderLoops, Staying, `looked-up` of RepeatedArcs and `file-read` of Phases; the others lead up to these.
 pub mod Refusals
 pub mod Places
 pub mod RecordRules
@@ -17,3 +18,7 @@ pub mod Milestones
 pub mod RepeatedArcs
 pub mod Waits
 pub mod Differing
+pub mod Selected
+pub mod Filtered
+pub mod FreeArcs
+pub mod Staying

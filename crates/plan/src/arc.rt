@@ -64,7 +64,7 @@ fn arc_cause(m: usize, r: &[u8], of: u8, place: usize) -> Answer
 }
 
 // Whether the rows have the arc of a record.
-fn has_arc(r: &[u8], rows: &Rows) -> bool
+pub fn has_arc(r: &[u8], rows: &Rows) -> bool
     requires { ⌜ ArcRecord (now r) ⌝ }
     ensures { λ b. ⌜ b ≡ hasArc (now (rows .entry)) (now (r .entry)) ⌝ }
 {
@@ -74,7 +74,7 @@ fn has_arc(r: &[u8], rows: &Rows) -> bool
 }
 
 // The arc of a record.
-fn store_arc(r: &[u8], rows: &mut Rows)
+pub fn store_arc(r: &[u8], rows: &mut Rows)
     requires { ⌜ ArcRecord (now r) ⌝ }
     ensures { λ _. ⌜ now (rows .exit) ≡ withArc (now (r .entry)) (now (rows .entry)) ⌝ }
 {

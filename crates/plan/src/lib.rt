@@ -5,6 +5,7 @@ mod checks;
 mod crew;
 mod field;
 mod file;
+mod filter;
 mod numbers;
 mod wait;
 
@@ -13,6 +14,8 @@ ghost use Rattle.plan.specs.model.Reads.{readOf};
 use file::is_length;
 use file::read_file;
 use file::refusal;
+pub use filter::store_free;
+pub use filter::write_staying;
 pub use numbers::told_by;
 use order::ELEMENTS;
 use order::Rows;

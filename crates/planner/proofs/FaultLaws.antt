@@ -1,13 +1,14 @@
 -- Faults, and the causes of an operation in their turn. Assumes nothing.
-use mathlib.Core.Path.{_≡_, refl, ap, _∙_, subst}
+use mathlib.Core.Path.{_≡_, refl, sym, ap, _∙_, subst}
 use mathlib.Core.Bool.{Bool, true, false, true≢false, false≢true}
-use mathlib.Core.Logic.{_⊎_, inl, inr}
+use mathlib.Core.Logic.{_⊎_, inl, inr, ⊎-elim, _≢_}
 use Prim.Native.Nat.{ℕ, _+_, _≤_, _<_}
 use native.Mathlib.Omega.{arith}
 use lib.Dec.{ltb}
 use borrow.Author.Tests.{lt-ltb, le-ltb, ltb-false}
 use Rattle.kinds.specs.declared.Overload.{Overload}
 use Rattle.planner.specs.Faults.{isFine, orCause, orShort}
+use Rattle.planner.specs.Answers.{causeNumber}
 use Rattle.planner.specs.model.Opening.{orFound}
 use Rattle.planner.specs.declared.Cause.{Cause}
 use Rattle.planner.specs.declared.Cause.the-variants.{Overloaded, Short}
@@ -43,6 +44,10 @@ pub cause-from : (f : Fault) (b : Bool) (c d : Cause) → orCause f b c ≡ Refu
 cause-from Fine true c d e = inr (refl, refl, cc)
 cause-from Fine false c d e = inl e
 cause-from (Refused x) b c d e = inl e
+
+-- a refusal by another number than the next cause's is one from before
+pub from-before : (f : Fault) (b : Bool) (c d : Cause) → causeNumber d ≢ causeNumber c → orCause f b c ≡ Refused d → f ≡ Refused d
+from-before f b c d other e = ⊎-elim (λ p. p) (λ w. absurd (other (sym (ap causeNumber (w .2))))) (cause-from f b c d e)
 
 -- where there is a fault already, no other cause has a turn
 pub cause-kept : (f : Fault) (b : Bool) (c : Cause) → isFine f ≡ false → f ≡ orCause f b c

@@ -5,7 +5,7 @@ use mathlib.Core.List.{List}
 use Prim.Native.Nat.{ℕ, _+_, _≤_, _<_}
 use native.Mathlib.Omega.{arith}
 use lib.Dec.{eqb, ltb}
-use lib.ListN.{getD}
+use lib.ListN.{length, getD}
 use borrow.Author.Tests.{lt-ltb, le-ltb, ltb-true, ltb-false}
 use Rattle.words.proofs.Tests.{by-test, cond-true, cond-false}
 use Rattle.records.specs.Bytes.{AreBytes}
@@ -20,7 +20,8 @@ use Rattle.plan.specs.model.Reads.{readOf}
 use Rattle.plan.specs.model.Plans.{planOf, emptyPlan}
 use Rattle.plan.specs.Meaning.{Readable}
 use Rattle.plan.specs.model.Said.{Said}
-use Rattle.plan.proofs.Said.{said, durations-small}
+use Rattle.plan.proofs.Said.{readable-length, said, durations-small}
+use Rattle.plan.proofs.Refused.{length-says}
 use Rattle.plan.specs.declared.Cause.{Cause as Unread}
 use Rattle.plan.specs.declared.Cause.the-variants.{Length, RecordType, Field, MilestoneDemand, Spare, RepeatedArc}
 use Rattle.plan.specs.declared.Answer.{Answer}
@@ -106,6 +107,10 @@ module _ (s : List ℕ) (o : Opens s) where
 
   pub opens-plan : Acyclic (Direct (rowsOf s))
   opens-plan = steps .1
+
+  -- it is no longer than a file may be
+  pub opens-short : length s ≤ 49152
+  opens-short = length-says (length s) .0 (readable-length s opens-readable) .1
 
 -- a file's durations are small
 pub opens-small : (s : List ℕ) → AreBytes s → Opens s → AllAtMost 65535 (planIn s .duration)

@@ -150,7 +150,7 @@ module _ (s : List ℕ) (small : AreBytes s) (o : Opens s) where
 
 -- ---- 7 IN ITS TURN, where an operation without a fault has a plan that opens
 
-weighed : (s : List ℕ) → AreBytes s → (f : Fault) → (isFine f ≡ true → Opens s)
+pub weighed : (s : List ℕ) → AreBytes s → (f : Fault) → (isFine f ≡ true → Opens s)
     → orFound f (overloadIn (planOrder s) (planIn s)) (planIn s .kinds) ≡ orOverloaded f (planIn s)
 unfolding overCause isOverloaded
 weighed s small (Refused c) opens = refl

@@ -1,13 +1,14 @@
 -- What an operation refuses with is small, whatever the plan's bytes are and whatever is lent: the cause's number has 8 bits, its two values have 32, and its set holds
 -- activities alone. Assumes nothing.
 --
---   open-refuses, verdict-refuses, needs-refuses, starts-refuses, overload-refuses, flow-refuses, sheet-refuses, crew-refuses    what every operation does first, and the seven
+--   open-refuses, verdict-refuses, needs-refuses, starts-refuses, overload-refuses, flow-refuses, sheet-refuses, trim-refuses, crew-refuses    what every operation does first, and the eight
 use mathlib.Core.Path.{_≡_}
 use mathlib.Core.Bool.{Bool, true, not}
 use mathlib.Core.List.{List}
 use Prim.Native.Nat.{ℕ, _^_, _<_}
 use native.Mathlib.Omega.{arith}
 use lib.Dec.{ltb}
+use lib.ListN.{length}
 use lib.Pow.{pow-pos}
 use Rattle.records.specs.Bytes.{AreBytes}
 use Rattle.order.specs.Stored.{numberOf}
@@ -20,7 +21,7 @@ use Rattle.solver.proofs.QuoteSound.{need-small}
 use Rattle.kinds.specs.Needs.{demandsFor}
 use Rattle.planner.specs.Numbers.{plain, refusalOf}
 use Rattle.planner.specs.Open.{planIn, planOrder, faultOf, Opens}
-use Rattle.planner.specs.Faults.{isFine, orCause}
+use Rattle.planner.specs.Faults.{isFine, orCause, orShort}
 use Rattle.planner.specs.Need.{overKind, isOverloaded, overCause}
 use Rattle.planner.specs.Verdict.{verdictFault}
 use Rattle.planner.specs.Needs.{needsFault}
@@ -28,14 +29,15 @@ use Rattle.planner.specs.Starts.{needed, startsFault}
 use Rattle.planner.specs.File.{flowLength}
 use Rattle.planner.specs.Flow.{isKind, kindFault, flowFault}
 use Rattle.planner.specs.Sheet.{isPage, sheetPages, sheetFault}
+use Rattle.planner.specs.Trim.{trimFault}
 use Rattle.planner.specs.Overload.{overloadFault}
 use Rattle.planner.specs.CrewCheck.{badLists, crewCheckFault}
 use Rattle.planner.specs.declared.Cause.{Cause}
 use Rattle.planner.specs.declared.Cause.the-variants.{NoKind, Short, Lists, NoPage}
 use Rattle.planner.specs.declared.Fault.{Fault}
 use Rattle.planner.specs.declared.Refusal.{Refusal}
-use Rattle.planner.proofs.FaultLaws.{cause-fine, Every, every-turn}
-use Rattle.planner.proofs.OpenLaws.{count-few, count-within, every-open}
+use Rattle.planner.proofs.FaultLaws.{cause-fine, short-fine, Every, every-turn}
+use Rattle.planner.proofs.OpenLaws.{count-few, count-within, opens-short, every-open}
 use Rattle.planner.proofs.QuotedNeeds.{kinds-few, need-quoted, quotable, over-below, set-fits}
 use Rattle.planner.proofs.FlowUnits.{length-few}
 use Rattle.planner.proofs.SheetLaws.{pages-small}
@@ -126,6 +128,15 @@ unfolding sheetFault
 sheet-refuses s small kind page n =
     small-turn (kindFault s kind n pageBytes) (not (isPage page (sheetPages s kind))) (NoPage (sheetPages s kind)) (kind-refuses s small kind n pageBytes (omega arith))
     (λ o e. plain-small 11 1 _ (omega arith) (omega (arith, pages-small s small kind n o)))
+
+-- ---- Trim
+
+pub trim-refuses : (s : List ℕ) → AreBytes s → (n : ℕ) → SmallFault (trimFault s n)
+unfolding trimFault
+trim-refuses s small n =
+    small-turn (orShort (faultOf s) n (length s)) (isOverloaded (planIn s)) (overCause (planIn s))
+    (small-turn (faultOf s) (ltb n (length s)) (Short (length s)) (open-refuses s) (λ o e. plain-small 9 1 (length s) (omega arith) (omega (arith, opens-short s o))))
+    (λ e. over-small s small (short-fine (faultOf s) n (length s) e .0))
 
 -- ---- Crew check
 

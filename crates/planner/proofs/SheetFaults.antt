@@ -1,14 +1,14 @@
 -- Which refusal when, of the operations on one kind: 8, 9 and 7 of Flow and Sheet, and Sheet's 11 behind them. Assumes nothing.
-use mathlib.Core.Path.{_≡_, sym, ap}
-use mathlib.Core.Bool.{Bool, true, false, not}
+use mathlib.Core.Path.{_≡_, ap}
+use mathlib.Core.Bool.{true, false, not}
 use mathlib.Core.List.{List}
-use mathlib.Core.Logic.{⊎-elim, _≢_}
+use mathlib.Core.Logic.{_≢_}
 use Prim.Native.Nat.{ℕ, _≤_, _<_}
 use lib.Dec.{ltb, leb}
 use borrow.Author.Tests.{lt-ltb, le-leb}
 use Rattle.words.proofs.Tests.{fails, and-both}
 use Rattle.crew_sheet.specs.Sheet.{pageBytes}
-use Rattle.planner.specs.Faults.{isFine, orCause}
+use Rattle.planner.specs.Faults.{isFine}
 use Rattle.planner.specs.Open.{planIn, faultOf, Opens}
 use Rattle.planner.specs.Need.{isOverloaded, overCause}
 use Rattle.planner.specs.Flow.{isKind, kindFault, flowFault}
@@ -17,9 +17,8 @@ use Rattle.planner.specs.Sheet.{isPage, sheetPages, sheetFault}
 use Rattle.planner.specs.Answers.{causeNumber}
 use Rattle.planner.specs.declared.Cause.{Cause}
 use Rattle.planner.specs.declared.Cause.the-variants.{NoKind, Short, NoPage}
-use Rattle.planner.specs.declared.Fault.{Fault}
 use Rattle.planner.specs.declared.Fault.the-variants.{Fine, Refused}
-use Rattle.planner.proofs.FaultLaws.{cause-before, cause-next, cause-none, cause-from, short-next, short-none}
+use Rattle.planner.proofs.FaultLaws.{cause-before, cause-next, cause-none, from-before, short-next, short-none}
 use Rattle.planner.proofs.FlowLaws.{kind-within, known, roomy}
 
 -- ---- the kind, or the page
@@ -66,10 +65,6 @@ module _ (s : List ℕ) (kind page n : ℕ) where
   fine-page f e = cause-none (kindFault s kind n pageBytes) (not (isPage page (sheetPages s kind))) (NoPage (sheetPages s kind)) (ap isFine f) (ap not e)
 
 -- ---- a cause of the opening is the file's, whatever the operation, the kind and the page
-
--- a refusal by another number than the next cause's is one from before
-from-before : (f : Fault) (b : Bool) (c d : Cause) → causeNumber d ≢ causeNumber c → orCause f b c ≡ Refused d → f ≡ Refused d
-from-before f b c d other e = ⊎-elim (λ p. p) (λ w. absurd (other (sym (ap causeNumber (w .2))))) (cause-from f b c d e)
 
 module _ (s : List ℕ) (c : Cause) where
   kind-before : (kind n needed : ℕ) → faultOf s ≡ Refused c → kindFault s kind n needed ≡ Refused c

@@ -31,7 +31,7 @@ abbrev pub verdictNumbers : Decision → List ℕ
 verdictNumbers (verdict.Accepted m n) = 0 ∷ m ∷ n ∷ []
 verdictNumbers (verdict.Refused c) = numbersOf c
 
--- Needs, Starts, Overload, Flow: so many numbers or records are written; Sheet: so many pages there are
+-- Needs, Starts, Overload, Flow, Trim: so many numbers or records are written; Sheet: so many pages there are
 abbrev pub outputNumbers : Output → List ℕ
 outputNumbers (output.Written n) = 0 ∷ n ∷ []
 outputNumbers (output.Refused c) = numbersOf c

@@ -15,6 +15,7 @@ pub mod Needs
 pub mod Starts
 pub mod Flow
 pub mod Sheet
+pub mod Trim
 pub mod Overload
 pub mod CrewCheck
 pub mod model

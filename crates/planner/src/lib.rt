@@ -13,6 +13,7 @@ pub use ops::needs::needs;
 pub use ops::overload::overload;
 pub use ops::sheet::sheet;
 pub use ops::starts::starts;
+pub use ops::trim::trim;
 pub use ops::verdict::verdict;
 
 // Why an operation refuses, with the cause's own data. Activities and kinds count from 1.

@@ -92,7 +92,7 @@ unread-tested (RepeatedArc p) = refl
 pub unread-one : (u : Unread) → OneOf reading (causeNumber (Unreadable u))
 unread-one u = one-found reading (causeNumber (Unreadable u)) (unread-tested u)
 
-fault-only : (s : List ℕ) → Only opening (faultOf s)
+pub fault-only : (s : List ℕ) → Only opening (faultOf s)
 fault-only s =
     every-open (λ (c : Cause). OneOf opening (causeNumber c)) s (λ u _. one-more reading circles (causeNumber (Unreadable u)) (unread-one u))
     (λ i _. one-after reading circles 5 (inl refl))

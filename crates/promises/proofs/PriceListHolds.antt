@@ -52,7 +52,7 @@ use Rattle.promises.proofs.OverloadShown.{few, needs-answers, need-writ
 
 -- ---- answers and causes
 
-not-refused : (m n : ℕ) (c : Cause) → Accepted m n ≡ Refused c → ⊥
+pub not-refused : (m n : ℕ) (c : Cause) → Accepted m n ≡ Refused c → ⊥
 not-refused m n c e = let z : _≡_ {A = ℕ} 0 1 = cc in omega arith
 
 same-cause : (c d : Cause) → _≡_ {A = Decision} (Refused c) (Refused d) → c ≡ d
@@ -71,7 +71,7 @@ module _ (s : List ℕ) (small : AreBytes s) (o : Opens s) where
 
   -- ---- Decision
 
-  verdict-refused : isOverloaded (planIn s) ≡ true → verdictAnswer s ≡ Refused (overCause (planIn s))
+  pub verdict-refused : isOverloaded (planIn s) ≡ true → verdictAnswer s ≡ Refused (overCause (planIn s))
   unfolding verdictFault faultOf
   verdict-refused e =
       ap (λ (f : Fault). verdictOf f (planIn s .count) (planIn s .kinds)) (cause-next (faultOf s) (isOverloaded (planIn s)) (overCause (planIn s)) o e)

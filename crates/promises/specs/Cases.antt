@@ -1,12 +1,12 @@
 -- THE STARRED CASES of document 01, "Plans A to F", and cases of document 02, on the files' bytes, as one table about a planner P: each line is one case and what P says of it, by the numbers of
 -- the answers (planner's Answers): "6, activity 1" is the list of 6 and 1; 0 is a result, 254 a broken arc, 255 an overload with period and kind. Every line holds
--- of ours: `cases` of proofs/CasesHold.antt, by computation of the definitions alone. Assumes nothing.
+-- of ours: `cases` of proofs/CasesHold.antt, by computation of the definitions alone; and some plans trimmed (`TrimCases`). Assumes nothing.
 use mathlib.Core.Path.{_≡_}
 use mathlib.Core.List.{List, [], _∷_, _++_}
 use Prim.Native.Nat.{ℕ}
 use lib.ListN.{replicate}
 use Rattle.planner.specs.Answers.{verdictNumbers, outputNumbers, crewCheckNumbers}
-use Rattle.promises.specs.Planner.{Planner}
+use Rattle.promises.specs.Planner.{Writing, Planner}
 
 -- an activity with a demand of kind 1, a crew of one kind, and an arc
 abbrev pub activityBytes : ℕ → ℕ → ℕ → List ℕ
@@ -191,3 +191,17 @@ pub record Cases (P : Planner) : Type 0 where
   pub i-job : P .flow 1 .left planIJob (replicate 240 9) ≡ flowI 0
   pub i-extra : P .flow 1 .left planIExtra (replicate 240 9) ≡ flowI 1
   pub i-both : P .flow 1 .left planIBoth (replicate 240 9) ≡ flowI 0
+
+-- "Trim the extra arcs" (02, change 7), about an operation T. Every line holds of ours: `trim-cases` of proofs/CaseTrims.antt
+pub record TrimCases (T : Writing) : Type 0 where
+  -- of D 1 to 3 goes, being the first; then 1 to 4 and 2 to 3 have to stay, and 2 to 4 goes too: 7 records are left, and the 48 bytes behind them are as they were
+  pub d-count : outputNumbers (T .answer planD 216) ≡ 0 ∷ 7 ∷ []
+  pub d-left : T .left planD (replicate 216 9) ≡ planC ++ (arcBytes 4 1 4 ++ (arcBytes 4 2 3 ++ replicate 48 9))
+  -- A with its first arc as a job arc too: the extra arc goes
+  pub both-left : T .left planABoth (replicate 192 9) ≡ planC ++ (arcBytes 3 1 2 ++ (arcBytes 4 2 4 ++ replicate 24 9))
+  -- "an arc with a longer wait always remains": the same, with a wait on the extra arc
+  pub wait-left : T .left planAJobWaits (replicate 192 9) ≡ planAJobWaits
+  -- "9 comes after the circles and needs the given file's length; 7 comes last.": B is overloaded, and its 7 is Verdict's (`overloaded` of Trim)
+  pub d-short : outputNumbers (T .answer planD 215) ≡ 9 ∷ 216 ∷ []
+  pub e-circle : outputNumbers (T .answer planE 0) ≡ 6 ∷ 1 ∷ []
+  pub b-short : outputNumbers (T .answer planB 191) ≡ 9 ∷ 192 ∷ []

@@ -11,7 +11,8 @@ use Rattle.planner.specs.Overload.{overloadAnswer, overloadOut}
 use Rattle.planner.specs.Flow.{flowAnswer, flowOut}
 use Rattle.planner.specs.CrewCheck.{crewCheckAnswer}
 use Rattle.planner.specs.Sheet.{sheetAnswer, sheetOut}
-use Rattle.promises.specs.Planner.{Planner}
+use Rattle.planner.specs.Trim.{trimAnswer, trimOut}
+use Rattle.promises.specs.Planner.{Writing, Planner}
 use Rattle.promises.specs.Paper.{LoadSteps}
 use Rattle.promises.specs.Sheet.{SheetOperation}
 
@@ -26,9 +27,13 @@ ours =
       crew-check = crewCheckAnswer;
     }
 
--- and its Sheet (document 02, change 1)
+-- its Sheet (document 02, change 1)
 abbrev pub ourSheet : SheetOperation
 ourSheet kind page = record { answer = λ s n. sheetAnswer s kind page n; left = λ s out. sheetOut s kind page out }
+
+-- its Trim (change 7)
+abbrev pub ourTrim : Writing
+ourTrim = record { answer = trimAnswer; left = trimOut }
 
 -- and the steps of its load sum (change 4), by the contracts in schedule/src/load.rt: `started_by`, `finished_no_sooner`, and `period_load` on the plan's demands
 abbrev pub ourSteps : LoadSteps

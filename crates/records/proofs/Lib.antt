@@ -4,3 +4,4 @@ pub mod Records
 pub mod Puts
 pub mod Steps
 pub mod Runs
+pub mod Kept

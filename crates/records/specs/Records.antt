@@ -1,5 +1,6 @@
 -- The records that are written (document 01, "Flow" and "Need and overload"), as their 24 bytes, and where they are written. Assumes nothing.
 use Prim.Native.Nat.{ℕ, zero, suc, _+_, _*_, _/_, _%_}
+use mathlib.Core.Bool.{Bool, cond}
 use mathlib.Core.List.{List, [], _∷_, _++_}
 use lib.ListN.{length, take, drop, replicate}
 use Rattle.records.specs.Bytes.{byte, field}
@@ -46,3 +47,7 @@ writtenAt at r out = take at out ++ r ++ drop (at + length r) out
 unfoldable pub joined : (ℕ → List ℕ) → ℕ → List ℕ
 joined f zero = []
 joined f (suc n) = joined f n ++ f n
+
+-- those of them that a test keeps
+abbrev pub kept : (ℕ → Bool) → (ℕ → List ℕ) → ℕ → List ℕ
+kept keep f n = joined (λ k. cond (keep k) (f k) []) n

@@ -2,10 +2,14 @@
 use mathlib.Core.Path.{_≡_, refl, sym, ap, ap₂, _∙_}
 use mathlib.Core.Bool.{Bool, true, false}
 use mathlib.Core.Logic.{_≢_}
-use Prim.Native.Nat.{ℕ, zero, suc, _+_, _≤_, _<_, zero-le}
-use native.Mathlib.Nat.{add-assoc, zero-add, suc-add, suc-ne-zero, suc-inj, le-of-eq}
+use Prim.Native.Nat.{ℕ, zero, suc, _+_, _-_, _≤_, _<_, zero-le}
+use native.Mathlib.Nat.{add-assoc, add-zero, zero-add, suc-add, suc-ne-zero, suc-inj, le-of-eq}
+use native.Mathlib.Numerals.{add-one}
 use native.Mathlib.Omega.{arith}
+use lib.Dec.{ltb}
+use borrow.Author.Tests.{ltb-true, ltb-false}
 use Rattle.words.specs.Members.{tally, count}
+use Rattle.words.proofs.Tests.{by-test}
 
 tally-le : (b : Bool) → tally b ≤ 1
 tally-le true = omega arith
@@ -68,3 +72,34 @@ count-out (suc n) p q (suc j) h here gone same =
     let ih = count-out n (λ i. p (suc i)) (λ i. q (suc i)) j (omega arith) here gone (λ i ne. same (suc i) (λ e. ne (suc-inj e))) in
     let a : tally (p 0) ≡ tally (q 0) = ap tally (same 0 (λ e. suc-ne-zero j (sym e))) in
     omega arith
+
+-- ---- one number more
+
+module _ (p : ℕ → Bool) where
+  count-last : (n : ℕ) → count (suc n) p ≡ count n p + tally (p n)
+  unfolding count
+  count-last n = ap (λ (x : ℕ). count x p) (sym (add-one n)) ∙ count-cat n 1 p ∙ ap (λ (x : ℕ). count n p + x) one
+    where
+      one : count 1 (λ i. p (n + i)) ≡ tally (p n)
+      one = ap (λ (x : ℕ). tally (p x) + 0) (add-zero n) ∙ add-zero (tally (p n))
+
+  pub count-more : (n : ℕ) → p n ≡ true → count (suc n) p ≡ suc (count n p)
+  count-more n e = count-last n ∙ ap (λ (t : Bool). count n p + tally t) e ∙ add-one (count n p)
+
+  pub count-still : (n : ℕ) → p n ≡ false → count (suc n) p ≡ count n p
+  count-still n e = count-last n ∙ ap (λ (t : Bool). count n p + tally t) e ∙ add-zero (count n p)
+
+  -- where k has p, fewer are counted before it than before any later number; so it is known by how many are
+  pub count-less : (k n : ℕ) → k < n → p k ≡ true → count k p < count n p
+  count-less k n h e =
+      let q : suc k + (n - suc k) ≡ n = omega arith in
+      omega (arith, count-more k e, count-cat (suc k) (n - suc k) p, ap (λ (x : ℕ). count x p) q)
+
+  pub count-same : (k n : ℕ) → p k ≡ true → p n ≡ true → count k p ≡ count n p → k ≡ n
+  count-same k n e f q =
+      by-test (ltb k n)
+      (λ t. absurd (omega (arith, count-less k n (ltb-true k n t) e)))
+      (λ t.
+      by-test (ltb n k)
+      (λ u. absurd (omega (arith, count-less n k (ltb-true n k u) f)))
+      (λ u. omega (arith, ltb-false k n t, ltb-false n k u)))

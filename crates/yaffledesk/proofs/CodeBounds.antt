@@ -1,6 +1,6 @@
 -- Every answer's code is a number of 64 bits, and so is the set that Verdict shows: of every plan's bytes, and whatever is lent. Assumes nothing.
 --
---   verdict-small, needs-small, starts-small, overload-small, flow-small, sheet-small, crew-small    the operations
+--   verdict-small, needs-small, starts-small, overload-small, flow-small, sheet-small, trim-small, crew-small    the operations
 use mathlib.Core.Path.{_≡_, refl, sym, subst}
 use mathlib.Core.Bool.{true, cond}
 use mathlib.Core.List.{List}
@@ -14,7 +14,7 @@ use Rattle.words.proofs.Tests.{cond-has, cond-least}
 use Rattle.records.specs.Bytes.{AreBytes}
 use Rattle.order.specs.Stored.{elements}
 use Rattle.order.specs.Sets.{member}
-use Rattle.plan.specs.Records.{activities}
+use Rattle.plan.specs.Records.{recordCount, activities}
 use Rattle.schedule.specs.Network.{Network}
 use Rattle.schedule.specs.Checks.{Work, brokenTo, brokenFrom, lowestKind, firstPeriod, checkOf}
 use Rattle.schedule.specs.declared.Checked.{Checked}
@@ -31,6 +31,7 @@ use Rattle.planner.specs.Needs.{needsFault, needsAnswer}
 use Rattle.planner.specs.Starts.{needed, startsFault, startsAnswer}
 use Rattle.planner.specs.Flow.{flowFault, flowCount, flowAnswer}
 use Rattle.planner.specs.Sheet.{sheetPages, sheetFault, sheetAnswer}
+use Rattle.planner.specs.Trim.{trimmedFile, trimFault, trimAnswer}
 use Rattle.planner.specs.Overload.{overloadFault, overCount, overloadAnswer}
 use Rattle.planner.specs.CrewCheck.{crewCheckFault, crewWork, crewArcs, crewFound, checkedOf, crewCheckAnswer}
 use Rattle.planner.specs.declared.Fault.{Fault}
@@ -41,8 +42,9 @@ use Rattle.planner.proofs.OpenLaws.{count-few}
 use Rattle.planner.proofs.QuotedNeeds.{kinds-few}
 use Rattle.planner.proofs.FlowLaws.{flow-few}
 use Rattle.planner.proofs.SheetLaws.{sheet-few}
+use Rattle.planner.proofs.TrimLaws.{trim-few}
 use Rattle.planner.proofs.CrewCheckLaws.{crew-fine}
-use Rattle.planner.proofs.RefusalBounds.{Small, SmallFault, verdict-refuses, needs-refuses, starts-refuses, overload-refuses, flow-refuses, sheet-refuses, crew-refuses}
+use Rattle.planner.proofs.RefusalBounds.{Small, SmallFault, verdict-refuses, needs-refuses, starts-refuses, overload-refuses, flow-refuses, sheet-refuses, trim-refuses, crew-refuses}
 use Rattle.yaffledesk.specs.Codes.{refusalCode, verdictCode, outputCode, foundCode, crewCheckCode, shownWord}
 
 -- ---- a refusal, by what it tells: a set has at most all members
@@ -68,7 +70,7 @@ shown-by (Refused c) m n small = small c refl .members
 pub shown-small : (s : List ℕ) → AreBytes s → shownWord (verdictAnswer s) < 2 ^ activities
 shown-small s small = shown-by (verdictFault s) (planIn s .count) (planIn s .kinds) (verdict-refuses s small)
 
--- ---- Needs, Starts, Overload, Flow, Sheet
+-- ---- Needs, Starts, Overload, Flow, Sheet, Trim
 
 output-small : (f : Fault) (n : ℕ) → SmallFault f → (isFine f ≡ true → n ≤ 1048576) → outputCode (outputOf f n) < 2 ^ 64
 unfolding outputCode
@@ -93,6 +95,9 @@ flow-small s small kind n =
 pub sheet-small : (s : List ℕ) → AreBytes s → (kind page n : ℕ) → outputCode (sheetAnswer s kind page n) < 2 ^ 64
 sheet-small s small kind page n =
     output-small (sheetFault s kind page n) (sheetPages s kind) (sheet-refuses s small kind page n) (λ e. omega (arith, sheet-few s small kind page n e))
+
+pub trim-small : (s : List ℕ) → AreBytes s → (n : ℕ) → outputCode (trimAnswer s n) < 2 ^ 64
+trim-small s small n = output-small (trimFault s n) (recordCount (trimmedFile s)) (trim-refuses s small n) (λ e. omega (arith, trim-few s n e))
 
 -- ---- Crew check
 

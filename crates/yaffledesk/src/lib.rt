@@ -7,6 +7,7 @@ ghost use Rattle.planner.specs.Needs.{needsAnswer, needsOut};
 ghost use Rattle.planner.specs.Starts.{startsAnswer, startsOut};
 ghost use Rattle.planner.specs.Flow.{flowAnswer, flowOut};
 ghost use Rattle.planner.specs.Sheet.{sheetAnswer, sheetOut};
+ghost use Rattle.planner.specs.Trim.{trimAnswer, trimOut};
 ghost use Rattle.planner.specs.Overload.{overloadAnswer, overloadOut};
 ghost use Rattle.planner.specs.CrewCheck.{crewCheckAnswer};
 ghost use Rattle.yaffledesk.specs.Codes.{verdictCode, outputCode, crewCheckCode, shownWord};
@@ -67,6 +68,15 @@ pub extern "C" fn yaffledesk_sheet(plan: &[u8], kind: u64, page: u64, out: &mut 
     ensures { λ _. ⌜ now (out .exit) ≡ sheetOut (now (plan .entry)) kind page (now (out .entry)) ⌝ }
 {
     output_code(planner::sheet(plan, kind as usize, page as usize, out))
+}
+
+// The plan without the extra arcs of wait 0 that it can do without: how many records it has, where they are written to the front of `out`.
+#[no_mangle]
+pub extern "C" fn yaffledesk_trim(plan: &[u8], out: &mut [u8]) -> u64
+    ensures { λ r. ⌜ r ≡ outputCode (trimAnswer (now (plan .entry)) (length (now (out .entry)))) ⌝ }
+    ensures { λ _. ⌜ now (out .exit) ≡ trimOut (now (plan .entry)) (now (out .entry)) ⌝ }
+{
+    output_code(planner::trim(plan, out))
 }
 
 // Overload: 1 where its record is written to the front of `out`, 0 where the plan is accepted.

@@ -60,6 +60,7 @@ impl Bench {
             }
         }
         self.sheets(case);
+        self.trims(case);
         for _ in 0..3 {
             let (starts, durations) = crew::lists(&mut self.random, case);
             self.crew_check(case, &starts, &durations);
@@ -207,7 +208,7 @@ pub fn unchanged<T>(refusal: u64, lent: Vec<T>) -> Due<T> {
     Due { answer: refusal, after: lent }
 }
 
-fn too_short(needed: usize) -> u64 {
+pub fn too_short(needed: usize) -> u64 {
     answer(9, needed as u64)
 }
 

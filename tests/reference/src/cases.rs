@@ -74,9 +74,11 @@ pub fn same<T: PartialEq + Debug>(bench: &mut Bench, file: &[u8], operation: &st
 /// Every operation with every length of lent slice up to somewhat more than needed.
 fn every_length(bench: &mut Bench, case: &Case) {
     bench.all(case);
+    let left = bench.left(case);
     let most = case.facts.as_ref().map_or(24, |facts| facts.flow_bytes_needed());
     for length in 0..most + 26 {
         bench.overload(case, length);
+        bench.trim(case, length, &left);
         bench.needs(case, length.min(20));
         bench.starts(case, length.min(20));
         for kind in [0, 1, 2, 257] {

@@ -30,6 +30,9 @@ mod sweep;
 mod tally;
 #[allow(unsafe_code)]
 mod trap;
+mod trim;
+mod trimming;
+mod trims;
 mod twins;
 mod waits;
 
@@ -44,6 +47,7 @@ const PASSING_PLANS: usize = 800;
 const REPEATED_PLANS: usize = 400;
 const TWIN_PLANS: usize = 400;
 const ADDED_PLANS: usize = 1_200;
+const TRIMMED_PLANS: usize = 6_000;
 
 fn seed() -> u64 {
     let given = std::env::args().nth(1).or_else(|| std::env::var("REFERENCE_SEED").ok());
@@ -71,6 +75,7 @@ fn main() -> ExitCode {
     part("waits", &waits::waits);
     part("other waits", &|bench| twins::twins(bench, TWIN_PLANS));
     part("added marks", &|bench| added::added(bench, ADDED_PLANS));
+    part("trimmed plans", &|bench| trims::trims(bench, TRIMMED_PLANS));
     part("random plans", &|bench| sweep::random_plans(bench, RANDOM_PLANS));
     part("damaged plans", &|bench| damage::damaged_plans(bench, DAMAGED_PLANS));
     part("big plans", &|bench| big::big_plans(bench, BIG_PLANS));

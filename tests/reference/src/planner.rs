@@ -11,6 +11,7 @@ extern "C" {
     fn yaffledesk_starts(plan: *const u8, len: usize, out: *mut u32, out_len: usize) -> u64;
     fn yaffledesk_flow(plan: *const u8, len: usize, kind: u64, out: *mut u8, out_len: usize) -> u64;
     fn yaffledesk_sheet(plan: *const u8, len: usize, kind: u64, page: u64, out: *mut u8, out_len: usize) -> u64;
+    fn yaffledesk_trim(plan: *const u8, len: usize, out: *mut u8, out_len: usize) -> u64;
     fn yaffledesk_overload(plan: *const u8, len: usize, out: *mut u8, out_len: usize) -> u64;
     fn yaffledesk_crew_check(
         plan: *const u8,
@@ -95,6 +96,15 @@ impl Planner {
         let (out, length) = (self.bytes.pointer(), self.bytes.length());
         // SAFETY: as in `flow`.
         let answer = unsafe { yaffledesk_sheet(self.plan.pointer(), self.plan.length(), kind, page, out, length) };
+        reply(answer, &self.bytes, harm_to_input(&self.plan, plan))
+    }
+
+    pub fn trim(&mut self, plan: &[u8], lent: &[u8]) -> Reply<u8> {
+        self.lend_plan("Trim", plan);
+        self.bytes.fill(lent);
+        let (out, length) = (self.bytes.pointer(), self.bytes.length());
+        // SAFETY: as in `flow`.
+        let answer = unsafe { yaffledesk_trim(self.plan.pointer(), self.plan.length(), out, length) };
         reply(answer, &self.bytes, harm_to_input(&self.plan, plan))
     }
 

@@ -153,6 +153,9 @@ fn lowest_kind(bench: &mut Bench) {
                 expect(bench, &file, "Sheet", |bench| sheet(bench, 2_460), due);
             }
         }
+        let trim = |bench: &mut Bench, length| bench.planner.trim(&file, &vec![0; length]).answer;
+        expect(bench, &file, "Trim", |bench| trim(bench, 95), answer(9, 96));
+        expect(bench, &file, "Trim", |bench| trim(bench, 96), if due & 255 == 7 { due } else { answer(0, 4) });
         expect(bench, &file, "Flow", |bench| bench.planner.flow(&file, 4, &[]).answer, answer(8, 3));
         expect(bench, &file, "Sheet", |bench| bench.planner.sheet(&file, 4, 1, &[]).answer, answer(8, 3));
         bench.all(&Case::new(file));
@@ -174,11 +177,17 @@ fn order_of_causes(bench: &mut Bench) {
     asks(&over, "Needs", |bench, file| bench.planner.needs(file, &[5; 2]).answer, answer(0, 1));
     asks(&over, "Starts", |bench, file| bench.planner.starts(file, &[5; 4]).answer, answer(9, 5));
     asks(&over, "Starts", |bench, file| bench.planner.starts(file, &[5; 6]).answer, answer(0, 5));
+    // Trim asks for as many bytes as the file has, also where it refuses the plan or leaves less of it.
+    asks(&over, "Trim", |bench, file| bench.planner.trim(file, &[5; 119]).answer, answer(9, 120));
+    asks(&over, "Trim", |bench, file| bench.planner.trim(file, &[5; 120]).answer, overloaded(1, 8, 4));
+    asks(&fine, "Trim", |bench, file| bench.planner.trim(file, &[5; 167]).answer, answer(9, 168));
+    asks(&fine, "Trim", |bench, file| bench.planner.trim(file, &[5; 168]).answer, answer(0, 7));
     // Circles come before everything that concerns what is lent or asked.
     asks(&round, "Needs", |bench, file| bench.planner.needs(file, &[]).answer, answer(6, 1));
     asks(&round, "Starts", |bench, file| bench.planner.starts(file, &[]).answer, answer(6, 1));
     asks(&round, "Overload", |bench, file| bench.planner.overload(file, &[]).answer, answer(6, 1));
     asks(&round, "Flow", |bench, file| bench.planner.flow(file, 0, &[]).answer, answer(6, 1));
+    asks(&round, "Trim", |bench, file| bench.planner.trim(file, &[]).answer, answer(6, 1));
     asks(&round, "Crew check", |bench, file| bench.planner.crew_check(file, &[], &[]).answer, answer(6, 1));
     asks(&fine, "Flow", |bench, file| bench.planner.flow(file, 0, &[]).answer, answer(8, 1));
     asks(&fine, "Flow", |bench, file| bench.planner.flow(file, 1, &[]).answer, answer(9, 24 * 15));

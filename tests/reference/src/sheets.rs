@@ -174,7 +174,8 @@ fn stored(bench: &mut Bench) {
         }
     }
     let folder = fs::read_dir(STORED).expect("there are stored pages").flatten();
-    let there: BTreeSet<String> = folder.map(|entry| entry.file_name().to_string_lossy().into_owned()).collect();
+    let stored = folder.map(|entry| entry.file_name().to_string_lossy().into_owned());
+    let there: BTreeSet<String> = stored.filter(|name| name.ends_with(".txt")).collect();
     let differ = || Err(format!("{there:?} are stored, not {names:?}"));
     bench.tally.count(&[], "stored sheet", if there == names { Ok(()) } else { differ() });
 }

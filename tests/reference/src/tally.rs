@@ -11,17 +11,18 @@ pub const OVERLOAD: u64 = 255;
 /// What every operation refuses of a file by itself, in the order in which it is tested.
 const FILE: [u64; 8] = [1, 2, 3, 12, 4, 13, 5, 6];
 /// The operations, each with what else it answers.
-const OTHERS: [(&str, &[u64]); 7] = [
+const OTHERS: [(&str, &[u64]); 8] = [
     ("Verdict", &[7, 0]),
     ("Needs", &[9, 0]),
     ("Starts", &[9, 0]),
     ("Overload", &[9, 0]),
     ("Flow", &[8, 9, 7, 0]),
     ("Sheet", &[8, 9, 7, 11, 0]),
+    ("Trim", &[9, 7, 0]),
     ("Crew check", &[10, BROKEN, OVERLOAD, 0]),
 ];
 /// What a number alone does not say.
-const NOTES: [&str; 25] = [
+const NOTES: [&str; 36] = [
     "no overload",
     "sheet of one page",
     "sheet of more pages",
@@ -47,6 +48,17 @@ const NOTES: [&str; 25] = [
     "handover through other jobs",
     "handover along an extra arc",
     "handover on a way with an extra arc",
+    "trim: no extra arc goes",
+    "trim: some extra arcs go",
+    "trim: all extra arcs go",
+    "trim: of an arc in both types the extra arc goes",
+    "trim: an arc stays for its wait alone",
+    "trim: an arc with a wait is needed",
+    "trim: an arc stays for a kind above 1",
+    "trim: otherwise in file order",
+    "trim: otherwise from the last arc on",
+    "trim: otherwise by to, then from",
+    "trim: arcs stay out of the order of their ends",
 ];
 
 #[derive(Default)]

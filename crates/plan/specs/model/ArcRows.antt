@@ -1,5 +1,5 @@
--- The arcs of the records that a test picks (those of a type) as a table of sets, record by record: what a reader knows before the record at a place. Assumes nothing.
-use mathlib.Core.Bool.{Bool, cond}
+-- The arcs of the records that a test picks (those of a type, the extra arcs with wait 0) as a table of sets, record by record: what a reader knows before the record at a place. Assumes nothing.
+use mathlib.Core.Bool.{Bool, not, cond, _&&_, _||_}
 use mathlib.Core.List.{List}
 use Prim.Native.Nat.{ℕ, zero, suc, _-_, _≤_}
 use lib.Dec.{eqb}
@@ -8,7 +8,7 @@ use Rattle.words.specs.Bits.{withBit}
 use Rattle.records.specs.Bytes.{byte}
 use Rattle.order.specs.Rows.{after}
 use Rattle.order.specs.Stored.{elements, cells, row, putRow}
-use Rattle.plan.specs.Records.{recordAt, recordCount}
+use Rattle.plan.specs.Records.{recordAt, recordCount, typeAt, waitIn}
 
 -- a record whose arc can be looked up and stored: its ends are elements, counted from 1
 abbrev pub ArcRecord : List ℕ → Type 0
@@ -21,6 +21,10 @@ withArc r rows = putRow rows (byte r 1 - 1) (withBit (row rows (byte r 1 - 1)) (
 -- whether the arcs have that of a record
 abbrev pub hasArc : List ℕ → List ℕ → Bool
 hasArc rows r = after rows (byte r 1 - 1) (byte r 2 - 1)
+
+-- whether the record at a place stays where the extra arcs of the file become those of the rows: of the extra arcs (type 4), those that the rows have
+abbrev pub staysBy : List ℕ → List ℕ → ℕ → Bool
+staysBy rows s p = not (eqb (typeAt s p) 4) || hasArc rows (recordAt s p)
 
 -- ---- the arcs of the records that a test picks
 
@@ -48,3 +52,16 @@ arcsUpTo s type p = pickedUpTo s (isOf type) p
 
 abbrev pub arcRows : List ℕ → ℕ → List ℕ
 arcRows s type = arcsUpTo s type (recordCount s)
+
+-- ---- the extra arcs with wait 0
+
+-- a record is an extra arc (type 4) with wait 0
+abbrev pub isFree : List ℕ → Bool
+isFree r = eqb (byte r 0) 4 && eqb (waitIn r) 0
+
+-- after record p of t
+abbrev pub putFree : List ℕ → ℕ → List ℕ → List ℕ
+putFree t p rows = pickedAfter isFree (recordAt t p) rows
+
+abbrev pub freeRows : List ℕ → List ℕ
+freeRows s = pickedUpTo s isFree (recordCount s)

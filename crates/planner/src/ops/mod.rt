@@ -5,4 +5,5 @@ pub mod needs;
 pub mod overload;
 pub mod sheet;
 pub mod starts;
+pub mod trim;
 pub mod verdict;
