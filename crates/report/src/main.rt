@@ -1,22 +1,15 @@
 // The report: reads a plan on standard input and prints its report on standard output (document 01, "Plans A to F"). The whole text is made by one proved
-// function, `report_text`.
+// function, `report_text` of report_lines.
 ghost use mathlib.Core.Path.{_≡_};
 ghost use lib.ListN.{length};
-ghost use Rattle.report.specs.Report.{textRoom};
-use plan::ACTIVITIES;
-
-mod text;
-
-// The most records that a flow has, and the most bytes that a report has (`mostRecords` and `textRoom` of the specs).
-const RECORDS: usize = ACTIVITIES * (ACTIVITIES - 1) / 2 + 2 * ACTIVITIES + 1;
-
-const TEXT: usize = 1024 + 48 * ACTIVITIES + 8 * (32 * RECORDS) + 78;
+ghost use Rattle.report_lines.specs.Report.{textRoom};
+use report_lines::REPORT_BYTES;
 
 // Zeros, for the whole text: as many as `report_text` asks for.
-fn text_buffer() -> [u8; TEXT]
+fn text_buffer() -> [u8; REPORT_BYTES]
     ensures { λ r. ⌜ textRoom ≡ length r ⌝ }
 {
-    [0; TEXT]
+    [0; REPORT_BYTES]
 }
 
 // A program has no exit status of its own in Rattle: that output is lost is said on standard error.
@@ -31,6 +24,6 @@ fn main() {
     let mut input = io::large_buffer();
     let n = io::read_full(0, &mut input);
     let mut out = text_buffer();
-    let end = text::report_text(&mut out, &input[..n]);
+    let end = report_lines::report_text(&mut out, &input[..n]);
     print_text(&out[..end]);
 }

@@ -1,4 +1,7 @@
--- Laws of the report's lines. Assumes nothing.
+-- Laws of the report's lines, of what the planner answers of an accepted plan, and of the whole report. Assumes nothing.
 pub mod HeadLines
 pub mod FlowLines
 pub mod RefusalLine
+pub mod Accepted
+pub mod KindLines
+pub mod Whole

@@ -1,2 +1,3 @@
--- The lines of the report (document 01, "Plans A to F"); the whole report, made of them, is `reportOf` of the crate `report`.
+-- The report (document 01, "Plans A to F"): its lines, and `reportOf`, the whole of it, made of them.
 pub mod Lines
+pub mod Report

@@ -2,7 +2,7 @@
 use mathlib.Core.Path.{sym}
 use Prim.Native.Nat.{ℕ}
 use lib.ListN.{length-replicate}
-use Rattle.report.specs.Report.{textRoom}
+use Rattle.report_lines.specs.Report.{textRoom}
 use Rattle.report.proofs.text_buffer.Statement.{statement}
 use Rattle.report.proofs.text_buffer.Tie as tie
 

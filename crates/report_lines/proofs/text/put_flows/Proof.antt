@@ -1,15 +1,15 @@
--- `report::text::put_flows` meets its contract: each turn writes the lines of a kind more (`Putting`). Assumes nothing.
+-- `report_lines::text::put_flows` meets its contract: each turn writes the lines of a kind more (`Putting`). Assumes nothing.
 use mathlib.Core.Path.{_≡_, ap, _∙_}
 use Prim.Native.Nat.{ℕ, _+_, _-_}
 use native.Mathlib.Omega.{arith}
 use borrow.Author.Needs.{needs}
 use Rattle.lines.specs.Text.{text, more}
 use Rattle.planner.specs.Open.{planIn}
-use Rattle.report.specs.Report.{flowRoom, kindLines}
+use Rattle.report_lines.specs.Report.{flowRoom, kindLines}
 use Rattle.lines.proofs.Texts.{grown-by}
 use Rattle.lines.proofs.Putting.{Putting, putting-none, putting-length, putting-next, putting-end}
-use Rattle.report.proofs.text.put_flows.Statement.{statement}
-use Rattle.report.proofs.text.put_flows.Tie as tie
+use Rattle.report_lines.proofs.text.put_flows.Statement.{statement}
+use Rattle.report_lines.proofs.text.put_flows.Tie as tie
 
 abbrev Inv-loop : tie.InvT-loop
 Inv-loop out₀ at s n end₀ k₀ out end k = Putting (kindLines (planIn s)) flowRoom n at out₀ k end out

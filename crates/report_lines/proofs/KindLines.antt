@@ -11,10 +11,10 @@ use Rattle.planner.specs.declared.Cause.{Cause}
 use Rattle.planner.specs.declared.Output.{Output}
 use Rattle.planner.specs.declared.Output.the-variants.{Written, Refused}
 use Rattle.planner.proofs.FlowUnits.{records-length}
 use Rattle.report_lines.specs.Lines.{flowLines}
 use Rattle.report_lines.proofs.FlowLines.{flow-front}
-use Rattle.report.specs.Report.{Accepts, kindLines}
-use Rattle.report.proofs.Accepted.{flow-few, flow-answers, flow-writes}
+use Rattle.report_lines.specs.Report.{Accepts, kindLines}
+use Rattle.report_lines.proofs.Accepted.{flow-few, flow-answers, flow-writes}
 
 -- what the code holds: `old` are the bytes that it lent, and `r` is the answer
 module _ (s : List ℕ) (fine : Accepts s) (kind : ℕ) (some : 1 ≤ kind) (within : kind ≤ planIn s .kinds)

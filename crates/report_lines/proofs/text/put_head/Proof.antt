@@ -1,10 +1,10 @@
--- `report::text::put_head` meets its contract: the numbers that were lent are the plan's (`head-read`). Assumes nothing.
+-- `report_lines::text::put_head` meets its contract: the numbers that were lent are the plan's (`head-read`). Assumes nothing.
 use native.Mathlib.Omega.{arith}
 use borrow.Author.Needs.{needs}
 use Rattle.lines.specs.Text.{text}
-use Rattle.report.proofs.Whole.{sizes-few, head-read}
-use Rattle.report.proofs.text.put_head.Statement.{statement}
-use Rattle.report.proofs.text.put_head.Tie as tie
+use Rattle.report_lines.proofs.Whole.{sizes-few, head-read}
+use Rattle.report_lines.proofs.text.put_head.Statement.{statement}
+use Rattle.report_lines.proofs.text.put_head.Tie as tie
 
 head-text-requires : tie.Need-head-text-requires
 head-text-requires c κs =

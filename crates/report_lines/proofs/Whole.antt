@@ -5,7 +5,6 @@ use Prim.Native.Nat.{ℕ, _+_, _*_, _≤_}
 use native.Mathlib.Omega.{arith}
 use lib.ListN.{length}
 use lib.Seq.{length-take-le}
-use Rattle.io.specs.Counts.{Counts}
 use Rattle.records.specs.Records.{joined}
 use Rattle.lines.specs.Text.{Text, text, more}
 use Rattle.lines.proofs.Texts.{more-more, grown, grown-by}
@@ -19,10 +18,10 @@ use Rattle.planner.specs.Starts.{startNumbers, startsOut}
 use Rattle.planner.specs.declared.Decision.{Decision}
 use Rattle.planner.proofs.OpenLaws.{count-within}
 use Rattle.planner.proofs.QuotedNeeds.{kinds-few}
 use Rattle.report_lines.specs.Lines.{headRoom, headLines}
 use Rattle.report_lines.proofs.HeadLines.{head-short, head-same}
-use Rattle.report.specs.Report.{flowRoom, textRoom, Accepts, kindLines, planLines, reportBy, reportOf}
-use Rattle.report.proofs.Accepted.{need-front, start-front}
+use Rattle.report_lines.specs.Report.{flowRoom, textRoom, Accepts, kindLines, planLines, reportBy, reportOf, Counts}
+use Rattle.report_lines.proofs.Accepted.{need-front, start-front}
 
 -- so many bytes at the front of a list that has them
 pub counts-within : (r : ℕ) (out : List ℕ) → r ≤ length out → Counts r out

@@ -27,7 +27,7 @@ use Rattle.planner.proofs.NeedsLaws.{length-numbers as length-needs}
 use Rattle.planner.proofs.StartsLaws.{length-numbers as length-starts}
 use Rattle.planner.proofs.FlowLaws.{kind-some, fine-flow, not-over}
 use Rattle.planner.proofs.FlowUnits.{count-room, length-few}
-use Rattle.report.specs.Report.{Accepts}
+use Rattle.report_lines.specs.Report.{Accepts}
 
 -- ---- Verdict
 

@@ -1,11 +1,11 @@
--- `report::text::put_flow` meets its contract: the lines are those of what Flow wrote (`written-lines`), and it does not refuse (`not-refused`). Assumes nothing.
+-- `report_lines::text::put_flow` meets its contract: the lines are those of what Flow wrote (`written-lines`), and it does not refuse (`not-refused`). Assumes nothing.
 use mathlib.Core.Path.{ap, _∙_}
 use native.Mathlib.Omega.{arith}
 use borrow.Author.Needs.{needs}
 use Rattle.lines.specs.Text.{text, more}
-use Rattle.report.proofs.KindLines.{not-refused, written-lines}
-use Rattle.report.proofs.text.put_flow.Statement.{statement}
-use Rattle.report.proofs.text.put_flow.Tie as tie
+use Rattle.report_lines.proofs.KindLines.{not-refused, written-lines}
+use Rattle.report_lines.proofs.text.put_flow.Statement.{statement}
+use Rattle.report_lines.proofs.text.put_flow.Tie as tie
 
 put-records-requires : tie.Need-put-records-requires
 put-records-requires c κs =

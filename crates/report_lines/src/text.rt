@@ -2,22 +2,21 @@
 ghost use mathlib.Core.Path.{_≡_};
 ghost use Prim.Native.Nat.{ℕ, _+_, _-_, _*_, _≤_};
 ghost use lib.ListN.{length};
-ghost use Rattle.io.specs.Counts.{Counts};
 ghost use Rattle.lines.specs.Text.{text, more};
 ghost use Rattle.records.specs.Records.{joined};
 ghost use Rattle.planner.specs.Open.{planIn};
 ghost use Rattle.planner.specs.Flow.{mostRecords};
 ghost use Rattle.planner.specs.Needs.{needNumbers};
 ghost use Rattle.planner.specs.Starts.{startNumbers};
 ghost use Rattle.report_lines.specs.Lines.{headLines, headRoom};
-ghost use Rattle.report.specs.Report.{flowRoom, textRoom, kindLines, planLines, reportOf, Accepts};
+ghost use Rattle.report_lines.specs.Report.{flowRoom, textRoom, kindLines, planLines, reportOf, Accepts, Counts};
 use crate::RECORDS;
+use crate::flows::put_records;
+use crate::head::head_text;
+use crate::refusal::refused_text;
 use plan::ACTIVITIES;
 use planner::Decision;
 use planner::Output;
-use report_lines::head_text;
-use report_lines::put_records;
-use report_lines::refused_text;
 
 // How many bytes the records of a flow take.
 const FLOW: usize = 24 * RECORDS;

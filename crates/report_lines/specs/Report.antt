@@ -1,8 +1,9 @@
--- THE REPORT of a file's bytes (document 01, "Plans A to F"): `reportOf`. Its lines are those of report_lines. Assumes nothing.
+-- THE REPORT of a file's bytes (document 01, "Plans A to F"): `reportOf`, which `report_text` of src/text.rt writes. Its lines are those of Lines. Assumes nothing.
 use mathlib.Core.Path.{_≡_}
 use mathlib.Core.Bool.{true}
 use mathlib.Core.List.{List, _++_}
-use Prim.Native.Nat.{ℕ, _+_, _*_}
+use Prim.Native.Nat.{ℕ, _+_, _*_, _≤_}
+use lib.ListN.{length, take}
 use Rattle.records.specs.Records.{joined}
 use Rattle.plan.specs.declared.Plan.{Plan}
 use Rattle.planner.specs.Faults.{isFine}
@@ -42,3 +43,8 @@ reportOf s = reportBy (verdictAnswer s) s
 -- Verdict accepts the plan: it meets none of Verdict's causes
 abbrev pub Accepts : List ℕ → Type 0
 Accepts s = isFine (verdictFault s) ≡ true
+
+-- n counts bytes at the front of xs: the kit's `Counts` of `io`, word for word, since a library has no use for the rest of `io`. (A caller's `&out[..n]` then
+-- needs no proof file.)
+abbrev pub Counts : ℕ → List ℕ → Type 0
+Counts n xs = (n ≤ length xs) × (n ≡ length (take n xs))

@@ -1,11 +1,11 @@
--- `report::text::report_text` meets its contract, by Verdict's answer (`report-is`). Assumes nothing.
+-- `report_lines::text::report_text` meets its contract, by Verdict's answer (`report-is`). Assumes nothing.
 use mathlib.Core.Path.{ap, _∙_}
 use borrow.Author.Needs.{needs}
 use Rattle.lines.specs.Text.{text, more}
-use Rattle.report.proofs.Accepted.{accepted}
-use Rattle.report.proofs.Whole.{report-is, counts-within}
-use Rattle.report.proofs.text.report_text.Statement.{statement}
-use Rattle.report.proofs.text.report_text.Tie as tie
+use Rattle.report_lines.proofs.Accepted.{accepted}
+use Rattle.report_lines.proofs.Whole.{report-is, counts-within}
+use Rattle.report_lines.proofs.text.report_text.Statement.{statement}
+use Rattle.report_lines.proofs.text.report_text.Tie as tie
 
 put-plan-requires : tie.Need-put-plan-requires
 put-plan-requires c κs =

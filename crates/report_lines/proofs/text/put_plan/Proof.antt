@@ -1,10 +1,10 @@
--- `report::text::put_plan` meets its contract: the head, and the flows behind it (`plan-end`). Assumes nothing.
+-- `report_lines::text::put_plan` meets its contract: the head, and the flows behind it (`plan-end`). Assumes nothing.
 use native.Mathlib.Nat.{le-of-eq}
 use native.Mathlib.Omega.{arith}
 use borrow.Author.Needs.{needs}
-use Rattle.report.proofs.Whole.{flows-room, plan-end}
-use Rattle.report.proofs.text.put_plan.Statement.{statement}
-use Rattle.report.proofs.text.put_plan.Tie as tie
+use Rattle.report_lines.proofs.Whole.{flows-room, plan-end}
+use Rattle.report_lines.proofs.text.put_plan.Statement.{statement}
+use Rattle.report_lines.proofs.text.put_plan.Tie as tie
 
 put-flows-requires : tie.Need-put-flows-requires
 put-flows-requires c κs =
