@@ -5,3 +5,4 @@ pub mod RefusalLine
 pub mod Accepted
 pub mod KindLines
 pub mod Whole
+pub mod ReportLength

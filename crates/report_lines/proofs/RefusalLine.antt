@@ -4,7 +4,7 @@ use mathlib.Core.List.{List, [], _∷_, _++_, map, append-nil}
 use Prim.Native.Nat.{ℕ, zero, suc, min, _+_, _/_, _%_, _≤_, _<_}
 use native.Mathlib.Omega.{arith}
 use native.Mathlib.Numerals.{add-one}
-use lib.ListN.{length, set, take, length-set}
+use lib.ListN.{length, set, take, length-set, length-append, length-take}
 use lib.Seq.{length-take-le}
 use Rattle.lines.specs.Text.{lineOf, text, more}
 use Rattle.lines.proofs.Texts.{grown, line-length}
@@ -14,8 +14,10 @@ use Rattle.words.specs.Bits.{bit, rest}
 use Rattle.words.specs.Members.{first}
 use Rattle.words.specs.Listing.{lead, members}
 use Rattle.words.proofs.Members.{members-none, members-more}
-use Rattle.planner.specs.Numbers.{plain}
-use Rattle.report_lines.specs.Lines.{refusedWord, refusalNumbers, slots, refusedRoom}
+use Rattle.planner.specs.Numbers.{plain, refusalOf}
+use Rattle.planner.specs.declared.Cause.{Cause}
+use Rattle.planner.specs.declared.Refusal.{Refusal}
+use Rattle.report_lines.specs.Lines.{refusedWord, refusalNumbers, refusedNumbers, refusedLine, slots, refusedRoom}
 
 -- ---- numbers at the front
 
@@ -56,6 +58,22 @@ unfolding members
 length-members zero w = omega arith
 length-members (suc k) w =
     omega (arith, length-lead (w % 2) (map suc (members k (w / 2))), length-map (members k (w / 2)), length-members k (w / 2))
+
+-- no cause has more numbers than there are slots, and its line has room
+pub refused-short : (c : Cause) → length (refusedLine c) ≤ refusedRoom
+unfolding refusedLine
+refused-short c =
+    let r : Refusal = refusalOf c in
+    let set : List ℕ = members elements (numberOf (r .set)) in
+    let values : List ℕ = take (r .values) (r .first ∷ r .second ∷ []) in
+    omega (
+      arith,
+      line-length refusedWord (refusedNumbers c),
+      length-append values (map suc set),
+      length-take (r .values) (r .first ∷ r .second ∷ []),
+      length-map set,
+      length-members elements (numberOf (r .set)),
+    )
 
 -- the list with one number more of it set
 take-set : (b : ℕ) (ys : List ℕ) (n : ℕ) (xs : List ℕ) → n < length xs → take (suc n) (set xs n b) ++ ys ≡ take n xs ++ (b ∷ ys)

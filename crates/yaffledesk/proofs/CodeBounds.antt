@@ -1,19 +1,20 @@
 -- Every answer's code is a number of 64 bits, and so is the set that Verdict shows: of every plan's bytes, and whatever is lent. Assumes nothing.
 --
---   verdict-small, needs-small, starts-small, overload-small, flow-small, sheet-small, trim-small, crew-small    the operations
+--   verdict-small, needs-small, starts-small, overload-small, flow-small, sheet-small, trim-small, report-small, crew-small    the operations
 use mathlib.Core.Path.{_≡_, refl, sym, subst}
 use mathlib.Core.Bool.{true, cond}
 use mathlib.Core.List.{List}
 use Prim.Native.Nat.{ℕ, _+_, _-_, _^_, _≤_, _<_}
 use native.Mathlib.Omega.{arith}
 use lib.Dec.{ltb}
-use lib.ListN.{getD}
+use lib.ListN.{length, getD}
 use lib.Pow.{pow-pos}
 use Rattle.words.proofs.Counts.{count-le}
 use Rattle.words.proofs.Tests.{cond-has, cond-least}
 use Rattle.records.specs.Bytes.{AreBytes}
 use Rattle.order.specs.Stored.{elements}
 use Rattle.order.specs.Sets.{member}
+use Rattle.order.proofs.Stored.{number-none}
 use Rattle.plan.specs.Records.{recordCount, activities}
 use Rattle.schedule.specs.Network.{Network}
 use Rattle.schedule.specs.Checks.{Work, brokenTo, brokenFrom, lowestKind, firstPeriod, checkOf}
@@ -34,10 +35,13 @@ use Rattle.planner.specs.Sheet.{sheetPages, sheetFault, sheetAnswer}
 use Rattle.planner.specs.Trim.{trimmedFile, trimFault, trimAnswer}
 use Rattle.planner.specs.Overload.{overloadFault, overCount, overloadAnswer}
 use Rattle.planner.specs.CrewCheck.{crewCheckFault, crewWork, crewArcs, crewFound, checkedOf, crewCheckAnswer}
+use Rattle.planner.specs.declared.Cause.{Cause}
+use Rattle.planner.specs.declared.Cause.the-variants.{Short}
 use Rattle.planner.specs.declared.Fault.{Fault}
 use Rattle.planner.specs.declared.Output.{Output}
 use Rattle.planner.specs.declared.Refusal.{Refusal}
 use Rattle.planner.specs.declared.Fault.the-variants.{Fine, Refused}
+use Rattle.planner.proofs.FaultLaws.{every-fine, every-turn}
 use Rattle.planner.proofs.OpenLaws.{count-few}
 use Rattle.planner.proofs.QuotedNeeds.{kinds-few}
 use Rattle.planner.proofs.FlowLaws.{flow-few}
@@ -45,7 +49,10 @@ use Rattle.planner.proofs.SheetLaws.{sheet-few}
 use Rattle.planner.proofs.TrimLaws.{trim-few}
 use Rattle.planner.proofs.CrewCheckLaws.{crew-fine}
 use Rattle.planner.proofs.RefusalBounds.{Small, SmallFault, verdict-refuses, needs-refuses, starts-refuses, overload-refuses, flow-refuses, sheet-refuses, trim-refuses, crew-refuses}
+use Rattle.report_lines.specs.Report.{textRoom, reportOf}
+use Rattle.report_lines.proofs.ReportLength.{report-short}
 use Rattle.yaffledesk.specs.Codes.{refusalCode, verdictCode, outputCode, foundCode, crewCheckCode, shownWord}
+use Rattle.yaffledesk.specs.Report.{reportFault, reportAnswer}
 
 -- ---- a refusal, by what it tells: a set has at most all members
 
@@ -98,6 +105,17 @@ sheet-small s small kind page n =
 
 pub trim-small : (s : List ℕ) → AreBytes s → (n : ℕ) → outputCode (trimAnswer s n) < 2 ^ 64
 trim-small s small n = output-small (trimFault s n) (recordCount (trimmedFile s)) (trim-refuses s small n) (λ e. omega (arith, trim-few s n e))
+
+-- ---- the report, by its own cause and the room for its text
+
+report-refuses : (n : ℕ) → SmallFault (reportFault n)
+report-refuses n =
+    let P : Cause → Type 0 = λ (c : Cause). Small (refusalOf c) in
+    every-turn P Fine (ltb n textRoom) (Short textRoom) (every-fine P)
+    (λ _ _. record { number = omega arith; first = omega arith; second = omega arith; members = rw number-none (pow-pos activities) })
+
+pub report-small : (s : List ℕ) → AreBytes s → (n : ℕ) → outputCode (reportAnswer s n) < 2 ^ 64
+report-small s small n = output-small (reportFault n) (length (reportOf s)) (report-refuses n) (λ e. omega (arith, report-short s small))
 
 -- ---- Crew check
 

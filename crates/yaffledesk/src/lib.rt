@@ -1,4 +1,4 @@
-// The planner's operations for C: numbers and slices only. Every answer is one number of 64 bits. Its low 8 bits are the number of document 01, 0 where the
+// The planner's operations and the report for C: numbers and slices only. Every answer is one number of 64 bits. Its low 8 bits are the number of document 01, 0 where the
 // operation is done; the bits above are its values. `include/yaffledesk.h` is the same for a C reader.
 ghost use mathlib.Core.Path.{_≡_};
 ghost use lib.ListN.{length};
@@ -11,12 +11,15 @@ ghost use Rattle.planner.specs.Trim.{trimAnswer, trimOut};
 ghost use Rattle.planner.specs.Overload.{overloadAnswer, overloadOut};
 ghost use Rattle.planner.specs.CrewCheck.{crewCheckAnswer};
 ghost use Rattle.yaffledesk.specs.Codes.{verdictCode, outputCode, crewCheckCode, shownWord};
+ghost use Rattle.yaffledesk.specs.Report.{reportAnswer, reportOut};
 use codes::crew_check_code;
 use codes::output_code;
 use codes::shown_word;
 use codes::verdict_code;
+use text::write_report;
 
 mod codes;
+mod text;
 
 // Verdict: m + 256 * K where the plan is accepted.
 #[no_mangle]
@@ -94,4 +97,13 @@ pub extern "C" fn yaffledesk_crew_check(plan: &[u8], starts: &[u32], durations: 
     ensures { λ r. ⌜ r ≡ crewCheckCode (crewCheckAnswer (now (plan .entry)) (now (starts .entry)) (now (durations .entry))) ⌝ }
 {
     crew_check_code(planner::crew_check(plan, starts, durations))
+}
+
+// The report of a plan, of a refused one too: how many bytes of text are written to the front of `out`.
+#[no_mangle]
+pub extern "C" fn yaffledesk_report(plan: &[u8], out: &mut [u8]) -> u64
+    ensures { λ r. ⌜ r ≡ outputCode (reportAnswer (now (plan .entry)) (length (now (out .entry)))) ⌝ }
+    ensures { λ _. ⌜ now (out .exit) ≡ reportOut (now (plan .entry)) (now (out .entry)) ⌝ }
+{
+    output_code(write_report(plan, out))
 }
