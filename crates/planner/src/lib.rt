@@ -7,6 +7,7 @@ mod open;
 mod ops;
 
 pub use numbers::refusal_of;
+pub use open::available;
 pub use ops::crew_check::crew_check;
 pub use ops::flow::flow;
 pub use ops::needs::needs;

@@ -1,6 +1,6 @@
 // What every operation does first, in two steps: it reads the plan's bytes, and then builds the orders and looks for a circle in each.
 ghost use mathlib.Core.Path.{_≡_};
-ghost use Rattle.planner.specs.Open.{unreadFault, orCircles};
+ghost use Rattle.planner.specs.Open.{planIn, unreadFault, orCircles};
 ghost use Rattle.planner.specs.model.Opening.{readPlan, orderedOf, openedOf};
 use crate::Cause;
 use crate::Fault;
@@ -81,4 +81,14 @@ pub fn open_plan(s: &[u8]) -> Opened
     let q = read.plan;
     let fault = read.fault;
     ordered(q, fault)
+}
+
+// How much of each kind is available, for the report: all else that it says is what operations write. (By way of `open_plan`, which all operations call: a second
+// caller of `plan::read` would make that a function of its own, and every operation would pay for the copy of a plan.)
+pub fn available(s: &[u8]) -> [u32; 8]
+    ensures { λ r. ⌜ r ≡ planIn (now (s .entry)) .available ⌝ }
+{
+    let opened = open_plan(s);
+    let q = opened.plan;
+    q.available
 }

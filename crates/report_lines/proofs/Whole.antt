@@ -9,8 +9,6 @@ use Rattle.records.specs.Records.{joined}
 use Rattle.lines.specs.Text.{Text, text, more}
 use Rattle.lines.proofs.Texts.{more-more, grown, grown-by}
 use Rattle.plan.specs.Records.{activities as most}
-use Rattle.plan.specs.model.Reads.{readOf}
-use Rattle.plan.specs.declared.Reading.{Reading}
 use Rattle.planner.specs.Open.{planIn}
 use Rattle.planner.specs.Verdict.{verdictAnswer}
 use Rattle.planner.specs.Needs.{needNumbers, needsOut}
@@ -35,13 +33,13 @@ module _ (s : List ℕ) {m n : ℕ} (activities : m ≡ planIn s .count) (kinds 
   pub sizes-few : (m ≤ most) × (n ≤ 8)
   sizes-few = (omega (arith, count-within s), omega (arith, kinds-few s))
 
-  -- what the code holds: `needs` and `starts` are what it lent, `r` is what it read
-  pub head-read : Accepts s → (needs starts : List ℕ) {needs′ starts′ : List ℕ} {r : Reading} → 8 ≤ length needs → most + 1 ≤ length starts
-      → needs′ ≡ needsOut s needs → starts′ ≡ startsOut s starts → r ≡ readOf s
-      → (t : Text) {u : Text} → u ≡ more t (headLines m n needs′ (r .plan .available) starts′) → u ≡ more t (headOf s m n)
-  head-read fine needs starts {needs′} {starts′} {r} many long a b e t w =
+  -- what the code holds: `needs` and `starts` are what it lent, `available` is what it was told
+  pub head-read : Accepts s → (needs starts : List ℕ) {needs′ starts′ available : List ℕ} → 8 ≤ length needs → most + 1 ≤ length starts
+      → needs′ ≡ needsOut s needs → starts′ ≡ startsOut s starts → available ≡ planIn s .available
+      → (t : Text) {u : Text} → u ≡ more t (headLines m n needs′ available starts′) → u ≡ more t (headOf s m n)
+  head-read fine needs starts {needs′} {starts′} many long a b e t w =
       w
-      ∙ ap (λ (x : Reading). more t (headLines m n needs′ (x .plan .available) starts′)) e
+      ∙ ap (λ (x : List ℕ). more t (headLines m n needs′ x starts′)) e
       ∙ ap (more t)
       (head-same m n needs′ (needNumbers s) (planIn s .available) starts′ (startNumbers s)
       (λ k h. rw a (need-front s fine needs (omega (arith, sizes-few)) k (omega arith)))

@@ -67,9 +67,7 @@ fn put_head(out: &mut [u8], s: &[u8], m: usize, n: usize) -> usize
     planner::needs(s, &mut needs);
     let mut starts = [0u32; ACTIVITIES + 1];
     planner::starts(s, &mut starts);
-    let reading = plan::read(s);
-    let q = reading.plan;
-    let available = q.available;
+    let available = planner::available(s);
     head_text(out, m, n, &needs, &available, &starts)
 }
 
