@@ -20,7 +20,7 @@ uint64_t paint(size_t at) { return Random{at}.next(); }
 // ---- The calls ----
 
 uint32_t numbers[N + 1], starts[N], durations[N];
-uint8_t records[YAFFLEDESK_FLOW_BYTES(N)];
+uint8_t records[YAFFLEDESK_FLOW_BYTES(N)], text[YAFFLEDESK_REPORT_BYTES];
 std::vector<uint8_t> plan;
 uint64_t kind, page, answer;
 
@@ -34,6 +34,7 @@ void sheet() { answer = yaffledesk_sheet(plan.data(), plan.size(), kind, page, r
 void trim() { answer = yaffledesk_trim(plan.data(), plan.size(), records, sizeof records); }
 void overload() { answer = yaffledesk_overload(plan.data(), plan.size(), records, sizeof records); }
 void crew_check() { answer = yaffledesk_crew_check(plan.data(), plan.size(), starts, N, durations, N); }
+void report() { answer = yaffledesk_report(plan.data(), plan.size(), text, sizeof text); }
 
 struct Operation {
     const char *name;
@@ -43,7 +44,7 @@ struct Operation {
 } operations[] = {
     {"verdict", verdict, 0, {}}, {"set", set, 0, {}},           {"needs", needs, 0, {}},           {"starts", earliest, 0, {}},
     {"flow", flow, 0, {}},       {"sheet", sheet, 0, {}},       {"trim", trim, 0, {}},             {"overload", overload, 0, {}},
-    {"crew_check", crew_check, 0, {}},
+    {"crew_check", crew_check, 0, {}}, {"report", report, 0, {}},
 };
 Operation &flow_operation = operations[4], &sheet_operation = operations[5];
 

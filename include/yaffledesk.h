@@ -1,4 +1,4 @@
-/* Yaffledesk for C and C++: the planner's operations on the bytes of a plan file.
+/* Yaffledesk for C and C++: the planner's operations, and its report, on the bytes of a plan file.
  *
  * Link target/staticlib/libyaffledesk.a, which `rt staticlib yaffledesk` writes.
  *
@@ -44,7 +44,8 @@ extern "C" {
 enum {
     YAFFLEDESK_DONE = 0,              /* done; each operation says what its rest is */
 
-    /* The file's numbers. Every operation tests these first, in this order, and those with a record's place record by record. */
+    /* The file's numbers. Every operation but yaffledesk_report tests these first, in this order, and those with a record's place record
+     * by record. */
     YAFFLEDESK_BAD_LENGTH = 1,        /* length 0, not a multiple of 24, or over 49,152; rest 0 */
     YAFFLEDESK_BAD_TYPE = 2,          /* type unknown or out of order, or crew record missing; rest: the record's place, from 0; */
                                       /* where the crew record is missing, the count of records */
@@ -91,6 +92,7 @@ enum {
     YAFFLEDESK_RECORD_BYTES = 24,        /* any record: of a plan, of a flow, of an overload */
     YAFFLEDESK_OVERLOAD_BYTES = 24,      /* what yaffledesk_overload needs */
     YAFFLEDESK_SHEET_BYTES = 2460,       /* what yaffledesk_sheet needs: a page, 60 lines of 40 characters and a newline */
+    YAFFLEDESK_REPORT_BYTES = 553294,    /* what yaffledesk_report needs: room for the longest report */
     YAFFLEDESK_MOST_PLAN_BYTES = 49152,  /* 2,048 records */
     YAFFLEDESK_MOST_ACTIVITIES = 64,
     YAFFLEDESK_MOST_KINDS = 8
@@ -151,6 +153,11 @@ uint64_t yaffledesk_overload(const uint8_t *plan, size_t len, uint8_t *out, size
  * Never 7. Nothing is written. */
 uint64_t yaffledesk_crew_check(const uint8_t *plan, size_t len, const uint32_t *starts, size_t starts_len,
                                const uint32_t *durations, size_t durations_len);
+
+/* Writes the report of a plan as text, what the report program prints ("Reports" below says how). A plan that is refused has a report
+ * too, its line: so neither the file's numbers nor 7 are answers here. 0: how many bytes of text were written. Else 9 (needs
+ * YAFFLEDESK_REPORT_BYTES bytes, however short the report is), which is tested first, whatever the plan is. Never another number. */
+uint64_t yaffledesk_report(const uint8_t *plan, size_t len, uint8_t *out, size_t out_len);
 
 /* ---- Records ----
  *
@@ -215,6 +222,21 @@ static inline int yaffledesk_has(uint64_t set, unsigned i) {
  *
  * The start of a receiver is what yaffledesk_starts gives of it, waits and all, the end included. The lines ascend by that start, then
  * by from, then by to. A page has 59 records before the next begins; a sheet without any has one page. The added mark is not printed. */
+
+/* ---- Reports ----
+ *
+ * A report is lines of ASCII, each a word, numbers in decimal with a single blank before each, and a newline; no 0 stands at its end.
+ * Of an accepted plan they are, in this order:
+ *
+ *     plan      m, K
+ *     need      kind, need, available                  of each kind
+ *     start     activity, earliest start               of each activity
+ *     end       the end's start
+ *     flow      kind, from, to, units, added mark      of each record of each kind's flow, kinds ascending
+ *
+ * Of any other plan it is one line, by what yaffledesk_verdict answers:
+ *
+ *     refused   the number, and its rest: nothing (1), place (2 to 4, 12, 13), activity (5, 6), or kind, need and the set's members (7) */
 
 #ifdef __cplusplus
 }

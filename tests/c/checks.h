@@ -20,6 +20,7 @@ void repeats(void);
 void waits(void);
 void added(void);
 void trims(void);
+void reports(void);
 
 // Counts one check, and prints a line where it fails.
 extern unsigned passed, failed;

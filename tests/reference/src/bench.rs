@@ -16,6 +16,8 @@ pub struct Bench {
     pub planner: Planner,
     pub tally: Tally,
     pub random: Random,
+    /// A stream of its own for the reports, which not every plan has: a seed names the same plans with and without them.
+    pub reported: Random,
 }
 
 /// An answer as the interface packs it: the number in the low byte, its values above.
@@ -39,7 +41,8 @@ pub struct Due<T> {
 
 impl Bench {
     pub fn new(seed: u64) -> Bench {
-        Bench { planner: Planner::new(), tally: Tally::default(), random: Random::new(seed) }
+        let (random, reported) = (Random::new(seed), Random::new(!seed));
+        Bench { planner: Planner::new(), tally: Tally::default(), random, reported }
     }
 
     /// Every operation on one plan: lent slices exact, and too short or longer at random.
@@ -61,6 +64,7 @@ impl Bench {
         }
         self.sheets(case);
         self.trims(case);
+        self.reports(case);
         for _ in 0..3 {
             let (starts, durations) = crew::lists(&mut self.random, case);
             self.crew_check(case, &starts, &durations);

@@ -24,6 +24,7 @@ mod random;
 mod read;
 mod readings;
 mod repeats;
+mod reporting;
 mod sheet;
 mod sheets;
 mod sweep;

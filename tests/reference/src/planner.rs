@@ -13,6 +13,7 @@ extern "C" {
     fn yaffledesk_sheet(plan: *const u8, len: usize, kind: u64, page: u64, out: *mut u8, out_len: usize) -> u64;
     fn yaffledesk_trim(plan: *const u8, len: usize, out: *mut u8, out_len: usize) -> u64;
     fn yaffledesk_overload(plan: *const u8, len: usize, out: *mut u8, out_len: usize) -> u64;
+    fn yaffledesk_report(plan: *const u8, len: usize, out: *mut u8, out_len: usize) -> u64;
     fn yaffledesk_crew_check(
         plan: *const u8,
         len: usize,
@@ -33,6 +34,7 @@ pub struct Reply<T> {
 pub struct Planner {
     plan: Lent<u8>,
     bytes: Lent<u8>,
+    text: Lent<u8>,
     numbers: Lent<u32>,
     starts: Lent<u32>,
     durations: Lent<u32>,
@@ -43,6 +45,7 @@ impl Planner {
         Planner {
             plan: Lent::new(1 << 16),
             bytes: Lent::new(1 << 16),
+            text: Lent::new(1 << 20),
             numbers: Lent::new(1 << 12),
             starts: Lent::new(1 << 12),
             durations: Lent::new(1 << 12),
@@ -115,6 +118,15 @@ impl Planner {
         // SAFETY: as in `flow`.
         let answer = unsafe { yaffledesk_overload(self.plan.pointer(), self.plan.length(), out, length) };
         reply(answer, &self.bytes, harm_to_input(&self.plan, plan))
+    }
+
+    pub fn report(&mut self, plan: &[u8], lent: &[u8]) -> Reply<u8> {
+        self.lend_plan("Report", plan);
+        self.text.fill(lent);
+        let (out, length) = (self.text.pointer(), self.text.length());
+        // SAFETY: as in `flow`.
+        let answer = unsafe { yaffledesk_report(self.plan.pointer(), self.plan.length(), out, length) };
+        reply(answer, &self.text, harm_to_input(&self.plan, plan))
     }
 
     pub fn crew_check(&mut self, plan: &[u8], starts: &[u32], durations: &[u32]) -> Reply<u8> {

@@ -8,10 +8,10 @@ const MOST_PRINTED: u64 = 10;
 pub const BROKEN: u64 = 254;
 pub const OVERLOAD: u64 = 255;
 
-/// What every operation refuses of a file by itself, in the order in which it is tested.
+/// What every operation but the report refuses of a file by itself, in the order in which it is tested.
 const FILE: [u64; 8] = [1, 2, 3, 12, 4, 13, 5, 6];
 /// The operations, each with what else it answers.
-const OTHERS: [(&str, &[u64]); 8] = [
+const OTHERS: [(&str, &[u64]); 9] = [
     ("Verdict", &[7, 0]),
     ("Needs", &[9, 0]),
     ("Starts", &[9, 0]),
@@ -20,6 +20,7 @@ const OTHERS: [(&str, &[u64]); 8] = [
     ("Sheet", &[8, 9, 7, 11, 0]),
     ("Trim", &[9, 7, 0]),
     ("Crew check", &[10, BROKEN, OVERLOAD, 0]),
+    ("Report", &[9, 0]),
 ];
 /// What a number alone does not say.
 const NOTES: [&str; 36] = [
@@ -109,7 +110,9 @@ impl Tally {
     /// Prints how often each answer was seen; one that never was is a failure of its own.
     pub fn close(&mut self) {
         for (operation, others) in OTHERS {
-            let numbers = FILE.iter().chain(others);
+            // The report says in its text what of the file is refused.
+            let file: &[u64] = if operation == "Report" { &[] } else { &FILE };
+            let numbers = file.iter().chain(others);
             let seen: Vec<(u64, u64)> = numbers.map(|&number| (number, self.seen(operation, number))).collect();
             let words: Vec<String> = seen.iter().map(|(number, count)| format!("{number}:{count}")).collect();
             println!("seen of {operation}, number:count: {}", words.join(" "));
