@@ -1,0 +1,21 @@
+// What the commands on one plan share.
+#ifndef ONE_H
+#define ONE_H
+
+#include "options.h"
+#include "output.h"
+#include "refusal.h"
+
+// Makes a result of a plan, and gives the library's answer. With an answer other than 0 nothing of what it made is used.
+typedef uint64_t make(struct text *out, const struct plan *plan, const struct options *options, struct asked *asked);
+
+// Reads the plan that is named, makes the result, and writes it where it is asked for; else says why not. Gives the exit status.
+int one_run(const struct options *options, make *make, enum content content);
+
+// Reads the plan that is named; where it cannot be read, that is said.
+int one_read(struct plan *plan, const char *name);
+
+// Says that a plan is refused, and why.
+int one_refused(const char *name, uint64_t answer, const struct plan *plan, const struct asked *asked);
+
+#endif

@@ -1,0 +1,16 @@
+// A plan's line of the price list: its name, what the planner makes of it, and for each kind the need and what is available. A line depends on nothing but its
+// plan, so that lists can be made in parts; the columns are as wide as their longest numbers, whatever stands in other lines.
+#ifndef QUOTE_H
+#define QUOTE_H
+
+#include "options.h"
+#include "plan.h"
+#include "text.h"
+
+// Adds a plan's line. Gives whether it is accepted.
+int quote_plan(struct text *out, const struct plan *plan, const char *name, const struct options *options);
+
+// Adds the line above the lines, of a table or of CSV.
+void quote_heading(struct text *out, const struct options *options);
+
+#endif

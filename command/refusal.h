@@ -1,0 +1,26 @@
+// The library's refusals in words. An answer tells a number and a place, an activity, a kind or a count; the words say what stands there.
+#ifndef REFUSAL_H
+#define REFUSAL_H
+
+#include "plan.h"
+#include "text.h"
+
+// The starts and durations that a crew works in, of activities 1 to count.
+struct crew {
+    uint32_t starts[YAFFLEDESK_MOST_ACTIVITIES], durations[YAFFLEDESK_MOST_ACTIVITIES];
+    size_t count;
+};
+
+// What was asked of a plan, as far as the operation takes more than its bytes.
+struct asked {
+    uint64_t kind, page;
+    const struct crew *crew;
+};
+
+// Says what an answer other than 0 means, in one sentence without its number, and without a newline.
+void refusal_say(struct text *out, uint64_t answer, const struct plan *plan, const struct asked *asked);
+
+// A set's members with commas between them.
+void members_say(struct text *out, uint64_t set);
+
+#endif

@@ -1,0 +1,146 @@
+#include "workers.h"
+
+#include "plan.h"
+#include "quote.h"
+#include "shown.h"
+
+#include <pthread.h>
+#include <stdlib.h>
+#include <string.h>
+
+void batch_add(struct batch *batch, enum origin origin, const char *folder, const char *slash, const char *name) {
+    batch->starts[batch->count] = batch->names.len;
+    batch->origins[batch->count++] = origin;
+    text_put(&batch->names, folder);
+    text_put(&batch->names, slash);
+    text_add(&batch->names, name, strlen(name) + 1);
+}
+
+int batch_is_full(const struct batch *batch) { return batch->count == BATCH_NAMES; }
+
+static void empty(struct batch *batch) {
+    text_clear(&batch->names);
+    text_clear(&batch->lines);
+    text_clear(&batch->complaints);
+    batch->count = batch->refused = batch->unread = 0;
+}
+
+static void free_batch(struct batch *batch) {
+    text_free(&batch->names);
+    text_free(&batch->lines);
+    text_free(&batch->complaints);
+}
+
+static void quote_all(struct batch *batch, struct plan *plan, const struct options *options) {
+    for (size_t i = 0; i < batch->count; i++) {
+        const char *name = batch->names.bytes + batch->starts[i];
+        const char *why = batch->origins[i] == FOUND ? plan_read_found(plan, name) : plan_read(plan, name);
+        if (why != NULL) {
+            complaint(&batch->complaints, name, "cannot be read: %s", why);
+            batch->unread++;
+        } else if (!quote_plan(&batch->lines, plan, name, options))
+            batch->refused++;
+    }
+}
+
+// The batches are a ring. Each is filled, then worked on, then taken: `filled`, `begun` and `taken` count these from the beginning, and `done` says of each
+// whether it is worked on. One thread fills and takes; the others work.
+struct ring {
+    const struct options *options;
+    struct batch *batches;
+    int *done;
+    size_t size, filled, begun, taken;
+    int over; // nothing more is filled
+    pthread_mutex_t lock;
+    pthread_cond_t fill, finish; // a batch is filled, or nothing more is; a batch is done
+};
+
+static void *worker(void *of) {
+    struct ring *ring = of;
+    struct plan plan;
+    pthread_mutex_lock(&ring->lock);
+    for (;;) {
+        while (ring->begun == ring->filled && !ring->over) pthread_cond_wait(&ring->fill, &ring->lock);
+        if (ring->begun == ring->filled) break;
+        size_t mine = ring->begun++ % ring->size;
+        pthread_mutex_unlock(&ring->lock);
+        quote_all(&ring->batches[mine], &plan, ring->options);
+        pthread_mutex_lock(&ring->lock);
+        ring->done[mine] = 1;
+        pthread_cond_signal(&ring->finish);
+    }
+    pthread_mutex_unlock(&ring->lock);
+    return NULL;
+}
+
+static void hand_out(struct ring *ring) {
+    pthread_mutex_lock(&ring->lock);
+    ring->filled++;
+    pthread_cond_signal(&ring->fill);
+    pthread_mutex_unlock(&ring->lock);
+}
+
+// The oldest batch that is not taken yet, when it is done.
+static struct batch *oldest(struct ring *ring) {
+    size_t place = ring->taken % ring->size;
+    pthread_mutex_lock(&ring->lock);
+    while (!ring->done[place]) pthread_cond_wait(&ring->finish, &ring->lock);
+    ring->done[place] = 0;
+    pthread_mutex_unlock(&ring->lock);
+    ring->taken++;
+    return &ring->batches[place];
+}
+
+// No batch is begun any more, and those who wait for one come to their end.
+static void stop(struct ring *ring) {
+    pthread_mutex_lock(&ring->lock);
+    ring->begun = ring->filled;
+    ring->over = 1;
+    pthread_cond_broadcast(&ring->fill);
+    pthread_mutex_unlock(&ring->lock);
+}
+
+static void work_together(struct ring *ring, struct source source, struct sink sink) {
+    int more = 1, going = 1;
+    while (going && (more || ring->taken < ring->filled))
+        if (more && ring->filled - ring->taken < ring->size) {
+            struct batch *batch = &ring->batches[ring->filled % ring->size];
+            empty(batch);
+            more = source.fill(source.from, batch);
+            hand_out(ring);
+        } else
+            going = sink.take(sink.to, oldest(ring));
+    stop(ring);
+}
+
+static void work_alone(const struct options *options, struct source source, struct sink sink) {
+    struct batch batch = {0};
+    struct plan plan;
+    int more = 1;
+    while (more) {
+        empty(&batch);
+        more = source.fill(source.from, &batch);
+        quote_all(&batch, &plan, options);
+        if (!sink.take(sink.to, &batch)) break;
+    }
+    free_batch(&batch);
+}
+
+void work(const struct options *options, struct source source, struct sink sink) {
+    size_t size = 4 * (size_t)options->jobs, started = 0;
+    pthread_t threads[options->jobs];
+    struct ring ring = {.options = options, .size = size, .batches = calloc(size, sizeof *ring.batches), .done = calloc(size, sizeof *ring.done)};
+    pthread_mutex_init(&ring.lock, NULL);
+    pthread_cond_init(&ring.fill, NULL);
+    pthread_cond_init(&ring.finish, NULL);
+    if (ring.batches != NULL && ring.done != NULL && options->jobs > 1)
+        while (started < options->jobs && pthread_create(&threads[started], NULL, worker, &ring) == 0) started++;
+    if (started > 0)
+        work_together(&ring, source, sink);
+    else
+        work_alone(options, source, sink);
+    for (size_t i = 0; i < started; i++) pthread_join(threads[i], NULL);
+    for (size_t i = 0; ring.batches != NULL && i < size; i++) free_batch(&ring.batches[i]);
+    free(ring.batches);
+    free(ring.done);
+}
