@@ -130,7 +130,7 @@ struct arcs_drawn draw_arcs(struct text *svg, const struct picture *picture) {
     for (size_t i = 0; i < arcs.count; i++) {
         drawn.job |= !arcs.arcs[i].is_extra;
         drawn.extra |= arcs.arcs[i].is_extra;
-        drawn.following |= arcs.arcs[i].follows;
+        *(arcs.arcs[i].is_extra ? &drawn.extra_follows : &drawn.job_follows) |= arcs.arcs[i].follows;
         drawn.waits |= arcs.arcs[i].wait > 0;
     }
     for (int group = 0; group < 4; group++) draw_group(svg, picture, &arcs, group % 2 == 1, group < 2);

@@ -41,7 +41,8 @@ static void explain_bars(struct legend *legend, const struct picture *picture) {
         sample_rect(legend, LOOK_BAR, 12);
     }
     if (picture->shown != 0) {
-        explain(legend, "these may all be at work at once, and are too much");
+        bool alone = (picture->shown & (picture->shown - 1)) == 0;
+        explain(legend, alone ? "this one alone is too much" : "these may all be at work at once, and are too much");
         sample_rect(legend, LOOK_SHOWN_BAR, 12);
     }
     if (milestones) {
@@ -55,11 +56,11 @@ static void explain_bars(struct legend *legend, const struct picture *picture) {
 
 static void explain_arcs(struct legend *legend, const struct arcs_drawn *arcs) {
     if (arcs->job) {
-        explain(legend, arcs->following ? "job arc (paler: follows from other arcs)" : "job arc");
+        explain(legend, arcs->job_follows ? "job arc (paler: follows from other arcs)" : "job arc");
         sample_line(legend, LOOK_JOB " stroke-width='1.5' marker-end='url(#job)'");
     }
     if (arcs->extra) {
-        explain(legend, arcs->following ? "extra arc (paler: follows from other arcs)" : "extra arc");
+        explain(legend, arcs->extra_follows ? "extra arc (paler: follows from other arcs)" : "extra arc");
         sample_line(legend, LOOK_EXTRA " stroke-width='1.5' marker-end='url(#extra)'");
     }
     if (arcs->waits) {

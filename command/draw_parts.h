@@ -16,7 +16,8 @@ void draw_bars(struct text *svg, const struct picture *picture);
 
 // What the arcs of a plan are, for those who explain what is drawn.
 struct arcs_drawn {
-    bool job, extra, following, waits;
+    bool job, extra, waits;
+    bool job_follows, extra_follows; // some of them follow from others
 };
 struct arcs_drawn draw_arcs(struct text *svg, const struct picture *picture);
 

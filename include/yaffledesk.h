@@ -1,6 +1,7 @@
 /* Yaffledesk for C and C++: the planner's operations, and its report, on the bytes of a plan file.
  *
- * Link target/staticlib/libyaffledesk.a, which `rt staticlib yaffledesk` writes.
+ * Link libyaffledesk.a. `make` proves it and writes it to target/staticlib; where `make install` has put it, `pkg-config --cflags --libs
+ * yaffledesk` says how.
  *
  * Every operation takes the plan as it stands in the file: records of 24 bytes, no header. It answers one number of 64 bits. The
  * low 8 bits are the answer's number: 0 where the operation was done, else one of the numbers below. The bits above are its rest:
