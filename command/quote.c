@@ -5,7 +5,7 @@
 
 enum { VERDICT_WIDTH = 10 };
 
-#define CELL "  kind %u: %5u of %-5u" // no more than 65,535 can be available: what is accepted has its columns in line
+#define CELL "  kind %u: need %5u of %-5u" // no more than 65,535 can be available: what is accepted has its columns in line
 
 struct quote {
     uint64_t answer;

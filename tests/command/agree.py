@@ -8,8 +8,8 @@ import sys
 
 LISTS, REPORTS = sys.argv[1], pathlib.Path(sys.argv[2])
 FIELDS = 20
-LINE = re.compile(r"(?P<name>\S+) +(?P<verdict>accepted|refused) (?P<number>[ \d]+?) *(?P<kinds>(  kind \d: +\d+ of \d+\b *)*)(  (?P<why>\S.*))?")
-KIND = re.compile(r"  kind (\d): +(\d+) of (\d+)\b")
+LINE = re.compile(r"(?P<name>\S+) +(?P<verdict>accepted|refused) (?P<number>[ \d]+?) *(?P<kinds>(  kind \d: need +\d+ of \d+\b *)*)(  (?P<why>\S.*))?")
+KIND = re.compile(r"  kind (\d): need +(\d+) of (\d+)\b")
 failed = []
 
 

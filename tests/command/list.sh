@@ -34,10 +34,10 @@ count $? "files and folders stand in the order given, and what is named twice is
 count $? "a folder twice, and the one that is here"
 
 # Exit statuses, and what cannot be read: the others go on.
-accepted="two/a.plan                        accepted    kind 1:     4 of 4"
+accepted="two/a.plan                        accepted    kind 1: need     4 of 4"
 gives 0 "$accepted" "" list two/a.plan
-gives 0 "-                                 accepted    kind 1:     4 of 4" "" list - <two/a.plan
-gives 0 "-  accepted    kind 1:     4 of 4"$'\n'"two/a.plan  accepted    kind 1:     4 of 4" "" list --width 1 - two/a.plan <two/a.plan
+gives 0 "-                                 accepted    kind 1: need     4 of 4" "" list - <two/a.plan
+gives 0 "-  accepted    kind 1: need     4 of 4"$'\n'"two/a.plan  accepted    kind 1: need     4 of 4" "" list --width 1 - two/a.plan <two/a.plan
 gives 1 "-  refused 1   the file is empty: a plan has 1 to 2,048 records of 24 bytes" "" list --width 1 - </dev/null
 gives 2 "" "yaffledesk: -: cannot be read: Bad file descriptor" list - <&-
 for jobs in 1 4; do

@@ -8,7 +8,7 @@ import subprocess
 import sys
 
 COMMAND, FOLDER = sys.argv[1:]
-BEHIND = "  accepted    kind 1:     4 of 4"
+BEHIND = "  accepted    kind 1: need     4 of 4"
 BACKSLASH = re.compile(rb"\\(\\|x[0-9a-f]{2})")
 
 

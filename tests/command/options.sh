@@ -85,10 +85,10 @@ number list --width 1 4096 0 4097 "" wide
 
 # Options behind the names, and a name that looks like one.
 cp examples/a.plan ./-x.plan
-line=$'-x.plan                           accepted    kind 1:     4 of 4'
+line=$'-x.plan                           accepted    kind 1: need     4 of 4'
 gives 0 "$line" "" list -- -x.plan
 gives 0 "$line"$'\n'"$line" "" list -- -x.plan -x.plan
-gives 0 "-x.plan  accepted    kind 1:     4 of 4" "" list --width=7 -- -x.plan
-gives 0 "examples/a.plan  accepted    kind 1:     4 of 4" "" list examples/a.plan --width 3
+gives 0 "-x.plan  accepted    kind 1: need     4 of 4" "" list --width=7 -- -x.plan
+gives 0 "examples/a.plan  accepted    kind 1: need     4 of 4" "" list examples/a.plan --width 3
 gives 0 $'start 1 0\nstart 2 1\nstart 3 0\nstart 4 3\nend 4' "" starts -- -x.plan
 rm ./-x.plan

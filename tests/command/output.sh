@@ -121,7 +121,7 @@ count $? "trim to a file, with a full disk for what it says"
 mkdir some && for i in {1..2000}; do ln examples/a.plan "some/$i.plan" || cp examples/a.plan "some/$i.plan"; done 2>/dev/null
 for jobs in 1 3; do
     { "$yaffledesk" list -j $jobs some some some 2>"$scratch/err"; echo $? >"$scratch/status"; } | head -n 1 >"$scratch/out"
-    holds "$scratch/status" 141 && holds "$scratch/err" "" && holds "$scratch/out" "some/1.plan                       accepted    kind 1:     4 of 4"
+    holds "$scratch/status" 141 && holds "$scratch/err" "" && holds "$scratch/out" "some/1.plan                       accepted    kind 1: need     4 of 4"
     count $? "a list whose first line is enough, -j $jobs: status $(<"$scratch/status")"
 done
 

@@ -22,7 +22,7 @@ listed() {
     local number=${2#refused }
     try list examples/a.plan "$1" examples/f.plan
     [ "$status" -eq 1 ] && holds "$scratch/err" "" && [ "$(wc -l <"$scratch/out")" -eq 3 ] &&
-        [ "$(sed -n '2s/  kind [0-9]:  *[0-9]* of [0-9]*//g; 2s/   */  /gp' "$scratch/out")" = "$1  refused ${number%%:*}  ${2#*: }" ]
+        [ "$(sed -n '2s/  kind [0-9]: need  *[0-9]* of [0-9]*//g; 2s/   */  /gp' "$scratch/out")" = "$1  refused ${number%%:*}  ${2#*: }" ]
     told "yaffledesk list $1"
 }
 
