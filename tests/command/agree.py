@@ -6,17 +6,12 @@ import pathlib
 import re
 import sys
 
+from counts import check, last_line
+
 LISTS, REPORTS = sys.argv[1], pathlib.Path(sys.argv[2])
 FIELDS = 20
 LINE = re.compile(r"(?P<name>\S+) +(?P<verdict>accepted|refused) (?P<number>[ \d]+?) *(?P<kinds>(  kind \d: need +\d+ of \d+\b *)*)(  (?P<why>\S.*))?")
 KIND = re.compile(r"  kind (\d): need +(\d+) of (\d+)\b")
-failed = []
-
-
-def check(true, what):
-    failed.append(not true)
-    if not true:
-        print("FAIL:", what)
 
 
 def of_json(line):
@@ -78,7 +73,7 @@ def main():
         check(others == [said, said], f"{said} is {others[0]} as CSV, and {others[1]} in the table")
         report = REPORTS / (pathlib.Path(said[0]).stem + ".txt")
         check(agrees(said, report.read_text()), f"{said} is not {report}")
-    print(f"{failed.count(False)} passed, {failed.count(True)} failed")
+    last_line()
 
 
 main()

@@ -10,6 +10,8 @@ import subprocess
 import sys
 import xml.etree.ElementTree as tree
 
+from counts import check, last_line
+
 COMMAND, PLANS = sys.argv[1], sys.argv[2:]
 SVG = "{http://www.w3.org/2000/svg}"
 NUMBER = r"(\d+(?:,\d{3})*)"
@@ -17,13 +19,6 @@ BAR = re.compile(rf"(activity|milestone) (\d+)(?:: start {NUMBER}, finish| at) {
 ARC = re.compile(rf"(job|extra) arc (\d+) to (\d+)(?:, wait {NUMBER})?")
 KIND = re.compile(rf"kind (\d): need {NUMBER}, available {NUMBER}, this timetable occupies at most {NUMBER}")
 JOB, EXTRA, ORANGE, DASHED = 3, 4, "#b86200", "stroke-dasharray"
-failed = []
-
-
-def check(true, what):
-    failed.append(not true)
-    if not true:
-        print("FAIL:", what)
 
 
 def number(digits):
@@ -150,4 +145,4 @@ def large(name, seed):
 
 for plan_name in PLANS + [large(f"large{seed}.plan", seed) for seed in range(6)]:
     picture(plan_name)
-print(f"{failed.count(False)} passed, {failed.count(True)} failed")
+last_line()

@@ -11,17 +11,12 @@ import sys
 import tempfile
 import time
 
+from counts import check, last_line
+
 COMMAND = sys.argv[1]
 LONGEST = 20  # seconds that anything here may take
 ABOUT = 1024  # KB: the kernel counts a process's memory on each processor, and adds that up now and then
 TO_TERMINAL = "yaffledesk: {}: binary output does not go to a terminal: -o FILE names a file\n"
-failed = []
-
-
-def check(true, what):
-    failed.append(not true)
-    if not true:
-        print("FAIL:", what)
 
 
 def read_all(file):
@@ -159,7 +154,7 @@ def memory():
 def main():
     for part in (binary, reader_gone, progress, memory):
         part()
-    print(f"{failed.count(False)} passed, {failed.count(True)} failed")
+    last_line()
 
 
 main()
