@@ -19,12 +19,19 @@ struct reading {
     size_t line, lines[YAFFLEDESK_MOST_ACTIVITIES], faults;
 };
 
-static void fault(struct reading *reading, const char *what) {
-    struct text place = {0};
+__attribute__((format(printf, 2, 3))) static void fault(struct reading *reading, const char *format, ...) {
+    struct text line = {0};
+    va_list values;
     if (++reading->faults > MOST_FAULTS) return;
-    shown_name(&place, reading->name);
-    fprintf(stderr, "yaffledesk: %.*s:%zu: %s\n", (int)place.len, place.bytes, reading->line, what);
-    text_free(&place);
+    text_put(&line, "yaffledesk: ");
+    shown_name(&line, reading->name);
+    text_print(&line, ":%zu: ", reading->line);
+    va_start(values, format);
+    text_print_list(&line, format, values);
+    va_end(values);
+    text_put(&line, "\n");
+    fwrite(line.bytes, 1, line.len, stderr);
+    text_free(&line);
 }
 
 // The next number of a line, from 0 to the most; moves on behind it. 0 where there is none.
@@ -46,9 +53,9 @@ static void read_line(struct reading *reading, char *line, size_t len) {
     if (is_text && line[strspn(line, " \t")] == 0) return;
     if (!is_text || !next_number(&line, ULONG_MAX, &activity) || !next_number(&line, UINT32_MAX, &start) || !next_number(&line, UINT32_MAX, &duration) ||
         line[strspn(line, " \t")] != 0)
-        fault(reading, "a line is three numbers, an activity, its start and its duration, the last two at most 4,294,967,295");
+        fault(reading, "a line is three numbers, an activity, its start and its duration, the last two at most 4,294,967,295"); // UINT32_MAX
     else if (activity < 1 || activity > YAFFLEDESK_MOST_ACTIVITIES)
-        fault(reading, "activities are 1 to 64");
+        fault(reading, "activities are 1 to %d", YAFFLEDESK_MOST_ACTIVITIES);
     else if (reading->lines[activity - 1] != 0)
         fault(reading, "this activity has a line already");
     else {

@@ -66,7 +66,7 @@ static void csv_line(struct text *out, const struct quote *quote, const struct p
     text_put(out, "\n");
 }
 
-// A refusal's words are letters, digits and points: nothing in them means something else in JSON.
+// A refusal's words have no quotes, backslashes or control characters: nothing in them means something else in JSON.
 static void json_line(struct text *out, const struct quote *quote, const struct plan *plan, const char *name) {
     text_put(out, "{\"plan\":");
     shown_json(out, name);

@@ -1,5 +1,5 @@
 // A plan's line of the price list: its name, what the planner makes of it, and for each kind the need and what is available. A line depends on nothing but its
-// plan, so that lists can be made in parts; the columns are as wide as their longest numbers, whatever stands in other lines.
+// plan, so that lists can be made in parts: a table's columns have widths of their own, whatever stands in other lines.
 #ifndef QUOTE_H
 #define QUOTE_H
 
