@@ -1,4 +1,4 @@
--- The answers of the crew check, as numbers. Assumes nothing.
+-- The answers of the crew check, as numbers.
 use Prim.Native.Nat.{ℕ}
 use Rattle.schedule.specs.declared.Checked.{Checked}
 use Rattle.schedule.specs.declared.Checked.the-variants.{Fits, Broken, Overload}

@@ -1,5 +1,5 @@
-// What bench/ measures, as functions that a C program can call. Each calls proved functions, and copies the answer out. A table of sets is one
-// of words for C, as is what is shown of a set: bit i for the element i.
+// What bench/ measures, as functions that a C program can call. Each calls proved functions, and copies the answer out.
+// A table of sets is one of words for C, as is what is shown of a set: bit i for the element i.
 ghost use mathlib.Core.Path.{_≡_};
 ghost use Prim.Native.Nat.{_*_, _%_, _^_, _≤_};
 ghost use lib.ListN.{length};

@@ -1,4 +1,4 @@
--- Numbers in columns: which characters stand there, and the loop that writes them from the right. Assumes nothing.
+-- Numbers in columns: which characters stand there, and the loop that writes them from the right.
 use mathlib.Core.Path.{_≡_, refl, sym, ap, subst, _∙_}
 use mathlib.Core.List.{List, [], _++_, append-nil}
 use Prim.Native.Nat.{ℕ, zero, suc, _+_, _*_, _-_, _/_, _%_, _^_, _≤_, _<_}

@@ -1,4 +1,4 @@
--- Small sheets, by computation: the order of lines, and a line and a head as text. Assumes nothing.
+-- Small sheets, by computation: the order of lines, and a line and a head as text.
 use mathlib.Core.Path.{_≡_, refl}
 use mathlib.Core.List.{List, [], _∷_, _++_}
 use Prim.Native.Nat.{ℕ}

@@ -1,4 +1,4 @@
--- The lines of a page: what the code reads of a record, and the loop that writes them; and how many pages there are. Assumes nothing.
+-- The lines of a page: what the code reads of a record, and the loop that writes them; and how many pages there are.
 use mathlib.Core.Path.{_≡_, refl, sym, ap, _∙_}
 use mathlib.Core.List.{List, _++_}
 use Prim.Native.Nat.{ℕ, _+_, _*_, _-_, _≤_, _<_}

@@ -1,4 +1,4 @@
--- A page shows the first n records of the flow's bytes and the starts of nodes, and nothing else of what is lent. Assumes nothing.
+-- A page shows the first n records of the flow's bytes and the starts of nodes, and nothing else of what is lent.
 use mathlib.Core.Path.{_≡_, refl, sym, ap, _∙_}
 use mathlib.Core.Bool.{cond}
 use mathlib.Core.List.{List, [], _∷_, _++_}

@@ -1,4 +1,4 @@
--- Lines that are written piece by piece, and how long they are. Assumes nothing.
+-- Lines that are written piece by piece, and how long they are.
 use mathlib.Core.Path.{_≡_, refl, ap, _∙_}
 use mathlib.Core.List.{List, [], _∷_, _++_}
 use Prim.Native.Nat.{ℕ, _+_, _≤_}

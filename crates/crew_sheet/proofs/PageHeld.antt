@@ -1,4 +1,5 @@
--- What a proof has at exit of a `Page` that was passed by value: the kit's example `writer`, cut to the two ways that occur here.
+-- What a proof has at exit of a `Page` that was passed by value: the kit's example `writer`, cut to
+-- the two ways that occur here.
 --     page-spent      in a signature of one lifetime, whose result names it: nothing is said of a last list.        page-spent-goes      the law for it
 --     page-gave       in a signature of three lifetimes, the first the page's: the body has given the borrow up for good, and has only what says its last list.        page-gave-goes      the law for it
 -- The laws take `Given`. The rest assumes nothing.

@@ -1,4 +1,4 @@
--- What is printed is read back: a record and a head from their lines, and the lines from a page. Assumes nothing.
+-- What is printed is read back: a record and a head from their lines, and the lines from a page.
 use mathlib.Core.Path.{_≡_, refl, sym, ap, subst, _∙_}
 use mathlib.Core.List.{List, [], _∷_, _++_, append-assoc, append-nil}
 use Prim.Native.Nat.{ℕ, _+_, _*_, _-_, _^_, _≤_, _<_}

@@ -1,4 +1,4 @@
--- What is printed on a line, read back column by column. Columns count from 1, as on paper. Assumes nothing.
+-- What is printed on a line, read back column by column. Columns count from 1, as on paper.
 use mathlib.Core.Path.{_≡_}
 use mathlib.Core.List.{List, [], _∷_, _++_}
 use Prim.Native.Nat.{ℕ, _+_, _*_, _-_, _≤_, _<_}
@@ -13,7 +13,8 @@ pageLine page l = take 41 (drop (41 * l) page)
 abbrev pub columns : ℕ → ℕ → List ℕ → List ℕ
 columns a b line = take (b + 1 - a) (drop (a - 1) line)
 
--- columns that show a number: blanks (32), and then its digits (48 to 57), right-aligned, with no zero before others
+-- columns that show a number: blanks (32), and then its digits (48 to 57),
+-- right-aligned, with no zero before others
 pub record Shows (column : List ℕ) (x : ℕ) : Type 0 where
   pub blanks : ℕ
   pub digits : List ℕ
@@ -23,7 +24,8 @@ pub record Shows (column : List ℕ) (x : ℕ) : Type 0 where
   pub lead : 1 < length digits → 48 < getD digits 0 0
   pub value : valueOf digits ≡ x
 
--- "from (3 columns), to (3), units (8), the receiver's start (10), right-aligned, one blank between, then blanks"
+-- "from (3 columns), to (3), units (8), the receiver's start (10), right-aligned, one
+-- blank between, then blanks"
 pub record ShowsRecord (line : List ℕ) (from to units start : ℕ) : Type 0 where
   pub from-shown : Shows (columns 1 3 line) from
   pub to-shown : Shows (columns 5 7 line) to
@@ -33,7 +35,8 @@ pub record ShowsRecord (line : List ℕ) (from to units start : ℕ) : Type 0 wh
   pub then : columns 28 40 line ≡ replicate 13 32
   pub newline : drop 40 line ≡ 10 ∷ []
 
--- "Line 1 is the word KIND, a space, the kind in 1 column, a space, the page in 3 columns, right-aligned, then blanks."
+-- "Line 1 is the word KIND, a space, the kind in 1 column, a space, the page in 3 columns,
+-- right-aligned, then blanks."
 pub record ShowsHead (line : List ℕ) (kind page : ℕ) : Type 0 where
   pub word : columns 1 5 line ≡ 75 ∷ 73 ∷ 78 ∷ 68 ∷ 32 ∷ []
   pub kind-shown : Shows (columns 6 6 line) kind

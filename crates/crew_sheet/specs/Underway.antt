@@ -1,4 +1,5 @@
--- "A page under way carries the lent bytes it fills and how far it has come" (document 02, change 1): what the methods of `Page` make of one. Assumes nothing.
+-- "A page under way carries the lent bytes it fills and how far it has come" (document 02, change 1): what
+-- the methods of `Page` make of one.
 use mathlib.Core.List.{List}
 use Prim.Native.Nat.{ℕ, _+_}
 use denote.Ref.{now, at-last}

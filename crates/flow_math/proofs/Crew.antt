@@ -1,4 +1,4 @@
--- No crew ever occupies more than the need, and one crew occupies it. Assumes nothing.
+-- No crew ever occupies more than the need, and one crew occupies it.
 use mathlib.Core.Path.{_≡_, refl, ap}
 use mathlib.Core.Bool.{Bool, true, false, _&&_, cond}
 use mathlib.Core.Logic.{_↔_}

@@ -1,4 +1,4 @@
--- A handover of m elements, seen at the first n of them. Assumes nothing.
+-- A handover of m elements, seen at the first n of them.
 use mathlib.Core.Path.{_≡_, _∙_}
 use mathlib.Core.Bool.{Bool}
 use Prim.Native.Nat.{ℕ, _≤_, _<_}

@@ -1,4 +1,4 @@
--- The flow that a handover makes, and the units that no flow can free. Assumes nothing.
+-- The flow that a handover makes, and the units that no flow can free.
 use mathlib.Core.Path.{_≡_, refl, sym, _∙_}
 use mathlib.Core.Bool.{Bool, true}
 use mathlib.Core.Logic.{by-cases}

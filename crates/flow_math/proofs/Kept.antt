@@ -1,4 +1,4 @@
--- Laws of arcs kept and broken. Assumes nothing.
+-- Laws of arcs kept and broken.
 use mathlib.Core.Path.{_≡_}
 use mathlib.Core.Bool.{true, false}
 use mathlib.Core.Logic.{_↔_, Iff·symm}

@@ -1,6 +1,6 @@
--- The theorems on need, handover, resource flow, arcs kept and crew. `Theorems` has their statements; the other files prove them.
--- `Rows`, `Units`, `First` and `Pairs` are what callers ask besides: of sums that loops add up, of the units between nodes, of the first n elements,
--- of how many pairs carry units.
+-- The theorems on need, handover, resource flow, arcs kept and crew. `Theorems` has their statements; the other files
+-- prove them. `Rows`, `Units`, `First` and `Pairs` are what callers ask besides: of sums that loops add up, of the
+-- units between nodes, of the first n elements, of how many pairs carry units.
 pub mod Theorems
 pub mod Need
 pub mod Weak

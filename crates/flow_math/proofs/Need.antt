@@ -1,4 +1,4 @@
--- The computed need is the need, and the only one; elements without a demand do not change it. Assumes nothing.
+-- The computed need is the need, and the only one; elements without a demand do not change it.
 use mathlib.Core.Path.{_≡_, refl, sym, _∙_, ap, ap₂}
 use mathlib.Core.Bool.{Bool, true, false, not, _&&_, cond}
 use mathlib.Core.Logic.{by-cases, _⊎_, inl, inr, ⊎-elim}

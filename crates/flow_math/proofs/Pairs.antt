@@ -1,4 +1,4 @@
--- How many pairs of elements, and of nodes, are ordered, and so how many can carry units. Assumes nothing.
+-- How many pairs of elements, and of nodes, are ordered, and so how many can carry units.
 use mathlib.Core.Path.{_≡_, refl, ap}
 use mathlib.Core.Bool.{Bool, true, false, cond}
 use Prim.Native.Nat.{ℕ, zero, suc, _+_, _*_, _-_, _/_, _≤_, _<_}

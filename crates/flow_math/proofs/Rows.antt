@@ -1,4 +1,4 @@
--- What an element hands over to the elements below j, and what it takes over from those below i, as loops add it up. Assumes nothing.
+-- What an element hands over to the elements below j, and what it takes over from those below i, as loops add it up.
 use mathlib.Core.Path.{_≡_, sym}
 use Prim.Native.Nat.{ℕ, _+_, _≤_, _<_}
 use native.Mathlib.Omega.{arith}

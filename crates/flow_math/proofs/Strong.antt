@@ -1,4 +1,4 @@
--- Strong duality: the set of a closed search weighs exactly what is not handed over, so its weight is the need. Assumes nothing.
+-- Strong duality: the set of a closed search weighs exactly what is not handed over, so its weight is the need.
 use mathlib.Core.Path.{_≡_, refl}
 use mathlib.Core.Bool.{Bool, true, false, not, _&&_, cond}
 use mathlib.Core.Logic.{by-cases}

@@ -1,4 +1,5 @@
--- The theorems on need, handover, flow and crew, for one kind and any number n of elements in a strict order b with the demands d. Assumes nothing.
+-- The theorems on need, handover, flow and crew, for one kind and any number n of elements in a strict
+-- order b with the demands d.
 --
 --   needOf-need         the computed need is the need: an unrelated set has that weight, and none has more
 --   need-only           there is no other need

@@ -1,4 +1,4 @@
--- The units between the nodes of the flow that a handover makes: what they depend on, and how many they can be. Assumes nothing.
+-- The units between the nodes of the flow that a handover makes: what they depend on, and how many they can be.
 use mathlib.Core.Path.{_≡_, refl, ap, ap₂}
 use mathlib.Core.Bool.{Bool, true, cond}
 use mathlib.Core.Logic.{_⊎_, inl, inr}

@@ -1,4 +1,4 @@
--- Weak duality: an unrelated set and the units handed over weigh together at most all demands. Assumes nothing.
+-- Weak duality: an unrelated set and the units handed over weigh together at most all demands.
 use mathlib.Core.Path.{_≡_, _∙_, ap₂}
 use mathlib.Core.Bool.{Bool, true, false, not, _&&_, _||_, cond}
 use mathlib.Core.Logic.{by-cases}

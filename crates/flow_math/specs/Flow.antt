@@ -1,4 +1,5 @@
--- The paper's resource flow (section 2.1), of one kind: node 0 is the start, node i + 1 the element i, node n + 1 the end. Assumes nothing.
+-- The paper's resource flow (section 2.1), of one kind: node 0 is the start, node i + 1 the
+-- element i, node n + 1 the end.
 use mathlib.Core.Path.{_≡_}
 use mathlib.Core.Bool.{Bool, true, cond}
 use Prim.Native.Nat.{ℕ, zero, suc, _-_, _<_}
@@ -18,8 +19,9 @@ pub record ResourceFlow (n : ℕ) (b : ℕ → ℕ → Bool) (d : ℕ → ℕ) (
   -- "Positive units pass only where i is before j in the plan order"
   pub along : (u v : ℕ) → u < suc (suc n) → v < suc (suc n) → 0 < g u v → nodeBefore n b u v ≡ true
 
--- the flow that a handover f makes of a units, where x are needed: an element takes from the start what nobody hands over to it, gives to the
--- end what it hands over to nobody, and what exceeds x goes straight from the start to the end
+-- the flow that a handover f makes of a units, where x are needed: an element takes from the start what
+-- nobody hands over to it, gives to the end what it hands over to nobody, and what exceeds x goes
+-- straight from the start to the end
 abbrev pub nodeFlow : ℕ → (ℕ → ℕ) → (ℕ → ℕ → ℕ) → ℕ → ℕ → ℕ → ℕ → ℕ
 nodeFlow n d f x a zero zero = 0
 nodeFlow n d f x a zero (suc j) = cond (ltb j n) (d j - col n f j) (cond (eqb j n) (a - x) 0)

@@ -1,4 +1,4 @@
--- Handovers: f i j units go from the element i, as it ends, to the element j, as it starts. Assumes nothing.
+-- Handovers: f i j units go from the element i, as it ends, to the element j, as it starts.
 use mathlib.Core.Path.{_≡_}
 use mathlib.Core.Bool.{Bool, true, not, _&&_}
 use Prim.Native.Nat.{ℕ, _≤_, _<_}
@@ -21,9 +21,9 @@ pub record Handover (n : ℕ) (b : ℕ → ℕ → Bool) (d : ℕ → ℕ) (f : 
   pub rows : (i : ℕ) → i < n → row n f i ≤ d i
   pub cols : (j : ℕ) → j < n → col n f j ≤ d j
 
--- A search for a way to hand over more, that failed. Every element stands once on the left, as a giver, and once on the right, as a taker;
--- L and R hold what was reached there: from the givers with units left, along the order to takers, and back along handovers to givers;
--- no taker that was reached could take more.
+-- A search for a way to hand over more, that failed. Every element stands once on the left, as a giver, and
+-- once on the right, as a taker; L and R hold what was reached there: from the givers with units left, along
+-- the order to takers, and back along handovers to givers; no taker that was reached could take more.
 pub record Closed (n : ℕ) (b : ℕ → ℕ → Bool) (d : ℕ → ℕ) (f : ℕ → ℕ → ℕ) (L R : ℕ → Bool) : Type 0 where
   pub begins : (i : ℕ) → i < n → row n f i < d i → L i ≡ true
   pub forth : (i j : ℕ) → i < n → j < n → L i ≡ true → b i j ≡ true → R j ≡ true

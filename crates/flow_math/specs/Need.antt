@@ -1,4 +1,4 @@
--- The need of a kind: what it is. How it is computed is `needOf` of Heaviest. Assumes nothing.
+-- The need of a kind: what it is. How it is computed is `needOf` of Heaviest.
 use mathlib.Core.Path.{_≡_}
 use mathlib.Core.Bool.{Bool, true, cond}
 use Prim.Native.Nat.{ℕ, _≤_, _<_}
@@ -12,7 +12,8 @@ Antichain n b S = (i j : ℕ) → i < n → j < n → S i ≡ true → S j ≡ t
 unfoldable pub weight : ℕ → (ℕ → ℕ) → (ℕ → Bool) → ℕ
 weight n d S = sum n (λ i. cond (S i) (d i) 0)
 
--- "The need of a kind is the greatest sum of its demands over any unrelated set": one such set has the sum x, and none has more
+-- "The need of a kind is the greatest sum of its demands over any unrelated set": one such set has
+-- the sum x, and none has more
 pub record Need (n : ℕ) (b : ℕ → ℕ → Bool) (d : ℕ → ℕ) (x : ℕ) : Type 0 where
   pub set : ℕ → Bool
   pub unrelated : Antichain n b set

@@ -1,4 +1,4 @@
--- A crew that occupies all of the need in one period, and how one is found. Assumes nothing.
+-- A crew that occupies all of the need in one period, and how one is found.
 use mathlib.Core.Path.{_≡_}
 use mathlib.Core.Bool.{Bool, cond, _&&_}
 use Prim.Native.Nat.{ℕ, suc, _+_, _*_, _≤_}
@@ -9,8 +9,8 @@ use Rattle.flow_math.specs.Heaviest.{needOf}
 use Rattle.flow_math.specs.Kept.{Keeps}
 use Rattle.flow_math.specs.Crew.{occupied}
 
--- a crew with the durations w that occupies all of the need in one period; the starts of ordered elements are at least `gap` periods apart, so that it keeps the order
--- wherever no duration is longer
+-- a crew with the durations w that occupies all of the need in one period; the starts of ordered elements are
+-- at least `gap` periods apart, so that it keeps the order wherever no duration is longer
 pub record Peak (n : ℕ) (b : ℕ → ℕ → Bool) (d w : ℕ → ℕ) (gap : ℕ) : Type 0 where
   pub starts : ℕ → ℕ
   pub period : ℕ
@@ -28,7 +28,8 @@ rank n b i = sum n (λ k. cond (b k i) 1 0)
 unfoldable pub early : ℕ → (ℕ → ℕ → Bool) → (ℕ → Bool) → ℕ → Bool
 early n b S i = some n (λ t. S t && b i t)
 
--- the turn of i: those before a member of S come first, by rank, then all of S together, then the others, by rank
+-- the turn of i: those before a member of S come first, by rank, then all of S
+-- together, then the others, by rank
 unfoldable pub turn : ℕ → (ℕ → ℕ → Bool) → (ℕ → Bool) → ℕ → ℕ
 turn n b S i = cond (early n b S i) (rank n b i) (cond (S i) n (suc n + rank n b i))
 

@@ -1,4 +1,5 @@
--- The loops over the kinds: the demands of one kind, the needs as they are written, the search for the lowest overload, and its record. Assumes nothing.
+-- The loops over the kinds: the demands of one kind, the needs as they are written, the search for the
+-- lowest overload, and its record.
 use mathlib.Core.Path.{_≡_, sym, ap, ap₂, _∙_}
 use mathlib.Core.Bool.{true, false}
 use mathlib.Core.List.{List, []}

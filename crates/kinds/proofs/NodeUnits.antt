@@ -1,4 +1,4 @@
--- What passes from node to node: the units of each pair, its mark, and what the solver says. Assumes nothing.
+-- What passes from node to node: the units of each pair, its mark, and what the solver says.
 use mathlib.Core.Path.{_≡_, refl, sym, ap, _∙_, subst, fun-ext}
 use mathlib.Core.Bool.{Bool, true, false, cond, _&&_}
 use mathlib.Core.List.{List}

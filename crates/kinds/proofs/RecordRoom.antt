@@ -1,4 +1,4 @@
--- How many records stand in the lent bytes as they are written, and that there is room for one more. Assumes nothing.
+-- How many records stand in the lent bytes as they are written, and that there is room for one more.
 use mathlib.Core.Path.{_≡_, refl, sym, ap, _∙_, subst}
 use mathlib.Core.Bool.{cond}
 use mathlib.Core.List.{List, _++_}

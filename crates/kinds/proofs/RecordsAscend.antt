@@ -1,4 +1,4 @@
--- The records of a flow: each is one of a pair of nodes, with its units and its mark, and they ascend by from, then to. Assumes nothing.
+-- The records of a flow: each is one of a pair of nodes, with its units and its mark, and they ascend by from, then to.
 use mathlib.Core.Path.{_≡_, sym, ap, subst, _∙_}
 use mathlib.Core.Logic.{_⊎_, inl, inr}
 use mathlib.Core.Bool.{cond}

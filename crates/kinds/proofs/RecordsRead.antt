@@ -1,4 +1,4 @@
--- The records of a flow, read back: they give each pair of nodes the units that were written for it. Assumes nothing.
+-- The records of a flow, read back: they give each pair of nodes the units that were written for it.
 use mathlib.Core.Path.{_≡_, refl, sym, ap, _∙_}
 use mathlib.Core.Bool.{Bool, true, false, cond, _&&_}
 use mathlib.Core.List.{List, [], _++_, append-assoc}

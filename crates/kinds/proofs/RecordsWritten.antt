@@ -1,4 +1,5 @@
--- The records of a flow: how many bytes they are, that they are what is written, and that equal units give equal records. Assumes nothing.
+-- The records of a flow: how many bytes they are, that they are what is written, and that
+-- equal units give equal records.
 use mathlib.Core.Path.{_≡_, refl, sym, ap, _∙_}
 use mathlib.Core.Bool.{Bool, true, false, cond}
 use mathlib.Core.List.{List, [], _++_, append-assoc, append-nil}

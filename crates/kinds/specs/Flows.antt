@@ -1,4 +1,5 @@
--- The flow of a kind, from node to node and as records: node 0 is the start, node i + 1 the element i, node m + 1 the end. Assumes nothing.
+-- The flow of a kind, from node to node and as records: node 0 is the start, node i + 1 the
+-- element i, node m + 1 the end.
 use mathlib.Core.Bool.{Bool, cond, _&&_}
 use mathlib.Core.List.{List, []}
 use Prim.Native.Nat.{ℕ, zero, suc, _-_, _≤_, _<_, _^_}
@@ -15,7 +16,8 @@ use Rattle.kinds.specs.Needs.{demandsFor}
 
 -- ---- units
 
--- the units from node to node, where m elements with these demands hand over what stands in `flow`, and `spare` pass from the start to the end
+-- the units from node to node, where m elements with these demands hand over what stands in `flow`, and
+-- `spare` pass from the start to the end
 unfoldable pub units : ℕ → List ℕ → List ℕ → ℕ → ℕ → ℕ → ℕ
 units m demand flow spare = nodeFlow m (asked demand) (handed flow) 0 spare
 
@@ -32,8 +34,9 @@ pub record Bounded (m : ℕ) (d : ℕ → ℕ) (f : ℕ → ℕ → ℕ) : Type 
 
 -- ---- records. `g u v` are the units from node u to node v of n nodes, `mark u v` is the pair's added mark
 
--- "The added mark shall be 1 exactly where both ends are activities and the sender is not before the receiver in the job order, directly or through others." (02, change 6): of m
--- activities, where `b` says which is before which in the job order. (What that says of arcs is `mark-one` of proofs/NodeUnits.antt.)
+-- "The added mark shall be 1 exactly where both ends are activities and the sender is not before the receiver
+-- in the job order, directly or through others." (02, change 6): of m activities, where `b` says which is
+-- before which in the job order. (What that says of arcs is `mark-one` of proofs/NodeUnits.antt.)
 abbrev pub markOf : (ℕ → ℕ → Bool) → ℕ → ℕ → ℕ → ℕ
 markOf b m zero v = 0
 markOf b m (suc i) zero = 0

@@ -1,4 +1,4 @@
--- What the kinds need, as the solver quotes it, and the lowest kind that needs more than there is. Assumes nothing.
+-- What the kinds need, as the solver quotes it, and the lowest kind that needs more than there is.
 use mathlib.Core.Bool.{Bool, cond}
 use mathlib.Core.List.{List, []}
 use Prim.Native.Nat.{ℕ, _+_, _*_}

@@ -1,4 +1,4 @@
--- What flow records say, read back from their bytes. Assumes nothing.
+-- What flow records say, read back from their bytes.
 use mathlib.Core.Bool.{cond, _&&_}
 use mathlib.Core.List.{List}
 use Prim.Native.Nat.{ℕ, zero, suc, _+_}

@@ -1,5 +1,6 @@
-// The kinds of worker of a plan: what each needs, the lowest that needs more than there is, and the flow of one kind as records.
-// Kinds count from 0 here: kind k is kind k + 1 of the file, and the demand of the element i for it stands at ELEMENTS * k + i.
+// The kinds of worker of a plan: what each needs, the lowest that needs more than there is, and the flow of one kind
+// as records. Kinds count from 0 here: kind k is kind k + 1 of the file, and the demand of the element i for it
+// stands at ELEMENTS * k + i.
 mod flows;
 mod needs;
 mod shown;

@@ -1,4 +1,5 @@
-// The units that pass from node to node, by what the elements hand over. Node 0 is the start, node i + 1 the element i, node m + 1 the end.
+// The units that pass from node to node, by what the elements hand over. Node 0 is the start, node i + 1 the
+// element i, node m + 1 the end.
 ghost use mathlib.Core.Path.{_≡_};
 ghost use Prim.Native.Nat.{suc, _≤_, _<_, _^_};
 ghost use Rattle.order.specs.Stored.{elements};

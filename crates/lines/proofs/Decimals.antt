@@ -1,4 +1,4 @@
--- The decimal digits of a number: how many there are, which they are, and that they are read back as the number. Assumes nothing.
+-- The decimal digits of a number: how many there are, which they are, and that they are read back as the number.
 use mathlib.Core.Path.{_≡_, refl, sym, ap, subst, _∙_}
 use mathlib.Core.Bool.{Bool}
 use mathlib.Core.Logic.{_≢_}

@@ -1,4 +1,4 @@
--- Laws of text. Assumes nothing.
+-- Laws of text.
 pub mod Decimals
 pub mod Texts
 pub mod Putting

@@ -1,4 +1,4 @@
--- Lines that are written one after another: what a loop that writes them keeps. Assumes nothing.
+-- Lines that are written one after another: what a loop that writes them keeps.
 use mathlib.Core.Path.{_≡_, sym, ap, _∙_}
 use mathlib.Core.List.{List, _++_}
 use Prim.Native.Nat.{ℕ, zero, suc, _+_, _*_, _≤_, _<_}

@@ -1,4 +1,4 @@
--- Text under way: what is written behind it, the loops that write, and how long lines are. Assumes nothing.
+-- Text under way: what is written behind it, the loops that write, and how long lines are.
 use mathlib.Core.Path.{_≡_, refl, sym, ap, subst, _∙_}
 use mathlib.Core.List.{List, [], _∷_, _++_, append-assoc, append-nil}
 use Prim.Native.Nat.{ℕ, suc, _+_, _*_, _-_, _/_, _%_, _^_, _≤_, _<_}

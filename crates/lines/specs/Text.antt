@@ -1,4 +1,4 @@
--- Lines of text, as bytes of ASCII. Assumes nothing.
+-- Lines of text, as bytes of ASCII.
 use mathlib.Core.List.{List, [], _∷_, _++_}
 use Prim.Native.Nat.{ℕ, suc, _+_, _*_, _-_, _/_, _%_, _^_}
 use lib.Dec.{ltb}

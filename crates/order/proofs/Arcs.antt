@@ -1,4 +1,4 @@
--- The rows of arcs in a list, and the list of arcs that rows draw. For any n. Assumes nothing.
+-- The rows of arcs in a list, and the list of arcs that rows draw. For any n.
 use mathlib.Core.Path.{_≡_, refl, sym, ap, ap₂, subst}
 use mathlib.Core.Bool.{Bool, true, false}
 use mathlib.Core.List.{List, [], _∷_, List·Memᴰ·head, List·Memᴰ·tail, List·Memᴰ·cases-cons, List·Memᴰ·not-nil}

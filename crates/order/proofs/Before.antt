@@ -1,4 +1,4 @@
--- Laws of `Before`, the least transitive relation that holds the arcs, and of strict orders. Assumes nothing.
+-- Laws of `Before`, the least transitive relation that holds the arcs, and of strict orders.
 use mathlib.Core.Path.{_≡_, refl, sym, ap, ap₂, subst}
 use mathlib.Core.Bool.{Bool}
 use mathlib.Core.List.{List, [], _∷_, List·Memᴰ·head, List·Memᴰ·tail, List·Memᴰ·cases-cons, List·Memᴰ·not-nil}

@@ -1,5 +1,5 @@
--- Warshall's closure: n rows of arcs, with one element after the other as a way through, represent the order of the arcs. For any n.
--- Assumes nothing.
+-- Warshall's closure: n rows of arcs, with one element after the other as a way through, represent the
+-- order of the arcs. For any n.
 use mathlib.Core.Path.{_≡_, sym, ap, _∙_, subst}
 use mathlib.Core.Bool.{true, _&&_, _||_, cond}
 use mathlib.Core.List.{List}

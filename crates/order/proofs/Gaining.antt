@@ -1,4 +1,5 @@
--- How code adds arcs from one element: it gains, and then what is before it. What is gained arc by arc can be gained at once. For any n. Assumes nothing.
+-- How code adds arcs from one element: it gains, and then what is before it. What is gained arc by arc can
+-- be gained at once. For any n.
 use mathlib.Core.Path.{_≡_, refl, sym, ap, _∙_, subst}
 use mathlib.Core.Bool.{Bool, true, false, not, _&&_, _||_, cond}
 use mathlib.Core.List.{List}

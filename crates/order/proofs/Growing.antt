@@ -1,5 +1,5 @@
--- Rows that are extended by further arcs, each that they do not hold yet: they represent the order of all the arcs together. For any n.
--- Assumes nothing.
+-- Rows that are extended by further arcs, each that they do not hold yet: they represent the order of all
+-- the arcs together. For any n.
 use mathlib.Core.Path.{_≡_, refl, sym, ap, _∙_, subst}
 use mathlib.Core.Bool.{Bool, true, false, not, _&&_, and-true, cond}
 use mathlib.Core.List.{List}

@@ -1,4 +1,4 @@
--- Arcs without one of them: fewer arcs, and the same order where that arc's pair follows from the others. Assumes nothing.
+-- Arcs without one of them: fewer arcs, and the same order where that arc's pair follows from the others.
 use mathlib.Core.Path.{_≡_, sym, ap, _∙_}
 use mathlib.Core.Bool.{Bool, true, false, not, _&&_, and-true, and-false}
 use mathlib.Core.List.{List}

@@ -1,6 +1,6 @@
--- What a loop over the members of a set goes by, `while !w.is_empty() { let b = w.lowest(); ..; w = w.without_lowest(); }`: its invariant is
--- `each elements f s (numberOf w) ≡ r`, with r the run from the start, and its measure `numberOf w`. Each law takes what `is_empty` ensures, the
--- loop's test, and what `lowest` and `without_lowest` ensure. Assumes nothing.
+-- What a loop over the members of a set goes by, `while !w.is_empty() { let b = w.lowest(); ..; w = w.without_lowest();
+-- }`: its invariant is `each elements f s (numberOf w) ≡ r`, with r the run from the start, and its measure `numberOf
+-- w`. Each law takes what `is_empty` ensures, the loop's test, and what `lowest` and `without_lowest` ensure.
 use mathlib.Core.Path.{_≡_, refl, sym, _∙_}
 use mathlib.Core.Bool.{Bool, true, false, not}
 use Prim.Native.Nat.{ℕ, _<_}

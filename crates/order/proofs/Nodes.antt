@@ -1,4 +1,4 @@
--- Laws of the order of the nodes. Assumes nothing.
+-- Laws of the order of the nodes.
 use mathlib.Core.Path.{_≡_, refl}
 use mathlib.Core.Bool.{Bool, true, false, _&&_, _||_}
 use Prim.Native.Nat.{ℕ, zero, suc, _≤_, _<_}

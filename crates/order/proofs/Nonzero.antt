@@ -1,4 +1,4 @@
--- The places at which a function is not 0, and those of a list: those of its two halves together. Assumes nothing.
+-- The places at which a function is not 0, and those of a list: those of its two halves together.
 use mathlib.Core.Path.{_≡_, refl, sym, ap, _∙_}
 use mathlib.Core.Bool.{Bool, true, false, cond}
 use mathlib.Core.List.{List}

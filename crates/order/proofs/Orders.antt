@@ -1,4 +1,4 @@
--- Laws of orders of all elements: each says what arcs an order is the order of. Whoever builds on an order cites these. Assumes nothing.
+-- Laws of orders of all elements: each says what arcs an order is the order of. Whoever builds on an order cites these.
 use mathlib.Core.Path.{_≡_, refl, sym, ap, _∙_}
 use mathlib.Core.Bool.{Bool, true, false, _||_}
 use mathlib.Core.List.{List, [], _∷_}

@@ -1,4 +1,4 @@
--- Rows that say which element is before which, for any n: the empty rows, one arc more, the same arcs, circles. Assumes nothing.
+-- Rows that say which element is before which, for any n: the empty rows, one arc more, the same arcs, circles.
 use mathlib.Core.Path.{_≡_, refl, sym, ap, _∙_}
 use mathlib.Core.Bool.{Bool, true, false, cond, _&&_, _||_}
 use mathlib.Core.List.{List}

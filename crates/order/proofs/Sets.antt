@@ -1,4 +1,4 @@
--- Laws of sets. Assumes nothing.
+-- Laws of sets.
 use mathlib.Core.Path.{_≡_, ap, _∙_}
 use mathlib.Core.Bool.{Bool, true, false, not, _&&_, _||_}
 use mathlib.Core.Logic.{_↔_}

@@ -1,4 +1,4 @@
--- What is known of sets as they are stored, and of tables of them: all that any other file goes by. Assumes nothing.
+-- What is known of sets as they are stored, and of tables of them: all that any other file goes by.
 use mathlib.Core.Path.{_≡_, refl, sym, ap, _∙_}
 use mathlib.Core.Bool.{true}
 use mathlib.Core.List.{List}

@@ -1,11 +1,13 @@
--- Arcs and orders as they are given: arcs with one more, arcs of a test, arcs of a list, and an order as a test. Assumes nothing.
+-- Arcs and orders as they are given: arcs with one more, arcs of a test, arcs of a
+-- list, and an order as a test.
 use mathlib.Core.Path.{_≡_}
 use mathlib.Core.Bool.{Bool, true}
 use mathlib.Core.List.{List, List·Memᴰ}
 use mathlib.Core.Logic.{_⊎_}
 use Prim.Native.Nat.{ℕ, _<_}
 
--- "Adding an arc to an order gives the order so extended." These are the arcs of the extended order: A, and the one from x to y.
+-- "Adding an arc to an order gives the order so extended." These are the arcs of the extended order:
+-- A, and the one from x to y.
 abbrev pub With : (ℕ → ℕ → Type 0) → ℕ → ℕ → ℕ → ℕ → Type 0
 With A x y i j = A i j ⊎ ((i ≡ x) × (j ≡ y))
 
@@ -17,8 +19,8 @@ NoArc i j = ⊥
 abbrev pub Within : ℕ → (ℕ → ℕ → Type 0) → Type 0
 Within n A = (i j : ℕ) → A i j → (i < n) × (j < n)
 
--- A strict order of the elements below n, as a test: none is before itself, and what is before an element is before all that comes after it.
--- The order of a plan without a circle is one.
+-- A strict order of the elements below n, as a test: none is before itself, and what is before an element is
+-- before all that comes after it. The order of a plan without a circle is one.
 pub record StrictOrder (n : ℕ) (b : ℕ → ℕ → Bool) : Type 0 where
   pub irreflexive : (i : ℕ) → i < n → b i i ≡ true → ⊥
   pub transitive : (i j k : ℕ) → i < n → j < n → k < n → b i j ≡ true → b j k ≡ true → b i k ≡ true

@@ -1,4 +1,4 @@
--- Orders of all elements, as values of the struct `Order`: what its functions give. Assumes nothing.
+-- Orders of all elements, as values of the struct `Order`: what its functions give.
 use mathlib.Core.Bool.{Bool, _&&_}
 use mathlib.Core.List.{List, [], _∷_}
 use Prim.Native.Nat.{ℕ, _^_}
@@ -61,7 +61,8 @@ Direct rows = Drawn elements (after rows)
 unfoldable pub orderIn : List ℕ → Order
 orderIn rows = orderOf (arcsIn elements rows elements)
 
--- an order so extended: by each arc that it does not hold yet (`extended-by` of proofs/Orders.antt says what order that is)
+-- an order so extended: by each arc that it does not hold yet (`extended-by` of
+-- proofs/Orders.antt says what order that is)
 unfoldable pub extendedBy : Order → List ℕ → Order
 extendedBy o arcs = record { rows = growBy elements arcs elements (o .rows) }
 

@@ -1,5 +1,5 @@
--- An order of n elements as a table of n sets: the members of row i are the elements that i is before. For any n.
--- Assumes nothing.
+-- An order of n elements as a table of n sets: the members of row i are the elements
+-- that i is before. For any n.
 use mathlib.Core.Path.{_≡_}
 use mathlib.Core.Bool.{Bool, true, false, cond, _||_}
 use mathlib.Core.List.{List, [], _∷_}
@@ -18,7 +18,8 @@ use Rattle.order.specs.Stored.{cells, row, rowTable, RowsFit}
 abbrev pub after : List ℕ → ℕ → ℕ → Bool
 after rows i j = bit (row rows i) j
 
--- THE STATED MEANING, on which all else rests: n rows of n digits say which element is before which by the arcs A
+-- THE STATED MEANING, on which all else rests: n rows of n digits say which element
+-- is before which by the arcs A
 pub record Represents (n : ℕ) (rows : List ℕ) (A : ℕ → ℕ → Type 0) : Type 0 where
   pub long : length rows ≡ cells n
   pub fit : RowsFit n rows

@@ -1,4 +1,4 @@
--- Sets of elements, as the numbers that they mean. Assumes nothing.
+-- Sets of elements, as the numbers that they mean.
 use mathlib.Core.Bool.{Bool}
 use Prim.Native.Nat.{ℕ, _^_}
 use lib.Bits.{bitAnd, bitOr}
@@ -7,7 +7,8 @@ use Rattle.words.specs.Members.{count, first}
 use Rattle.order.specs.declared.Set.{Set}
 use Rattle.order.specs.Stored.{elements, numberOf, setOf}
 
--- "A set is a 64-bit word, bit i−1 for activity i" (01, Need and overload): whether the element i, which is activity i + 1, is a member
+-- "A set is a 64-bit word, bit i−1 for activity i" (01, Need and overload): whether the element i, which is
+-- activity i + 1, is a member
 abbrev pub member : Set → ℕ → Bool
 member s i = bit (numberOf s) i
 

@@ -1,6 +1,7 @@
--- How many elements there are, and how sets of them are stored: THE ONLY PLACE THAT KNOWS THE WIDTH. A set means a number (its members are the
--- places of the number's digits 1), and a table of sets is a list of words with a row for each set. Everything else speaks of the numbers, for
--- any number of elements; the laws of proofs/Stored.antt are all that is known of this. Assumes nothing.
+-- How many elements there are, and how sets of them are stored: THE ONLY PLACE THAT KNOWS THE WIDTH. A set
+-- means a number (its members are the places of the number's digits 1), and a table of sets is a list of
+-- words with a row for each set. Everything else speaks of the numbers, for any number of elements; the laws
+-- of proofs/Stored.antt are all that is known of this.
 use mathlib.Core.List.{List}
 use Prim.Native.Nat.{ℕ, _-_, _^_, _<_}
 use lib.ListN.{getD, set}
@@ -12,7 +13,8 @@ use Rattle.order.specs.declared.Set.{Set}
 abbrev pub elements : ℕ
 elements = 64
 
--- what the number of a set is below. (It stays shut: `omega` takes no number of more than 38 digits, and reads this as one unknown.)
+-- what the number of a set is below. (It stays shut: `omega` takes no number of more than 38 digits, and
+-- reads this as one unknown.)
 unfoldable pub bound : ℕ
 bound = 2 ^ elements
 

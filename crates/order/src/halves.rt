@@ -1,5 +1,5 @@
-// The places of a list that are not 0, as a word. Its two halves are found in one loop, each in as many bits as an entry of the list has: so the
-// compiler makes vector code of it, which took a fifth of the time in a copy in C.
+// The places of a list that are not 0, as a word. Its two halves are found in one loop, each in as many bits as an
+// entry of the list has: so the compiler makes vector code of it, which took a fifth of the time in a copy in C.
 ghost use mathlib.Core.Path.{_≡_};
 ghost use mathlib.Core.Bool.{cond};
 ghost use lib.Dec.{eqb};

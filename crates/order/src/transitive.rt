@@ -1,4 +1,5 @@
-// Rows that stay transitive while they gain: what an arc adds to them, and what a way through an element does; and an order's rows, with further arcs.
+// Rows that stay transitive while they gain: what an arc adds to them, and what a way through an element does; and an
+// order's rows, with further arcs.
 ghost use mathlib.Core.Path.{_≡_};
 ghost use Prim.Native.Nat.{_<_};
 ghost use lib.ListN.{length};

@@ -1,4 +1,5 @@
--- The rows of the arcs that records name: where no record is picked they stay, and each that is picked adds its arc; those of a type are a case. Assumes nothing.
+-- The rows of the arcs that records name: where no record is picked they stay, and each that is picked adds its arc;
+-- those of a type are a case.
 use mathlib.Core.Path.{_≡_, refl, sym, ap, _∙_, subst}
 use mathlib.Core.Bool.{Bool, true, false, _||_}
 use mathlib.Core.List.{List}

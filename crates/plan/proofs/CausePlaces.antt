@@ -1,4 +1,4 @@
--- What the reader's causes tell is small: the number has 8 bits, and no place is past the last record. Assumes nothing.
+-- What the reader's causes tell is small: the number has 8 bits, and no place is past the last record.
 use mathlib.Core.Path.{_≡_, sym, _∙_, subst}
 use mathlib.Core.List.{List}
 use mathlib.Core.Logic.{⊎-elim}

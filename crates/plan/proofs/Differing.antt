@@ -1,4 +1,4 @@
--- Files that differ only in waits are read alike: `only-in-waits`. Assumes nothing.
+-- Files that differ only in waits are read alike: `only-in-waits`.
 use mathlib.Core.Path.{_≡_, sym, ap, ap₂, _∙_}
 use mathlib.Core.Bool.{Bool, true, not, cond}
 use mathlib.Core.List.{List}

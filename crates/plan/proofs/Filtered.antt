@@ -1,5 +1,6 @@
--- The records of a readable file that a test keeps, all activities and the crew record among them, are a file without some arc records: `filtered-selected`. And where it keeps of the extra
--- arcs those that some rows have, the plan is the same but for those: `stays-plan`. Assumes nothing.
+-- The records of a readable file that a test keeps, all activities and the crew record among them, are a file without
+-- some arc records: `filtered-selected`. And where it keeps of the extra arcs those that some rows have, the plan is
+-- the same but for those: `stays-plan`.
 use mathlib.Core.Path.{_≡_, refl, sym, ap, ap₂, _∙_}
 use mathlib.Core.Bool.{Bool, true, not, _||_}
 use mathlib.Core.List.{List, [], _++_, append-nil}

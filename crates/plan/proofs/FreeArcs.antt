@@ -1,4 +1,4 @@
--- The extra arcs with wait 0, as rows: what is read record by record, and what the rows hold of a readable file. Assumes nothing.
+-- The extra arcs with wait 0, as rows: what is read record by record, and what the rows hold of a readable file.
 use mathlib.Core.Path.{_≡_, refl, sym, ap, _∙_}
 use mathlib.Core.Bool.{true, cond}
 use mathlib.Core.List.{List}

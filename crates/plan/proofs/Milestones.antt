@@ -1,4 +1,4 @@
--- Milestones: a readable file's demand nobody, and what 12 means. Assumes nothing.
+-- Milestones: a readable file's demand nobody, and what 12 means.
 use mathlib.Core.Path.{_≡_, refl, _∙_, subst}
 use mathlib.Core.Bool.{Bool, true, false, not, _||_}
 use mathlib.Core.List.{List}

@@ -1,4 +1,4 @@
--- The arcs that records name, and the rows that hold them: for the records that a test picks, and for those of a type. Assumes nothing.
+-- The arcs that records name, and the rows that hold them: for the records that a test picks, and for those of a type.
 use mathlib.Core.Path.{_≡_, refl, ap, _∙_, subst}
 use mathlib.Core.Bool.{Bool, true}
 use mathlib.Core.List.{List}

@@ -1,4 +1,4 @@
--- The parts of a file none of whose records has a cause: activities, the crew, job arcs, extra arcs. Assumes nothing.
+-- The parts of a file none of whose records has a cause: activities, the crew, job arcs, extra arcs.
 use mathlib.Core.Path.{_≡_, refl, sym, ap, _∙_, subst}
 use mathlib.Core.Bool.{true, false, false≢true}
 use mathlib.Core.List.{List}

@@ -1,4 +1,4 @@
--- The phases of the code come to the reading: `file-read`. Assumes nothing.
+-- The phases of the code come to the reading: `file-read`.
 use mathlib.Core.Path.{_≡_, refl, sym, ap, ap₂, _∙_}
 use mathlib.Core.Bool.{Bool, true, not, cond}
 use mathlib.Core.List.{List}

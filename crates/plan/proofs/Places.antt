@@ -1,4 +1,4 @@
--- Where the records stand: the leading records of a type, and the record of a part of the file. Assumes nothing.
+-- Where the records stand: the leading records of a type, and the record of a part of the file.
 use mathlib.Core.Path.{_≡_, refl, sym, ap, ap₂, _∙_}
 use mathlib.Core.Bool.{Bool, true, false, cond}
 use mathlib.Core.List.{List}

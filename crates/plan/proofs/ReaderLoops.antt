@@ -1,4 +1,5 @@
--- What the proofs of the reader's functions share: a turn of each loop, the tests that the code makes, and what follows a test. Assumes nothing.
+-- What the proofs of the reader's functions share: a turn of each loop, the tests that the code
+-- makes, and what follows a test.
 use mathlib.Core.Path.{_≡_, refl, sym, ap, _∙_}
 use mathlib.Core.Bool.{Bool, true, false, not}
 use mathlib.Core.List.{List}

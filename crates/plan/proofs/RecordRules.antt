@@ -1,4 +1,4 @@
--- What a record with no cause tells: each of its rules is kept. Assumes nothing.
+-- What a record with no cause tells: each of its rules is kept.
 use mathlib.Core.Path.{_≡_, refl, sym, ap, _∙_}
 use mathlib.Core.Bool.{Bool, true, false, not, cond, _&&_, true≢false, false≢true}
 use mathlib.Core.List.{List}

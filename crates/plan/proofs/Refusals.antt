@@ -1,4 +1,4 @@
--- The first refusal among several answers, and one answer after another. Assumes nothing.
+-- The first refusal among several answers, and one answer after another.
 use mathlib.Core.Path.{_≡_, refl, sym, ap, _∙_}
 use mathlib.Core.Bool.{Bool, true, false, not, cond, false≢true}
 use Prim.Native.Nat.{ℕ, zero, suc, _+_, _<_}

@@ -1,4 +1,4 @@
--- What a refusal means in plain words, and which files are refused and read. Assumes nothing.
+-- What a refusal means in plain words, and which files are refused and read.
 use mathlib.Core.Path.{_≡_, refl, sym, ap, _∙_, subst}
 use mathlib.Core.Bool.{Bool, true, false, not, _&&_, false≢true}
 use mathlib.Core.List.{List}

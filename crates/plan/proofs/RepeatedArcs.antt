@@ -1,4 +1,4 @@
--- Repeated arcs: how the rows so far tell one, what 13 means, and that a readable file has none. Assumes nothing.
+-- Repeated arcs: how the rows so far tell one, what 13 means, and that a readable file has none.
 use mathlib.Core.Path.{_≡_, refl, sym, ap, _∙_, subst}
 use mathlib.Core.Bool.{true, not}
 use mathlib.Core.List.{List}

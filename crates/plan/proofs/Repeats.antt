@@ -1,4 +1,5 @@
--- The test for a repeated arc: what it says, and that it can be made on the part of a file in which the arcs of a type stand. Assumes nothing.
+-- The test for a repeated arc: what it says, and that it can be made on the part of a file in
+-- which the arcs of a type stand.
 use mathlib.Core.Path.{_≡_, sym, ap, _∙_}
 use mathlib.Core.Bool.{Bool, true, _&&_}
 use mathlib.Core.List.{List}

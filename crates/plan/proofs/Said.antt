@@ -1,4 +1,5 @@
--- What a readable file says: `said`; files that say the same have equal plans: `plan-same`; and how large the numbers are. Assumes nothing.
+-- What a readable file says: `said`; files that say the same have equal plans: `plan-same`;
+-- and how large the numbers are.
 use mathlib.Core.Path.{_≡_, refl, sym, ap, ap₂, _∙_}
 use mathlib.Core.Bool.{Bool, true, false, cond}
 use mathlib.Core.List.{List}

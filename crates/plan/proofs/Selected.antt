@@ -1,4 +1,4 @@
--- A FILE WITHOUT SOME ARC RECORDS of a readable file is readable, and says the same but for those arcs. Assumes nothing.
+-- A FILE WITHOUT SOME ARC RECORDS of a readable file is readable, and says the same but for those arcs.
 use mathlib.Core.Path.{_≡_, refl, sym, ap, ap₂, _∙_}
 use mathlib.Core.Bool.{true, false, not, cond}
 use mathlib.Core.List.{List}

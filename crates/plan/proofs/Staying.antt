@@ -1,4 +1,5 @@
--- The writing of the records of a file that stay: what one of them may be asked, a record that is copied, and the loop over all of them. Assumes nothing.
+-- The writing of the records of a file that stay: what one of them may be asked, a record that is copied,
+-- and the loop over all of them.
 use mathlib.Core.Path.{_≡_, refl, sym, ap, _∙_}
 use mathlib.Core.Bool.{Bool, true, false, not, _||_}
 use mathlib.Core.List.{List, _++_}

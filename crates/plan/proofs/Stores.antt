@@ -1,4 +1,4 @@
--- What the loops that store durations and demands leave in the plan's arrays: the tables of the fields. Assumes nothing.
+-- What the loops that store durations and demands leave in the plan's arrays: the tables of the fields.
 use mathlib.Core.Path.{_≡_, refl, sym, ap, _∙_}
 use mathlib.Core.Bool.{cond}
 use mathlib.Core.List.{List}

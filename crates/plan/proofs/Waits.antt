@@ -1,4 +1,5 @@
--- The waits of a file's arcs: that each is what its record says, that the table that is read holds them, and how large they are. Assumes nothing.
+-- The waits of a file's arcs: that each is what its record says, that the table that is read holds
+-- them, and how large they are.
 use mathlib.Core.Path.{_≡_, sym, ap, ap₂, _∙_}
 use mathlib.Core.Bool.{true, false}
 use mathlib.Core.List.{List}

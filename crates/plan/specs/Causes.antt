@@ -1,4 +1,5 @@
--- The causes of a refusal, 1 to 4, 12 and 13, each with its place, and the answer: the first of them, or readable. Assumes nothing.
+-- The causes of a refusal, 1 to 4, 12 and 13, each with its place, and the answer: the
+-- first of them, or readable.
 use mathlib.Core.Bool.{Bool, true, false, not, cond, _&&_}
 use mathlib.Core.List.{List}
 use Prim.Native.Nat.{ℕ, _%_}
@@ -12,8 +13,9 @@ use Rattle.plan.specs.declared.Cause.{Cause}
 use Rattle.plan.specs.declared.Cause.the-variants.{Length, RecordType, Field, MilestoneDemand, Spare, RepeatedArc}
 use Rattle.plan.specs.Records.{recordAt, recordCount, activityCount, activityFields, activityTimed, activitySpare, crewFields, crewSpare, arcFields, arcSpare, arcRepeats, dueType, demandsOf}
 
--- "records in file order, 2, 3, 4 within each", 12 "in each record after 3 and before 4" (02, change 2), and 13 "in each record after 4" (02, change 3): the rules of a record are
--- tested in turn. Where none before it was broken, a broken rule gives its cause.
+-- "records in file order, 2, 3, 4 within each", 12 "in each record after 3 and before 4" (02, change 2), and
+-- 13 "in each record after 4" (02, change 3): the rules of a record are tested in turn. Where none before it
+-- was broken, a broken rule gives its cause.
 unfoldable pub rule : Answer → Bool → Cause → Answer
 rule Readable true cause = Readable
 rule Readable false cause = Refused cause
@@ -37,7 +39,8 @@ crewCause place demand r =
     let fields = rule typed (crewFields demand r) (Field place) in
     rule fields (crewSpare r) (Spare place)
 
--- a record after that, which has to be an arc of the type that is due: the rules that it keeps or breaks by itself
+-- a record after that, which has to be an arc of the type that is due: the rules that
+-- it keeps or breaks by itself
 unfoldable pub arcCause : ℕ → ℕ → ℕ → List ℕ → Answer
 arcCause type place m r =
     let typed = rule Readable (eqb (byte r 0) type) (RecordType place) in

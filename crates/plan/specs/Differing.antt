@@ -1,4 +1,5 @@
--- When two files differ only in waits (02, change 5), byte by byte: they are then read alike, `only-in-waits` of proofs/Differing.antt. Assumes nothing.
+-- When two files differ only in waits (02, change 5), byte by byte: they are then read alike,
+-- `only-in-waits` of proofs/Differing.antt.
 use mathlib.Core.Path.{_≡_}
 use mathlib.Core.List.{List}
 use mathlib.Core.Logic.{_⊎_}

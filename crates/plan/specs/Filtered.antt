@@ -1,5 +1,6 @@
--- A FILE WITHOUT SOME OF ITS ARC RECORDS, the others as they were and in their order. For any choice of arcs: such a file of a readable one is readable, and says the same but for those arcs
--- (`selected-readable` and the laws beside it in proofs/Selected.antt, `filtered-names` of proofs/Filtered.antt). Assumes nothing.
+-- A FILE WITHOUT SOME OF ITS ARC RECORDS, the others as they were and in their order. For any choice of arcs:
+-- such a file of a readable one is readable, and says the same but for those arcs (`selected-readable` and
+-- the laws beside it in proofs/Selected.antt, `filtered-names` of proofs/Filtered.antt).
 use mathlib.Core.Path.{_≡_}
 use mathlib.Core.Bool.{Bool, true}
 use mathlib.Core.List.{List}
@@ -26,7 +27,8 @@ pub record KeptNames (keep : ℕ → Bool) (s : List ℕ) (type i j : ℕ) : Typ
   pub from : byte (recordAt s place) 1 ≡ i + 1
   pub to : byte (recordAt s place) 2 ≡ j + 1
 
--- t IS s WITHOUT SOME ARC RECORDS, whatever made it: its records are some of those of s, in their order, all activities and the crew record among them
+-- t IS s WITHOUT SOME ARC RECORDS, whatever made it: its records are some of those of s, in their order, all
+-- activities and the crew record among them
 pub record Selected (s t : List ℕ) : Type 0 where
   pub whole : length t ≡ 24 * recordCount t
   -- which record of s each is

@@ -1,6 +1,9 @@
--- What a file says, in plain words: when it is readable, which durations, demands and availabilities, and which arcs with which waits. THE ONE HOME of what is in force: everything above
--- speaks of a file in these words, and no table of a plan is needed for them. What a refusal says is Refused. Element i is activity i + 1, kind k is kind k + 1.
--- Whoever uses a plan cites the laws of `proofs/Said.antt` and `proofs/Refused.antt`; the words stay shut, so that none of it goes by where a record stands. Assumes nothing.
+-- What a file says, in plain words: when it is readable, which durations, demands and availabilities, and
+-- which arcs with which waits. THE ONE HOME of what is in force: everything above speaks of a file in
+-- these words, and no table of a plan is needed for them. What a refusal says is Refused. Element i is
+-- activity i + 1, kind k is kind k + 1.
+-- Whoever uses a plan cites the laws of `proofs/Said.antt` and `proofs/Refused.antt`; the words stay shut, so
+-- that none of it goes by where a record stands.
 use mathlib.Core.Path.{_≡_}
 use mathlib.Core.Bool.{Bool, true, cond, _&&_}
 use mathlib.Core.List.{List}
@@ -29,8 +32,9 @@ crewRecord s = recordAt s (activityCount s)
 unfoldable pub fileDuration : List ℕ → ℕ → ℕ
 fileDuration s i = durationIn (activityRecord s i)
 
--- A MILESTONE: "takes no time" (02, change 2). It is one by its duration in the file, not by its demands: that it has none, is what 12 sees to (`milestone-idle` of
--- proofs/Milestones.antt), and an activity without demands that takes time is none.
+-- A MILESTONE: "takes no time" (02, change 2). It is one by its duration in the file, not by its demands:
+-- that it has none, is what 12 sees to (`milestone-idle` of proofs/Milestones.antt), and an activity without
+-- demands that takes time is none.
 abbrev pub Milestone : List ℕ → ℕ → Type 0
 Milestone s i = fileDuration s i ≡ 0
 
@@ -48,7 +52,8 @@ fileAvailable s k = availableIn (crewRecord s) k
 
 -- ---- the arcs of a file
 
--- one of the first n records is of a type and names the arc from element i to element j (activity i + 1 to activity j + 1)
+-- one of the first n records is of a type and names the arc from element i to element j
+-- (activity i + 1 to activity j + 1)
 pub record Names (s : List ℕ) (n type i j : ℕ) : Type 0 where
   pub place : ℕ
   pub there : place < n
@@ -73,8 +78,8 @@ FileArc s = Joined (JobArc s) (ExtraArc s)
 abbrev pub namesAt : List ℕ → ℕ → ℕ → ℕ → ℕ → Bool
 namesAt s type i j p = eqb (typeAt s p) type && (eqb (byte (recordAt s p) 1) (i + 1) && eqb (byte (recordAt s p) 2) (j + 1))
 
--- the wait that the first n records give the arc of a type from i to j: that of the last that names it, and 0 where none does. (In a readable file one at most does, by 13:
--- `wait-of` of proofs/Waits.antt.)
+-- the wait that the first n records give the arc of a type from i to j: that of the last that names it, and 0
+-- where none does. (In a readable file one at most does, by 13: `wait-of` of proofs/Waits.antt.)
 unfoldable pub waitUpTo : List ℕ → ℕ → ℕ → ℕ → ℕ → ℕ
 waitUpTo s type i j zero = 0
 waitUpTo s type i j (suc n) = cond (namesAt s type i j n) (waitIn (recordAt s n)) (waitUpTo s type i j n)

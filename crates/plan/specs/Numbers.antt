@@ -1,4 +1,5 @@
--- The numbers of the causes (01, Operations and causes, the table of causes; 12 and 13 are of document 02, changes 2 and 3). Assumes nothing.
+-- The numbers of the causes (01, Operations and causes, the table of causes; 12 and 13 are of
+-- document 02, changes 2 and 3).
 use Prim.Native.Nat.{ℕ}
 use Rattle.plan.specs.declared.Cause.{Cause}
 use Rattle.plan.specs.declared.Cause.the-variants.{Length, RecordType, Field, MilestoneDemand, Spare, RepeatedArc}

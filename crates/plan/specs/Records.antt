@@ -1,4 +1,4 @@
--- The records of a file, and the rules of each type. Element i is activity i + 1; kind k + 1 stands at k. Assumes nothing.
+-- The records of a file, and the rules of each type. Element i is activity i + 1; kind k + 1 stands at k.
 use mathlib.Core.Bool.{Bool, not, cond, _&&_, _||_}
 use mathlib.Core.List.{List}
 use Prim.Native.Nat.{ℕ, zero, suc, _+_, _-_, _*_, _/_, _%_}
@@ -26,15 +26,18 @@ unfoldable pub leading : ℕ → ℕ → List ℕ → ℕ
 leading type zero t = 0
 leading type (suc n) t = cond (eqb (byte t 0) type) (suc (leading type n (drop 24 t))) 0
 
--- "Activities are numbered 1 to m in file order": m is how many activity records the file begins with, so the crew record is due at place m
+-- "Activities are numbered 1 to m in file order": m is how many activity records the file begins with, so the
+-- crew record is due at place m
 abbrev pub activityCount : List ℕ → ℕ
 activityCount s = leading 1 (recordCount s) s
 
--- "m from 0 to 64": how many activities a file may have, `plan::ACTIVITIES`. THE FORMAT'S OWN LIMIT: the number of elements may be larger.
+-- "m from 0 to 64": how many activities a file may have, `plan::ACTIVITIES`. THE FORMAT'S OWN LIMIT: the
+-- number of elements may be larger.
 abbrev pub activities : ℕ
 activities = 64
 
--- "Type 1, activity: byte 1 its number; 2–3 duration, ..; 4–19 eight demands of two bytes, kinds 1 to 8, each 0 to 65,535" (a duration of 0 is the matter of `activityTimed`)
+-- "Type 1, activity: byte 1 its number; 2–3 duration, ..; 4–19 eight demands of two bytes, kinds 1 to 8, each
+-- 0 to 65,535" (a duration of 0 is the matter of `activityTimed`)
 unfoldable pub activityFields : ℕ → List ℕ → Bool
 activityFields place r = ltb place activities && eqb (byte r 1) (place + 1)
 
@@ -48,7 +51,8 @@ demandIn r k = field r (4 + 2 * k) 2
 unfoldable pub demandsSome : List ℕ → Bool
 demandsSome r = some 8 (λ k. ltb 0 (demandIn r k))
 
--- "Duration 0 becomes legal in the file for an activity without demands, which is then a milestone" (02, change 2): what is demanded is demanded for some time
+-- "Duration 0 becomes legal in the file for an activity without demands, which is then a milestone" (02,
+-- change 2): what is demanded is demanded for some time
 abbrev pub activityTimed : List ℕ → Bool
 activityTimed r = ltb 0 (durationIn r) || not (demandsSome r)
 
@@ -72,14 +76,16 @@ availableIn r k = field r (4 + 2 * k) 2
 abbrev pub crewSpare : List ℕ → Bool
 crewSpare r = zeros (slice 2 4 r) && zeros (slice 20 24 r)
 
--- "Type 3, job arc: byte 1 from, byte 2 to. Type 4, extra arc: the same fields." "Arc ends are 1 to m and differ."
+-- "Type 3, job arc: byte 1 from, byte 2 to. Type 4, extra arc: the same fields." "Arc
+-- ends are 1 to m and differ."
 abbrev pub isEnd : ℕ → ℕ → Bool
 isEnd m i = ltb 0 i && leb i m
 
 unfoldable pub arcFields : ℕ → List ℕ → Bool
 arcFields m r = isEnd m (byte r 1) && (isEnd m (byte r 2) && not (eqb (byte r 1) (byte r 2)))
 
--- "Bytes 4–5 of both arc records become a wait of 0 to 65,535 periods, so 4 covers the other spare bytes only." (02, change 5)
+-- "Bytes 4–5 of both arc records become a wait of 0 to 65,535 periods, so 4 covers the other spare
+-- bytes only." (02, change 5)
 abbrev pub waitIn : List ℕ → ℕ
 waitIn r = field r 4 2
 
@@ -90,12 +96,13 @@ arcSpare r = zeros (slice 3 4 r) && zeros (slice 6 24 r)
 abbrev pub samePair : List ℕ → List ℕ → Bool
 samePair q r = eqb (byte q 0) (byte r 0) && (eqb (byte q 1) (byte r 1) && eqb (byte q 2) (byte r 2))
 
--- "A pair repeated within the same type is now refused. The same pair as a job arc and an extra arc is still fine." (02, change 3): an earlier record of the same type names the pair of the
--- record at place p
+-- "A pair repeated within the same type is now refused. The same pair as a job arc and an extra arc is still
+-- fine." (02, change 3): an earlier record of the same type names the pair of the record at place p
 unfoldable pub arcRepeats : List ℕ → ℕ → Bool
 arcRepeats s p = some p (λ x. samePair (recordAt s x) (recordAt s p))
 
--- "Types stand in ascending order, with exactly one crew record.": after the crew record job arcs are due as long as there are any, then extra arcs
+-- "Types stand in ascending order, with exactly one crew record.": after the crew record job arcs are due as
+-- long as there are any, then extra arcs
 abbrev pub jobCount : List ℕ → ℕ
 jobCount s = leading 3 (recordCount s - (activityCount s + 1)) (recordAt s (activityCount s + 1))
 

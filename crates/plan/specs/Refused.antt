@@ -1,5 +1,6 @@
--- What a refusal says, in plain words: which of these it is, is `refused-means` of proofs/Refused.antt; 12, in `refused-demanding` of proofs/Milestones.antt, and 13, in `refused-repeated` of
--- proofs/RepeatedArcs.antt. Assumes nothing.
+-- What a refusal says, in plain words: which of these it is, is `refused-means` of
+-- proofs/Refused.antt; 12, in `refused-demanding` of proofs/Milestones.antt, and 13, in
+-- `refused-repeated` of proofs/RepeatedArcs.antt.
 use mathlib.Core.Path.{_≡_}
 use mathlib.Core.Bool.{true, false}
 use mathlib.Core.List.{List}
@@ -25,8 +26,9 @@ pub record FirstFault (s : List ℕ) (p : ℕ) (a : Answer) : Type 0 where
   pub refused : isReadable a ≡ false
   pub before : (x : ℕ) → x < p → isReadable (causeAt s x) ≡ true
 
--- 12, "duration 0 with a demand, with the place, in each record after 3 and before 4" (02, change 2): no record before place p has a fault, the one there is an activity's
--- whose fields keep their rules, it takes no time, and it demands something of one of the eight kinds
+-- 12, "duration 0 with a demand, with the place, in each record after 3 and before 4" (02, change 2): no
+-- record before place p has a fault, the one there is an activity's whose fields keep their rules, it takes
+-- no time, and it demands something of one of the eight kinds
 pub record DemandingMilestone (s : List ℕ) (p : ℕ) : Type 0 where
   pub legal : isLength (length s) ≡ true
   pub before : (x : ℕ) → x < p → isReadable (causeAt s x) ≡ true
@@ -37,8 +39,9 @@ pub record DemandingMilestone (s : List ℕ) (p : ℕ) : Type 0 where
   pub one-of-eight : kind < 8
   pub demands : 0 < fileDemand s kind p
 
--- 13, "with the place of the later record, in each record after 4" (02, change 3): no record before place p has a fault, the one there is an arc that has none
--- by itself, from one element to another, and an earlier record of the same type names the pair
+-- 13, "with the place of the later record, in each record after 4" (02, change 3): no record before place p
+-- has a fault, the one there is an arc that has none by itself, from one element to another, and an earlier
+-- record of the same type names the pair
 pub record RepeatedPair (s : List ℕ) (p : ℕ) : Type 0 where
   pub legal : isLength (length s) ≡ true
   pub there : p < recordCount s

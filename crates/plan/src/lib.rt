@@ -1,4 +1,5 @@
-// Reads a plan file, as document 01, "The plan file", says.
+// Plan files, as document 01, "The plan file", has them: reads one, with its waits for those who go by them, and writes
+// one without some of its extra arcs.
 mod activity;
 mod arc;
 mod checks;

@@ -1,5 +1,5 @@
-// The waits of arcs, bytes 4-5 of their records. A plan does not hold them: whoever goes by them has them read into a table, where that of the arc from i to j
-// stands at ELEMENTS * j + i.
+// The waits of arcs, bytes 4-5 of their records. A plan does not hold them: whoever goes by them has them read into a
+// table, where that of the arc from i to j stands at ELEMENTS * j + i.
 ghost use mathlib.Core.Path.{_≡_};
 ghost use Prim.Native.Nat.{_*_, _≤_};
 ghost use lib.ListN.{length, replicate};

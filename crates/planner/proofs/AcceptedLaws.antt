@@ -1,5 +1,5 @@
--- When a plan is accepted: without a circle exactly where no kind needs more than there is; of the plan that a file says, where the search finds none that does; and with fewer arcs it is accepted no
--- sooner. Assumes nothing.
+-- When a plan is accepted: without a circle exactly where no kind needs more than there is; of the plan that a file
+-- says, where the search finds none that does; and with fewer arcs it is accepted no sooner.
 use mathlib.Core.Path.{_≡_, refl, sym, ap, _∙_}
 use mathlib.Core.Bool.{Bool, true, false, not}
 use mathlib.Core.List.{List}

@@ -1,4 +1,5 @@
--- Crew check: its cause 10 and what is occupied, in the file's own terms too (`works-listed`, `crew-occupied`), and what it answers. Assumes nothing.
+-- Crew check: its cause 10 and what is occupied, in the file's own terms too (`works-listed`,
+-- `crew-occupied`), and what it answers.
 use mathlib.Core.Path.{_≡_, refl, sym, ap, _∙_}
 use mathlib.Core.Bool.{Bool, true, false, not, _||_}
 use mathlib.Core.List.{List}

@@ -1,4 +1,4 @@
--- Faults, and the causes of an operation in their turn. Assumes nothing.
+-- Faults, and the causes of an operation in their turn.
 use mathlib.Core.Path.{_≡_, refl, sym, ap, _∙_, subst}
 use mathlib.Core.Bool.{Bool, true, false, true≢false, false≢true}
 use mathlib.Core.Logic.{_⊎_, inl, inr, ⊎-elim, _≢_}

@@ -1,4 +1,4 @@
--- What the definitions of the operations mean, in the file's own terms: the arcs, the two orders, the starts. Assumes nothing.
+-- What the definitions of the operations mean, in the file's own terms: the arcs, the two orders, the starts.
 use mathlib.Core.Path.{_≡_, sym, ap}
 use mathlib.Core.List.{List}
 use mathlib.Core.Logic.{⊎-elim, _↔_, Iff·rfl, Iff·trans}

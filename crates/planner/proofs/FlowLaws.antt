@@ -1,4 +1,4 @@
--- Flow: its causes 8, 9 and 7 in their turn, and what it answers and writes. Assumes nothing.
+-- Flow: its causes 8, 9 and 7 in their turn, and what it answers and writes.
 use mathlib.Core.Path.{_≡_, sym, ap, _∙_, subst}
 use mathlib.Core.Bool.{Bool, true, false, not}
 use mathlib.Core.List.{List}

@@ -1,5 +1,5 @@
--- The flow of a kind of a plan that opens, in the plan's terms: it is the paper's, its units are small, its records have room, the code writes them, and
--- read back they say the same units. Assumes nothing.
+-- The flow of a kind of a plan that opens, in the plan's terms: it is the paper's, its units are small, its records
+-- have room, the code writes them, and read back they say the same units.
 use mathlib.Core.Path.{_≡_, refl, sym, ap, ap₂, _∙_}
 use mathlib.Core.List.{List, _++_}
 use mathlib.Core.Logic.{_⊎_, inl, inr, by-cases}

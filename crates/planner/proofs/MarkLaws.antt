@@ -1,4 +1,4 @@
--- The added mark of a plan's flow, in the file's own terms (02, change 6). Assumes nothing.
+-- The added mark of a plan's flow, in the file's own terms (02, change 6).
 use mathlib.Core.Path.{_≡_}
 use mathlib.Core.List.{List}
 use mathlib.Core.Logic.{_↔_}

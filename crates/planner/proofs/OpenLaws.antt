@@ -1,4 +1,4 @@
--- What a plan that opens is, with no cause of the reader's and no circle, and what the code holds of it. Assumes nothing.
+-- What a plan that opens is, with no cause of the reader's and no circle, and what the code holds of it.
 use mathlib.Core.Path.{_≡_, refl, sym, ap, _∙_}
 use mathlib.Core.Bool.{true, false, cond}
 use mathlib.Core.List.{List}

@@ -1,4 +1,4 @@
--- How the operations that write end: the laws of `outputOf` and `lentAfter`, once for all of them. Assumes nothing.
+-- How the operations that write end: the laws of `outputOf` and `lentAfter`, once for all of them.
 use mathlib.Core.Path.{_≡_, refl, sym, ap, _∙_}
 use mathlib.Core.Bool.{Bool, true, false, not, true≢false}
 use mathlib.Core.List.{List, _++_}

@@ -1,4 +1,4 @@
--- Overload: its record, and what it answers and writes. Assumes nothing.
+-- Overload: its record, and what it answers and writes.
 use mathlib.Core.Path.{_≡_, ap, _∙_}
 use mathlib.Core.Bool.{Bool, true}
 use mathlib.Core.List.{List}

@@ -1,4 +1,5 @@
--- What the solver quotes of a plan that opens is what the definitions say: the needs, the lowest overloaded kind, and 7 in its turn. Assumes nothing.
+-- What the solver quotes of a plan that opens is what the definitions say: the needs, the lowest
+-- overloaded kind, and 7 in its turn.
 use mathlib.Core.Path.{_≡_, refl, ap, _∙_, subst}
 use mathlib.Core.Bool.{true, false}
 use mathlib.Core.List.{List}

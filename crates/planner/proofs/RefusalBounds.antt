@@ -1,5 +1,5 @@
--- What an operation refuses with is small, whatever the plan's bytes are and whatever is lent: the cause's number has 8 bits, its two values have 32, and its set holds
--- activities alone. Assumes nothing.
+-- What an operation refuses with is small, whatever the plan's bytes are and whatever is lent: the cause's number has 8
+-- bits, its two values have 32, and its set holds activities alone.
 --
 --   open-refuses, verdict-refuses, needs-refuses, starts-refuses, overload-refuses, flow-refuses, sheet-refuses, trim-refuses, crew-refuses    what every operation does first, and the eight
 use mathlib.Core.Path.{_≡_}

@@ -1,4 +1,4 @@
--- Which refusal when, of the operations on one kind: 8, 9 and 7 of Flow and Sheet, and Sheet's 11 behind them. Assumes nothing.
+-- Which refusal when, of the operations on one kind: 8, 9 and 7 of Flow and Sheet, and Sheet's 11 behind them.
 use mathlib.Core.Path.{_≡_, ap}
 use mathlib.Core.Bool.{true, false, not}
 use mathlib.Core.List.{List}

@@ -1,4 +1,4 @@
--- Sheet: 11 after 8, 9 and 7, and what it answers and writes. Assumes nothing.
+-- Sheet: 11 after 8, 9 and 7, and what it answers and writes.
 use mathlib.Core.Path.{_≡_, refl, sym, ap, ap₂, _∙_}
 use mathlib.Core.Bool.{Bool, true, false, not}
 use mathlib.Core.List.{List, _++_}

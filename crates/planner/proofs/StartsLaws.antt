@@ -1,4 +1,4 @@
--- Starts: the numbers, and what it answers and writes. Assumes nothing.
+-- Starts: the numbers, and what it answers and writes.
 use mathlib.Core.Path.{_≡_, sym, ap, _∙_, subst}
 use mathlib.Core.Bool.{Bool, true, cond}
 use mathlib.Core.List.{List}

@@ -1,4 +1,4 @@
--- The weights of a file's arcs: as a table of its waits has them, and how late they let an activity finish. Assumes nothing.
+-- The weights of a file's arcs: as a table of its waits has them, and how late they let an activity finish.
 use mathlib.Core.Path.{_≡_, ap}
 use mathlib.Core.List.{List}
 use Prim.Native.Nat.{ℕ, _+_, _≤_, _<_}

@@ -1,4 +1,4 @@
--- Trim: when it goes on, and what it answers and writes, from what the code holds. Assumes nothing.
+-- Trim: when it goes on, and what it answers and writes, from what the code holds.
 use mathlib.Core.Path.{_≡_, refl, sym, ap, _∙_}
 use mathlib.Core.Bool.{Bool, true, false, not}
 use mathlib.Core.List.{List}

@@ -1,4 +1,5 @@
--- Trim, pair by pair: what is left of the extra arcs of an accepted plan is a plan of its own, which a file says, and is accepted; what the code makes of a pair is what the definition says. Assumes nothing.
+-- Trim, pair by pair: what is left of the extra arcs of an accepted plan is a plan of its own, which a file says, and
+-- is accepted; what the code makes of a pair is what the definition says.
 use mathlib.Core.Path.{_≡_, sym, ap, _∙_, subst}
 use mathlib.Core.Bool.{Bool, true, false, cond, _&&_, _||_}
 use mathlib.Core.List.{List}

@@ -1,4 +1,4 @@
--- How Trim considers an extra arc: what is left of the extra arcs, and of the order. Assumes nothing.
+-- How Trim considers an extra arc: what is left of the extra arcs, and of the order.
 use mathlib.Core.Path.{_≡_, sym, ap, _∙_}
 use mathlib.Core.Bool.{Bool, true, false, not, _&&_, _||_}
 use mathlib.Core.List.{List}

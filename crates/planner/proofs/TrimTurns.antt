@@ -1,4 +1,5 @@
--- Trim, one pass: an extra arc that may go is left exactly where the plan without it was refused in its turn, by then with the sooner arcs as they are in the end, and the later ones as they were. Assumes nothing.
+-- Trim, one pass: an extra arc that may go is left exactly where the plan without it was refused in its turn, by then
+-- with the sooner arcs as they are in the end, and the later ones as they were.
 use mathlib.Core.Path.{_≡_, refl, sym, ap, ap₂, _∙_, subst}
 use mathlib.Core.Bool.{Bool, true, false, not, _&&_, and-true, and-false}
 use mathlib.Core.List.{List}

@@ -1,4 +1,4 @@
--- Verdict: what it answers, from what the code holds. Assumes nothing.
+-- Verdict: what it answers, from what the code holds.
 use mathlib.Core.Path.{_≡_, ap, _∙_}
 use mathlib.Core.List.{List}
 use Prim.Native.Nat.{ℕ}

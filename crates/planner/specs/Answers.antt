@@ -1,6 +1,7 @@
--- "Where an answer is an enum, the promises use a definition. That definition gives this paper's number and values for each of the enum's cases." (01, Code places and
--- their forms): one for each answer, on top of `numbersOf`. 01 numbers the refusals alone; a result has 0 in front here, and the two findings of Crew check have 254
--- and 255, as at the counter. Assumes nothing.
+-- "Where an answer is an enum, the promises use a definition. That definition gives this paper's number and
+-- values for each of the enum's cases." (01, Code places and their forms): one for each answer, on top of
+-- `numbersOf`. 01 numbers the refusals alone; a result has 0 in front here, and the two findings of Crew
+-- check have 254 and 255, as at the counter.
 use mathlib.Core.List.{List, [], _∷_}
 use Prim.Native.Nat.{ℕ}
 use lib.ListN.{getD}

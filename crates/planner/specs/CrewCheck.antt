@@ -1,4 +1,4 @@
--- Crew check: what it answers. Assumes nothing.
+-- Crew check: what it answers.
 use mathlib.Core.Bool.{Bool, not, cond, _||_}
 use mathlib.Core.List.{List}
 use Prim.Native.Nat.{ℕ}
@@ -19,8 +19,8 @@ use Rattle.planner.specs.declared.Fault.the-variants as fault
 use Rattle.planner.specs.declared.CrewChecked.{CrewChecked}
 use Rattle.planner.specs.declared.CrewChecked.the-variants.{Found, Refused}
 
--- "10 is still given for a worked 0 on any other activity, and for a worked duration above 0 on a milestone" (02, change 2): of an activity that has the duration d
--- in the file and is worked in w
+-- "10 is still given for a worked 0 on any other activity, and for a worked duration above 0 on a milestone"
+-- (02, change 2): of an activity that has the duration d in the file and is worked in w
 abbrev pub misworked : ℕ → ℕ → Bool
 misworked d w = cond (eqb d 0) (ltb 0 w) (eqb w 0)
 

@@ -1,4 +1,4 @@
--- Faults, and the causes of an operation in their turn. Assumes nothing.
+-- Faults, and the causes of an operation in their turn.
 use mathlib.Core.Bool.{Bool, true, false, cond}
 use Prim.Native.Nat.{ℕ}
 use lib.Dec.{ltb}

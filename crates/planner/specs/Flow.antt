@@ -1,4 +1,4 @@
--- Flow: what it answers, and what the lent bytes then hold. Assumes nothing.
+-- Flow: what it answers, and what the lent bytes then hold.
 use mathlib.Core.Bool.{Bool, not, _&&_}
 use mathlib.Core.List.{List}
 use Prim.Native.Nat.{ℕ, _+_, _-_, _*_, _/_}
@@ -40,13 +40,15 @@ kindFault s kind n needed =
 unfoldable pub flowFault : List ℕ → ℕ → ℕ → Fault
 flowFault s kind n = kindFault s kind n (flowLength (planIn s .count))
 
--- THE FLOW SHOWN is free: it is what the solver hands over from activity to activity, with what the start and the end then pass and take. That it is
--- a flow of the paper's is `file-flow` of promises/proofs/FileFlows.antt. From node u to node v, where node 0 is the start and m + 1 the end, pass
+-- THE FLOW SHOWN is free: it is what the solver hands over from activity to activity, with what the start and
+-- the end then pass and take. That it is a flow of the paper's is `file-flow` of
+-- promises/proofs/FileFlows.antt. From node u to node v, where node 0 is the start and m + 1 the end, pass
 unfoldable pub flowUnits : Plan → ℕ → ℕ → ℕ → ℕ
 flowUnits q k u v =
     nodeFlow (q .count) (demandFor q k) (handed (flowOf (q .count) (orderFor q) (demandsFor (q .demand) k))) (needFor q k) (availableFor q k) u v
 
--- the added mark of a pair of nodes, by the job order. (In the file's own terms it is `Added` of File: `mark-added` of proofs/MarkLaws.antt.)
+-- the added mark of a pair of nodes, by the job order. (In the file's own terms it is `Added` of File:
+-- `mark-added` of proofs/MarkLaws.antt.)
 abbrev pub flowMark : Plan → ℕ → ℕ → ℕ
 flowMark q = markOf (isBefore (jobOrderFor q)) (q .count)
 

@@ -1,4 +1,5 @@
--- The need of a kind and overload (01, "Need and overload"), of a plan. Kind k stands for kind k + 1 of the file. Assumes nothing.
+-- The need of a kind and overload (01, "Need and overload"), of a plan. Kind k stands
+-- for kind k + 1 of the file.
 use mathlib.Core.Bool.{Bool}
 use Prim.Native.Nat.{ℕ, _+_}
 use lib.Dec.{ltb}
@@ -22,19 +23,22 @@ demandFor q k i = getD (demandsFor (q .demand) k) i 0
 abbrev pub availableFor : Plan → ℕ → ℕ
 availableFor q k = getD (q .available) k 0
 
--- "The need of a kind is the greatest sum of its demands over any unrelated set": of the activities 1 to m, by the plan order
+-- "The need of a kind is the greatest sum of its demands over any unrelated set": of the
+-- activities 1 to m, by the plan order
 unfoldable pub needFor : Plan → ℕ → ℕ
 needFor q k = needOf (q .count) (isBefore (orderFor q)) (demandFor q k)
 
--- "A plan is overloaded when a need exceeds its availability; equal is enough": the lowest such kind; K where there is none
+-- "A plan is overloaded when a need exceeds its availability; equal is enough": the lowest such
+-- kind; K where there is none
 unfoldable pub overKind : Plan → ℕ
 overKind q = first (q .kinds) (λ k. ltb (availableFor q k) (needFor q k))
 
 unfoldable pub isOverloaded : Plan → Bool
 isOverloaded q = ltb (overKind q) (q .kinds)
 
--- THE SET SHOWN, BY WHICHEVER OPERATION, is free: "unrelated, belongs to the lowest such kind, has that need as its sum, and holds only activities that
--- demand the kind". It is the solver's; that it is such a set is `shown` of promises/proofs/OverloadShown.antt.
+-- THE SET SHOWN, BY WHICHEVER OPERATION, is free: "unrelated, belongs to the lowest such kind, has that need
+-- as its sum, and holds only activities that demand the kind". It is the solver's; that it is such a set is
+-- `shown` of promises/proofs/OverloadShown.antt.
 abbrev pub shownSet : Plan → ℕ → Set
 shownSet q k = quoteFor (q .count) (orderFor q) (q .demand) k .set
 

@@ -1,4 +1,4 @@
--- Needs: what it answers, and what the lent numbers then hold. Assumes nothing.
+-- Needs: what it answers, and what the lent numbers then hold.
 use mathlib.Core.List.{List}
 use Prim.Native.Nat.{ℕ}
 use lib.ListN.{length}

@@ -1,5 +1,5 @@
--- The numbers of the causes and what is returned with each (01, Operations and causes, the table of causes): `refusalOf`, and `numbersOf` as a list. The numbers of the
--- answers are Answers. Assumes nothing.
+-- The numbers of the causes and what is returned with each (01, Operations and causes, the table of causes):
+-- `refusalOf`, and `numbersOf` as a list. The numbers of the answers are Answers.
 use mathlib.Core.List.{List, [], _∷_}
 use Prim.Native.Nat.{ℕ}
 use lib.ListN.{take}
@@ -26,6 +26,7 @@ refusalOf (Short n) = plain 9 1 n 0
 refusalOf (Lists m) = plain 10 1 m 0
 refusalOf (NoPage n) = plain 11 1 n 0
 
--- as a list. (7 returns "kind, need, set, size": the set is the number that it means, and its "size is the count of ones")
+-- as a list. (7 returns "kind, need, set, size": the set is the number that it means, and its
+-- "size is the count of ones")
 abbrev pub numbersOf : Cause → List ℕ
 numbersOf c = let r = refusalOf c in r .number ∷ take (r .values) (r .first ∷ r .second ∷ numberOf (r .set) ∷ count elements (bit (numberOf (r .set))) ∷ [])

@@ -1,4 +1,5 @@
--- What every operation does first, in two steps: the reading of the file, with the reader's causes, and the two orders, with their causes 5 and 6. Assumes nothing.
+-- What every operation does first, in two steps: the reading of the file, with the reader's causes, and the
+-- two orders, with their causes 5 and 6.
 use mathlib.Core.Path.{_≡_}
 use mathlib.Core.Bool.{true}
 use mathlib.Core.List.{List}

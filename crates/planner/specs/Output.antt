@@ -1,4 +1,4 @@
--- How the operations that write end. Assumes nothing.
+-- How the operations that write end.
 use mathlib.Core.Bool.{cond}
 use mathlib.Core.List.{List, _++_}
 use Prim.Native.Nat.{ℕ}
@@ -14,7 +14,8 @@ abbrev pub outputOf : Fault → ℕ → Output
 outputOf fault.Fine n = Written n
 outputOf (fault.Refused c) n = Refused c
 
--- "Numbers go to the front of the lent 32-bit slice, records to the front of the lent bytes; the rest is unchanged". After a refusal all is left as it was.
+-- "Numbers go to the front of the lent 32-bit slice, records to the front of the lent bytes; the rest is
+-- unchanged". After a refusal all is left as it was.
 unfoldable pub lentAfter : Fault → List ℕ → List ℕ → List ℕ
 lentAfter f written out =
     let front = written ++ drop (length written) out in

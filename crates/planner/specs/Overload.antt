@@ -1,4 +1,4 @@
--- Overload: what it answers, and what the lent bytes then hold. Assumes nothing.
+-- Overload: what it answers, and what the lent bytes then hold.
 use mathlib.Core.Bool.{cond}
 use mathlib.Core.List.{List, []}
 use Prim.Native.Nat.{ℕ, _+_}

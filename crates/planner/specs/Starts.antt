@@ -1,4 +1,4 @@
--- Starts: what it answers, and what the lent numbers then hold. Assumes nothing.
+-- Starts: what it answers, and what the lent numbers then hold.
 use mathlib.Core.Bool.{cond}
 use mathlib.Core.List.{List}
 use Prim.Native.Nat.{ℕ, _+_}

@@ -1,4 +1,5 @@
--- Trim (document 02, change 7): what it answers, and what the lent bytes then hold. Quotations are from there. Assumes nothing.
+-- Trim (document 02, change 7): what it answers, and what the lent bytes then
+-- hold. Quotations are from there.
 use mathlib.Core.Bool.{Bool, cond, _&&_}
 use mathlib.Core.List.{List}
 use Prim.Native.Nat.{ℕ, zero, suc, _*_, _/_, _%_}
@@ -20,18 +21,21 @@ use Rattle.planner.specs.Output.{outputOf, lentAfter}
 use Rattle.planner.specs.declared.Fault.{Fault}
 use Rattle.planner.specs.declared.Output.{Output}
 
--- "its extra arcs by from, then to": the pairs of elements count as 0, 1, 2, ..; pair x is that from x / elements to x % elements
+-- "its extra arcs by from, then to": the pairs of elements count as 0, 1, 2, ..; pair x is that from
+-- x / elements to x % elements
 abbrev pub pairFrom : ℕ → ℕ
 pairFrom x = x / elements
 
 abbrev pub pairTo : ℕ → ℕ
 pairTo x = x % elements
 
--- "Each arc with wait 0": an extra arc of the file that may go, by its own wait; a job arc of the same pair has one of its own
+-- "Each arc with wait 0": an extra arc of the file that may go, by its own wait; a job arc of the
+-- same pair has one of its own
 unfoldable pub mayGo : List ℕ → ℕ → ℕ → Bool
 mayGo s i j = after (planIn s .extra) i j && eqb (extraWait s i j) 0
 
--- ".. is taken out if the plan then left is still accepted; an arc with a longer wait always remains.": the extra arcs that are left of those of some rows, after pair x
+-- ".. is taken out if the plan then left is still accepted; an arc with a longer wait always remains.": the
+-- extra arcs that are left of those of some rows, after pair x
 unfoldable pub trimStep : List ℕ → ℕ → List ℕ → List ℕ
 trimStep s x extra =
     let less = withoutArc extra (pairFrom x) (pairTo x) in

@@ -1,4 +1,4 @@
--- When a plan is accepted, and Verdict: what it answers. Assumes nothing.
+-- When a plan is accepted, and Verdict: what it answers.
 use mathlib.Core.Bool.{Bool}
 use mathlib.Core.List.{List}
 use Prim.Native.Nat.{ℕ}

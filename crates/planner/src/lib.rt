@@ -1,5 +1,6 @@
-// The operations of the planner, each on the plan's bytes. Every operation has a file in `ops`: it opens the plan (`open`), looks for its own causes
-// in turn (`faults`), and answers by its fault and what it found or wrote (`answer`).
+// The operations of the planner, each on the plan's bytes. Every operation has a file in `ops`: it
+// opens the plan (`open`), looks for its own causes in turn (`faults`), and answers by its fault and
+// what it found or wrote (`answer`).
 mod answer;
 mod faults;
 mod numbers;
@@ -35,7 +36,7 @@ pub enum Cause {
     NoKind(usize),
     // The lent slice is too short, 9: the length needed.
     Short(usize),
-    // The lists are not m long, or a worked duration is 0, 10: m.
+    // The lists are not m long, or a worked duration does not fit (0 for a milestone, 1 or more for all others), 10: m.
     Lists(usize),
     // The page is not 1 to the page count, 11: that count.
     NoPage(usize),

@@ -1,4 +1,5 @@
-// What every operation does first, in two steps: it reads the plan's bytes, and then builds the orders and looks for a circle in each.
+// What every operation does first, in two steps: it reads the plan's bytes, and then builds the orders and
+// looks for a circle in each.
 ghost use mathlib.Core.Path.{_≡_};
 ghost use Rattle.planner.specs.Open.{planIn, unreadFault, orCircles};
 ghost use Rattle.planner.specs.model.Opening.{readPlan, orderedOf, openedOf};

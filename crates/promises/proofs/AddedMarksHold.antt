@@ -1,4 +1,4 @@
--- CHANGE 6 OF DOCUMENT 02 HOLDS OF OURS: `added-keep`. Assumes nothing.
+-- CHANGE 6 OF DOCUMENT 02 HOLDS OF OURS: `added-keep`.
 use mathlib.Core.Path.{_≡_, sym, _∙_}
 use mathlib.Core.List.{List}
 use mathlib.Core.Logic.{⊎-elim, _↔_}

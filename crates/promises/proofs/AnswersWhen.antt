@@ -1,4 +1,5 @@
--- When Starts and Crew check answer what: each case of the plan's fault and of what is lent has its answer. And what Flow leaves where it answers. Assumes nothing.
+-- When Starts and Crew check answer what: each case of the plan's fault and of what is lent has its answer. And what
+-- Flow leaves where it answers.
 use mathlib.Core.Path.{_≡_, sym, ap, _∙_}
 use mathlib.Core.Bool.{true, false}
 use mathlib.Core.List.{List, _++_}

@@ -1,4 +1,4 @@
--- The flows of the cases: what the solver hands over is computed once for each plan, and then the records. Assumes nothing.
+-- The flows of the cases: what the solver hands over is computed once for each plan, and then the records.
 use mathlib.Core.Path.{_≡_, refl, ap, ap₂, _∙_}
 use mathlib.Core.Bool.{not}
 use mathlib.Core.List.{List, [], _∷_}

@@ -1,5 +1,5 @@
--- The plans A to I and what is made of them, opened: what their bytes are read as, and which fault they have. Each is computed once, here; what an operation makes of a plan goes by these two
--- alone (`opened-as`). Assumes nothing.
+-- The plans A to I and what is made of them, opened: what their bytes are read as, and which fault they have. Each is
+-- computed once, here; what an operation makes of a plan goes by these two alone (`opened-as`).
 use mathlib.Core.Path.{_≡_, refl, ap, _∙_}
 use mathlib.Core.List.{List, [], _∷_, _++_}
 use Prim.Native.Nat.{ℕ, _-_, _*_}

@@ -1,4 +1,5 @@
--- The cases of Trim, by computation: pair after pair, those that are no extra arc of the plan passed over, and each extra arc by the plan without it. Assumes nothing.
+-- The cases of Trim, by computation: pair after pair, those that are no extra arc of the plan passed over, and each
+-- extra arc by the plan without it.
 use mathlib.Core.Path.{_≡_, refl, ap, _∙_}
 use mathlib.Core.Bool.{Bool, false, cond, _&&_}
 use mathlib.Core.List.{List, [], _∷_}

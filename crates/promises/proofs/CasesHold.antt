@@ -1,4 +1,5 @@
--- The starred cases hold: each answer goes by the plan and the fault that CasePlans has computed, and the rest is computed here. Assumes nothing.
+-- The starred cases hold: each answer goes by the plan and the fault that CasePlans has computed,
+-- and the rest is computed here.
 use mathlib.Core.Path.{_≡_}
 use mathlib.Core.List.{List, [], _∷_}
 use Prim.Native.Nat.{ℕ, _+_}

@@ -1,4 +1,5 @@
--- The causes of the opening are the same in every operation, and what 5 and 6 show is the lowest activity before itself. Assumes nothing.
+-- The causes of the opening are the same in every operation, and what 5 and 6 show is the
+-- lowest activity before itself.
 use mathlib.Core.Path.{_≡_, refl, sym, ap, _∙_}
 use mathlib.Core.Bool.{Bool, true, false, not}
 use mathlib.Core.List.{List, [], _∷_}

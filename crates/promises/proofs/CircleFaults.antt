@@ -1,4 +1,5 @@
--- What each of the causes 5 and 6 means, in the file's own terms, and when a plan opens, with no cause of the reader's and neither of these. Assumes nothing.
+-- What each of the causes 5 and 6 means, in the file's own terms, and when a plan opens, with no cause of the
+-- reader's and neither of these.
 use mathlib.Core.Path.{_≡_, refl, sym, ap, _∙_, subst}
 use mathlib.Core.List.{List}
 use mathlib.Core.Logic.{_⊎_, inl, inr, ⊎-elim}

@@ -1,4 +1,4 @@
--- What Crew check answers, in the file's own terms, in both directions. Assumes nothing.
+-- What Crew check answers, in the file's own terms, in both directions.
 use mathlib.Core.Path.{_≡_, sym, ap, _∙_}
 use mathlib.Core.Bool.{false}
 use mathlib.Core.List.{List, [], _∷_}

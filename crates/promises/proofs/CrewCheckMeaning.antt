@@ -1,4 +1,4 @@
--- What the crew check finds, in the file's own terms, where the plan opens and there is a start for each activity. Assumes nothing.
+-- What the crew check finds, in the file's own terms, where the plan opens and there is a start for each activity.
 use mathlib.Core.Path.{_≡_}
 use mathlib.Core.Bool.{cond}
 use mathlib.Core.List.{List}

@@ -1,4 +1,5 @@
--- OURS KEEPS THE THREE DEMANDS; and the third leaves one need alone to be quoted, so that two planners that keep it also refuse the same plans. Assumes nothing.
+-- OURS KEEPS THE THREE DEMANDS; and the third leaves one need alone to be quoted, so that two planners that keep it
+-- also refuse the same plans.
 use mathlib.Core.Path.{_≡_}
 use mathlib.Core.List.{List}
 use mathlib.Core.Logic.{_↔_}

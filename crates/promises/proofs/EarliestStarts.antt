@@ -1,4 +1,4 @@
--- What Starts writes are the earliest starts, in the file's own terms. Assumes nothing.
+-- What Starts writes are the earliest starts, in the file's own terms.
 use mathlib.Core.Path.{_≡_, ap, _∙_, subst}
 use mathlib.Core.List.{List, _++_}
 use mathlib.Core.Logic.{⊎-elim}

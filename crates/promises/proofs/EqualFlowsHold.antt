@@ -1,5 +1,6 @@
--- "plans with the same activities, crew, set of job arcs and set of extra arcs get equal flows" (01, Flow): they are read as one and the same plan, and Flow goes by
--- that alone, as Verdict, Needs and Overload do; Sheet goes by that and by the waits. Assumes nothing.
+-- "plans with the same activities, crew, set of job arcs and set of extra arcs get equal flows" (01, Flow):
+-- they are read as one and the same plan, and Flow goes by that alone, as Verdict, Needs and Overload do; Sheet
+-- goes by that and by the waits.
 use mathlib.Core.Path.{_≡_, sym, ap, _∙_}
 use mathlib.Core.List.{List}
 use Prim.Native.Nat.{ℕ, _+_}

@@ -1,4 +1,5 @@
--- DEMAND 1 HOLDS OF OURS: every answer is a result or a refusal by a number that document 01 gives the operation, and a refusal changes nothing. Assumes nothing.
+-- DEMAND 1 HOLDS OF OURS: every answer is a result or a refusal by a number that document 01 gives the operation,
+-- and a refusal changes nothing.
 use mathlib.Core.Path.{_≡_, refl, sym, ap, _∙_}
 use mathlib.Core.Bool.{Bool, true, false, _||_, true≢false, false≢true}
 use mathlib.Core.List.{List, [], _∷_, _++_}

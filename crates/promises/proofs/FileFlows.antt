@@ -1,4 +1,4 @@
--- The flow of a kind of a plan that opens, in the file's terms. Assumes nothing.
+-- The flow of a kind of a plan that opens, in the file's terms.
 use mathlib.Core.Path.{_≡_, ap, _∙_}
 use mathlib.Core.Bool.{true, false≢true, _&&_, _||_}
 use mathlib.Core.List.{List}

@@ -1,5 +1,6 @@
--- The need of a kind of a plan that opens, in the file's own terms: some unrelated set of activities demands it and none demands more; the set that is
--- shown is such a set; no crew has more occupied in any period, and some crew has exactly that in some period. Assumes nothing.
+-- The need of a kind of a plan that opens, in the file's own terms: some unrelated set of activities demands it and
+-- none demands more; the set that is shown is such a set; no crew has more occupied in any period, and some crew has
+-- exactly that in some period.
 use mathlib.Core.Path.{_≡_, sym, _∙_, ap}
 use mathlib.Core.Bool.{Bool, true}
 use mathlib.Core.List.{List}

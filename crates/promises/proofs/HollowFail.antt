@@ -1,4 +1,5 @@
--- THE PRICE-LIST SENTENCE DOES NOT HOLD OF THE HOLLOW PLANNERS: on plan A or plan C each gives an answer that it forbids. Assumes nothing.
+-- THE PRICE-LIST SENTENCE DOES NOT HOLD OF THE HOLLOW PLANNERS: on plan A or plan C each
+-- gives an answer that it forbids.
 use mathlib.Core.Path.{_≡_, refl, sym, ap, _∙_, subst}
 use mathlib.Core.Bool.{Bool, true, false, _&&_}
 use mathlib.Core.List.{List, [], _∷_}

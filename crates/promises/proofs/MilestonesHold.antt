@@ -1,4 +1,4 @@
--- CHANGE 2 OF DOCUMENT 02 HOLDS OF OURS: `milestones-keep`. Assumes nothing.
+-- CHANGE 2 OF DOCUMENT 02 HOLDS OF OURS: `milestones-keep`.
 use mathlib.Core.Path.{_≡_}
 use mathlib.Core.List.{List}
 use Prim.Native.Nat.{ℕ, _+_, _<_}

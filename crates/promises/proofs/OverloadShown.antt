@@ -1,4 +1,5 @@
--- When a plan is overloaded, by which kind, and that the set shown is as document 01 says, in the terms of the price list. Assumes nothing.
+-- When a plan is overloaded, by which kind, and that the set shown is as document 01 says, in
+-- the terms of the price list.
 use mathlib.Core.Path.{_≡_, refl, sym, ap, _∙_}
 use mathlib.Core.Bool.{true, false}
 use mathlib.Core.List.{List}

@@ -1,5 +1,5 @@
--- DEMAND 2 HOLDS OF OURS. It rests on CircleCauses (causes 5 and 6), EarliestStarts (starts), CrewCheckAnswers (crew check), PriceListHolds (flows) and
--- PeriodLoads (the steps of the load sum). Assumes nothing.
+-- DEMAND 2 HOLDS OF OURS. It rests on CircleCauses (causes 5 and 6), EarliestStarts (starts), CrewCheckAnswers (crew
+-- check), PriceListHolds (flows) and PeriodLoads (the steps of the load sum).
 use mathlib.Core.Path.{_≡_, subst, fun-ext}
 use mathlib.Core.List.{List}
 use Prim.Native.Nat.{ℕ}

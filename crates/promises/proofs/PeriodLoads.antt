@@ -1,4 +1,4 @@
--- The load of a period is added in the paper's steps, and is the paper's sum, in the file's own terms. Assumes nothing.
+-- The load of a period is added in the paper's steps, and is the paper's sum, in the file's own terms.
 use mathlib.Core.Path.{_≡_, sym, ap, _∙_}
 use mathlib.Core.Bool.{Bool, cond}
 use mathlib.Core.List.{List, []}

@@ -1,4 +1,4 @@
--- THE PRICE-LIST SENTENCE HOLDS for every readable plan without a circle: `price-list`. Assumes nothing.
+-- THE PRICE-LIST SENTENCE HOLDS for every readable plan without a circle: `price-list`.
 use mathlib.Core.Path.{_≡_, refl, sym, ap, ap₂, _∙_}
 use mathlib.Core.Bool.{Bool, true, false, not, cond}
 use mathlib.Core.List.{List, [], _∷_, _++_}

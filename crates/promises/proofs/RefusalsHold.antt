@@ -1,4 +1,4 @@
--- Which answer when: ours. Assumes nothing.
+-- Which answer when: ours.
 use mathlib.Core.Path.{_≡_, refl, sym, ap, _∙_}
 use mathlib.Core.Bool.{Bool, true, cond}
 use mathlib.Core.List.{List, [], _∷_}

@@ -1,4 +1,4 @@
--- CHANGE 3 OF DOCUMENT 02 HOLDS OF OURS: `arcs-once-keep`. Assumes nothing.
+-- CHANGE 3 OF DOCUMENT 02 HOLDS OF OURS: `arcs-once-keep`.
 use mathlib.Core.Path.{_≡_, refl, ap}
 use mathlib.Core.List.{List, _∷_}
 use Prim.Native.Nat.{ℕ}

@@ -1,4 +1,4 @@
--- What Sheet answers and leaves, by its page, where the plan opens, the kind is there and nothing is overloaded. Assumes nothing.
+-- What Sheet answers and leaves, by its page, where the plan opens, the kind is there and nothing is overloaded.
 use mathlib.Core.Path.{_≡_, refl, sym, ap, subst, _∙_}
 use mathlib.Core.Bool.{false, true≢false}
 use mathlib.Core.List.{List, [], _∷_, _++_}

@@ -1,4 +1,4 @@
--- CHANGE 1 OF DOCUMENT 02 HOLDS OF OURS: `sheet-keeps`. Assumes nothing.
+-- CHANGE 1 OF DOCUMENT 02 HOLDS OF OURS: `sheet-keeps`.
 use mathlib.Core.Path.{_≡_, refl, sym, subst, _∙_}
 use mathlib.Core.Bool.{false}
 use mathlib.Core.List.{List, [], _∷_, _++_}

@@ -1,4 +1,5 @@
--- What Sheet prints of a kind, where the plan opens and nothing is overloaded: the records that Flow writes, with the starts that Starts writes. Assumes nothing.
+-- What Sheet prints of a kind, where the plan opens and nothing is overloaded: the records that Flow writes, with
+-- the starts that Starts writes.
 use mathlib.Core.Path.{_≡_, refl, sym, ap, subst, _∙_}
 use mathlib.Core.Bool.{false}
 use mathlib.Core.List.{List, [], _∷_, _++_}

@@ -1,4 +1,5 @@
--- Which arcs Trim takes out: an extra arc of wait 0 goes exactly where the plan then left, whichever file says it, is accepted. Assumes nothing.
+-- Which arcs Trim takes out: an extra arc of wait 0 goes exactly where the plan then left,
+-- whichever file says it, is accepted.
 use mathlib.Core.Path.{_≡_, refl, sym, ap, _∙_, subst}
 use mathlib.Core.Bool.{true}
 use mathlib.Core.List.{List}

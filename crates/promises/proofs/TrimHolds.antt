@@ -1,4 +1,5 @@
--- CHANGE 7 OF DOCUMENT 02 HOLDS OF OURS: `trim-keeps`. It rests on TrimChoices (which arcs go), TrimLeast (no more can) and TrimVerdicts. Assumes nothing.
+-- CHANGE 7 OF DOCUMENT 02 HOLDS OF OURS: `trim-keeps`. It rests on TrimChoices (which arcs go), TrimLeast (no
+-- more can) and TrimVerdicts.
 use mathlib.Core.Path.{_≡_, refl, sym, ap, _∙_, subst}
 use mathlib.Core.Bool.{true, false}
 use mathlib.Core.List.{List, [], _∷_, _++_}

@@ -1,5 +1,6 @@
--- No plan made from a trimmed one by leaving out more is accepted. One pass over the arcs suffices, since an order with fewer arcs has no smaller need (`need-fewer` of flow_math): an arc that had to stay in
--- its turn has to stay in every plan with no more arcs. So a trimmed plan that is trimmed again stays as it is. Assumes nothing.
+-- No plan made from a trimmed one by leaving out more is accepted. One pass over the arcs suffices, since an order with
+-- fewer arcs has no smaller need (`need-fewer` of flow_math): an arc that had to stay in its turn has to stay in every
+-- plan with no more arcs. So a trimmed plan that is trimmed again stays as it is.
 use mathlib.Core.Path.{_≡_, refl, sym, ap, _∙_, subst}
 use mathlib.Core.Bool.{Bool, true, false, _&&_, and-false}
 use mathlib.Core.List.{List}

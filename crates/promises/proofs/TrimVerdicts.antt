@@ -1,4 +1,4 @@
--- What Verdict says of a plan, and of plans that differ in extra arcs alone. Assumes nothing.
+-- What Verdict says of a plan, and of plans that differ in extra arcs alone.
 use mathlib.Core.Path.{_≡_, refl, sym, ap, ap₂, _∙_}
 use mathlib.Core.Bool.{true, false}
 use mathlib.Core.List.{List}

@@ -1,4 +1,4 @@
--- A file without some of its extra arcs of wait 0: what it says, and, of the trimmed one, why its arcs stay. Assumes nothing.
+-- A file without some of its extra arcs of wait 0: what it says, and, of the trimmed one, why its arcs stay.
 use mathlib.Core.Path.{_≡_, refl, sym, ap, ap₂, _∙_}
 use mathlib.Core.Bool.{Bool, true, false, not, _&&_, and-false}
 use mathlib.Core.List.{List}

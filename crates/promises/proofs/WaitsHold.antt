@@ -1,4 +1,4 @@
--- CHANGE 5 OF DOCUMENT 02 HOLDS OF OURS: `waits-keep`. Assumes nothing.
+-- CHANGE 5 OF DOCUMENT 02 HOLDS OF OURS: `waits-keep`.
 use mathlib.Core.Path.{ap}
 use mathlib.Core.List.{List}
 use mathlib.Core.Logic.{_↔_, inl, inr, ⊎-elim, by-cases}

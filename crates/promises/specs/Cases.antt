@@ -1,6 +1,8 @@
--- THE STARRED CASES of document 01, "Plans A to F", and cases of document 02, on the files' bytes, as one table about a planner P: each line is one case and what P says of it, by the numbers of
--- the answers (planner's Answers): "6, activity 1" is the list of 6 and 1; 0 is a result, 254 a broken arc, 255 an overload with period and kind. Every line holds
--- of ours: `cases` of proofs/CasesHold.antt, by computation of the definitions alone; and some plans trimmed (`TrimCases`). Assumes nothing.
+-- THE STARRED CASES of document 01, "Plans A to F", and cases of document 02, on the files' bytes, as one
+-- table about a planner P: each line is one case and what P says of it, by the numbers of the answers
+-- (planner's Answers): "6, activity 1" is the list of 6 and 1; 0 is a result, 254 a broken arc, 255 an
+-- overload with period and kind. Every line holds of ours: `cases` of proofs/CasesHold.antt, by computation
+-- of the definitions alone; and some plans trimmed (`TrimCases`).
 use mathlib.Core.Path.{_≡_}
 use mathlib.Core.List.{List, [], _∷_, _++_}
 use Prim.Native.Nat.{ℕ}
@@ -26,7 +28,8 @@ waitBytes type i j low high = type ∷ i ∷ j ∷ 0 ∷ low ∷ high ∷ replic
 abbrev pub planC : List ℕ
 planC = activityBytes 1 1 2 ++ (activityBytes 2 2 2 ++ (activityBytes 3 3 2 ++ (activityBytes 4 1 2 ++ crewBytes 4)))
 
--- extra arcs: plan A has 1 to 2 and 2 to 4, plan B 1 to 2, 1 to 3 and 1 to 4, plan D 1 to 3, 1 to 4, 2 to 3 and 2 to 4, plan E 1 to 2 and 2 to 1
+-- extra arcs: plan A has 1 to 2 and 2 to 4, plan B 1 to 2, 1 to 3 and 1 to 4, plan D 1 to 3, 1 to 4, 2 to 3
+-- and 2 to 4, plan E 1 to 2 and 2 to 1
 abbrev pub planA : List ℕ
 planA = planC ++ (arcBytes 4 1 2 ++ arcBytes 4 2 4)
 
@@ -61,7 +64,8 @@ planH =
 abbrev pub planABoth : List ℕ
 planABoth = planC ++ (arcBytes 3 1 2 ++ (arcBytes 4 1 2 ++ arcBytes 4 2 4))
 
--- plan A with both arcs pasted twice, plan E with its first arc pasted twice, plan C with one arc three times, and plan A with a copy of its first arc that has a spare byte
+-- plan A with both arcs pasted twice, plan E with its first arc pasted twice, plan C with one arc three
+-- times, and plan A with a copy of its first arc that has a spare byte
 abbrev pub planAPasted : List ℕ
 planAPasted = planA ++ (arcBytes 4 1 2 ++ arcBytes 4 2 4)
 
@@ -74,7 +78,8 @@ planCThrice = planC ++ (arcBytes 3 1 2 ++ (arcBytes 3 1 2 ++ arcBytes 3 1 2))
 abbrev pub planASpare : List ℕ
 planASpare = planA ++ (4 ∷ 1 ∷ 2 ∷ 1 ∷ replicate 20 0)
 
--- plan A with a wait of 3 on its arc 1 to 2; and with a job arc 1 to 2 of wait 256 beside an extra arc of wait 3, or the other way round
+-- plan A with a wait of 3 on its arc 1 to 2; and with a job arc 1 to 2 of wait 256 beside an extra arc of
+-- wait 3, or the other way round
 abbrev pub planAWait : List ℕ
 planAWait = planC ++ (waitBytes 4 1 2 3 0 ++ arcBytes 4 2 4)
 
@@ -91,7 +96,8 @@ planAWaitPasted = planAWait ++ waitBytes 4 1 2 5 0
 abbrev pub planAWaitSpare : List ℕ
 planAWaitSpare = planAWait ++ (4 ∷ 1 ∷ 3 ∷ 0 ∷ 5 ∷ 0 ∷ 1 ∷ replicate 17 0)
 
--- three activities in a row, of which the second demands nobody, with 2 available; both arcs as job arcs, the second as an extra arc, and both with an extra arc from 1 to 3
+-- three activities in a row, of which the second demands nobody, with 2 available; both arcs as job arcs, the
+-- second as an extra arc, and both with an extra arc from 1 to 3
 abbrev pub planI : List ℕ
 planI = activityBytes 1 1 2 ++ (activityBytes 2 1 0 ++ (activityBytes 3 1 2 ++ crewBytes 2))
 
@@ -108,7 +114,8 @@ planIBoth = planIJob ++ arcBytes 4 1 3
 abbrev pub handoverBytes : ℕ → ℕ → ℕ → ℕ → List ℕ
 handoverBytes from to units mark = 33 ∷ 1 ∷ from ∷ to ∷ units ∷ 0 ∷ 0 ∷ 0 ∷ mark ∷ replicate 15 0
 
--- the flow of plan A, at the front of the 360 bytes that it needs; and that of the plans I, where the handover from 1 to 3 has this mark, at the front of 240
+-- the flow of plan A, at the front of the 360 bytes that it needs; and that of the plans I, where the
+-- handover from 1 to 3 has this mark, at the front of 240
 abbrev pub flowA : List ℕ
 flowA =
     handoverBytes 0 1 2 0
@@ -121,7 +128,8 @@ pub record Cases (P : Planner) : Type 0 where
   -- "*A accepted, need 4."
   pub a-accepted : verdictNumbers (P .verdict planA) ≡ 0 ∷ 4 ∷ 1 ∷ []
   pub a-need : P .needs .left planA (9 ∷ 9 ∷ []) ≡ 4 ∷ 9 ∷ []
-  -- "*B, A with extra arcs 1→2, 1→3, 1→4: `refused 7 1 6 2 3 4`": the set of the activities 2, 3 and 4 is the number 14
+  -- "*B, A with extra arcs 1→2, 1→3, 1→4: `refused 7 1 6 2 3 4`": the set of the activities
+  -- 2, 3 and 4 is the number 14
   pub b-overloaded : verdictNumbers (P .verdict planB) ≡ 7 ∷ 1 ∷ 6 ∷ 14 ∷ 3 ∷ []
   pub b-need : P .needs .left planB (9 ∷ []) ≡ 6 ∷ []
   -- "*C, A with none: need 8, set all four."
@@ -147,32 +155,40 @@ pub record Cases (P : Planner) : Type 0 where
   pub a-fits : crewCheckNumbers (P .crew-check planA (0 ∷ 1 ∷ 0 ∷ 3 ∷ []) (1 ∷ 2 ∷ 3 ∷ 1 ∷ [])) ≡ 0 ∷ []
   pub a-breaks : crewCheckNumbers (P .crew-check planA (0 ∷ 1 ∷ 0 ∷ 2 ∷ []) (1 ∷ 2 ∷ 3 ∷ 1 ∷ [])) ≡ 254 ∷ 2 ∷ 4 ∷ []
   pub a-idle : crewCheckNumbers (P .crew-check planA (0 ∷ 1 ∷ 0 ∷ 2 ∷ []) (1 ∷ 2 ∷ 0 ∷ 1 ∷ [])) ≡ 10 ∷ 4 ∷ []
-  -- "*C, all starts 0, durations 1: period 1, kind 1. *C, starts 0, 0, 1, 1: durations 1 fit; *durations 2, 2, 1, 1: period 2."
+  -- "*C, all starts 0, durations 1: period 1, kind 1. *C, starts 0, 0, 1, 1: durations 1 fit;
+  -- *durations 2, 2, 1, 1: period 2."
   pub c-at-once : crewCheckNumbers (P .crew-check planC (0 ∷ 0 ∷ 0 ∷ 0 ∷ []) (1 ∷ 1 ∷ 1 ∷ 1 ∷ [])) ≡ 255 ∷ 1 ∷ 1 ∷ []
   pub c-two-by-two : crewCheckNumbers (P .crew-check planC (0 ∷ 0 ∷ 1 ∷ 1 ∷ []) (1 ∷ 1 ∷ 1 ∷ 1 ∷ [])) ≡ 0 ∷ []
   pub c-longer : crewCheckNumbers (P .crew-check planC (0 ∷ 0 ∷ 1 ∷ 1 ∷ []) (2 ∷ 2 ∷ 1 ∷ 1 ∷ [])) ≡ 255 ∷ 2 ∷ 1 ∷ []
-  -- "one timetable by list durations: C passes .. with starts 0, 0, 2, 1" (01, False turns), and its need is 8, as above
+  -- "one timetable by list durations: C passes .. with starts 0, 0, 2, 1" (01, False turns),
+  -- and its need is 8, as above
   pub c-false-turn : crewCheckNumbers (P .crew-check planC (0 ∷ 0 ∷ 2 ∷ 1 ∷ []) (1 ∷ 2 ∷ 3 ∷ 1 ∷ [])) ≡ 0 ∷ []
-  -- "Document 01's case of a duration 0 is now read without demands and refused as 12 with one." (02, change 2)
+  -- "Document 01's case of a duration 0 is now read without demands and refused as
+  -- 12 with one." (02, change 2)
   pub g-read : verdictNumbers (P .verdict (planG 0)) ≡ 0 ∷ 1 ∷ 1 ∷ []
   pub g-refused : verdictNumbers (P .verdict (planG 1)) ≡ 12 ∷ 0 ∷ []
-  -- a milestone "is never at work and still passes order on": H is accepted as D is, and 4 and 5 start when 2 is done
+  -- a milestone "is never at work and still passes order on": H is accepted as D is, and
+  -- 4 and 5 start when 2 is done
   pub h-accepted : verdictNumbers (P .verdict planH) ≡ 0 ∷ 5 ∷ 1 ∷ []
   pub h-need : P .needs .left planH (9 ∷ []) ≡ 4 ∷ []
   pub h-starts : P .starts .left planH (9 ∷ 9 ∷ 9 ∷ 9 ∷ 9 ∷ 9 ∷ 9 ∷ []) ≡ 0 ∷ 0 ∷ 2 ∷ 2 ∷ 2 ∷ 5 ∷ 9 ∷ []
-  -- "its worked duration is 0 too": worked 0 it fits, and worked 1 gives 10, as does a worked 0 on another activity
+  -- "its worked duration is 0 too": worked 0 it fits, and worked 1 gives 10, as does a
+  -- worked 0 on another activity
   pub h-fits : crewCheckNumbers (P .crew-check planH (0 ∷ 0 ∷ 2 ∷ 2 ∷ 2 ∷ []) (1 ∷ 2 ∷ 0 ∷ 3 ∷ 1 ∷ [])) ≡ 0 ∷ []
   pub h-worked : crewCheckNumbers (P .crew-check planH (0 ∷ 0 ∷ 2 ∷ 3 ∷ 3 ∷ []) (1 ∷ 2 ∷ 1 ∷ 3 ∷ 1 ∷ [])) ≡ 10 ∷ 5 ∷ []
   pub h-idle : crewCheckNumbers (P .crew-check planH (0 ∷ 0 ∷ 2 ∷ 2 ∷ 2 ∷ []) (1 ∷ 0 ∷ 0 ∷ 3 ∷ 1 ∷ [])) ≡ 10 ∷ 5 ∷ []
-  -- "A pair repeated within the same type is now refused. The same pair as a job arc and an extra arc is still fine." (02, change 3)
+  -- "A pair repeated within the same type is now refused. The same pair as a job arc and an extra arc is
+  -- still fine." (02, change 3)
   pub a-both : verdictNumbers (P .verdict planABoth) ≡ 0 ∷ 4 ∷ 1 ∷ []
   pub a-pasted : verdictNumbers (P .verdict planAPasted) ≡ 13 ∷ 7 ∷ []
-  -- "with the place of the later record, in each record after 4, hence before any circle"; of three copies the second is the first that repeats
+  -- "with the place of the later record, in each record after 4, hence before any circle"; of three copies
+  -- the second is the first that repeats
   pub a-spare : verdictNumbers (P .verdict planASpare) ≡ 4 ∷ 7 ∷ []
   pub e-pasted : verdictNumbers (P .verdict planEPasted) ≡ 13 ∷ 7 ∷ []
   pub c-thrice : verdictNumbers (P .verdict planCThrice) ≡ 13 ∷ 6 ∷ []
-  -- "An arc is kept when start plus duration plus wait is at most the next start. .. the end still follows the last finish. .. Need and flow do not read waits." (02, change 5): 2 starts 3
-  -- periods after 1 is done, 4 follows it, and the need is that of A
+  -- "An arc is kept when start plus duration plus wait is at most the next start. .. the end still follows
+  -- the last finish. .. Need and flow do not read waits." (02, change 5): 2 starts 3 periods after 1 is done,
+  -- 4 follows it, and the need is that of A
   pub w-accepted : verdictNumbers (P .verdict planAWait) ≡ 0 ∷ 4 ∷ 1 ∷ []
   pub w-need : P .needs .left planAWait (9 ∷ []) ≡ 4 ∷ []
   pub w-starts : P .starts .left planAWait (9 ∷ 9 ∷ 9 ∷ 9 ∷ 9 ∷ 9 ∷ []) ≡ 0 ∷ 4 ∷ 0 ∷ 6 ∷ 7 ∷ 9 ∷ []
@@ -187,21 +203,25 @@ pub record Cases (P : Planner) : Type 0 where
   pub w-pasted : verdictNumbers (P .verdict planAWaitPasted) ≡ 13 ∷ 7 ∷ []
   -- "and plan A's listing keeps its marks" (02, change 6): its six flow lines, as document 01 has them
   pub a-flow : P .flow 1 .left planA (replicate 360 9) ≡ flowA
-  -- "a handover .. that the job order forces through a third job" is not added; one on a way that uses an extra arc is; and one that has both ways is not
+  -- "a handover .. that the job order forces through a third job" is not added; one on a way that uses an
+  -- extra arc is; and one that has both ways is not
   pub i-job : P .flow 1 .left planIJob (replicate 240 9) ≡ flowI 0
   pub i-extra : P .flow 1 .left planIExtra (replicate 240 9) ≡ flowI 1
   pub i-both : P .flow 1 .left planIBoth (replicate 240 9) ≡ flowI 0
 
--- "Trim the extra arcs" (02, change 7), about an operation T. Every line holds of ours: `trim-cases` of proofs/CaseTrims.antt
+-- "Trim the extra arcs" (02, change 7), about an operation T. Every line holds of ours:
+-- `trim-cases` of proofs/CaseTrims.antt
 pub record TrimCases (T : Writing) : Type 0 where
-  -- of D 1 to 3 goes, being the first; then 1 to 4 and 2 to 3 have to stay, and 2 to 4 goes too: 7 records are left, and the 48 bytes behind them are as they were
+  -- of D 1 to 3 goes, being the first; then 1 to 4 and 2 to 3 have to stay, and 2 to 4 goes too: 7 records
+  -- are left, and the 48 bytes behind them are as they were
   pub d-count : outputNumbers (T .answer planD 216) ≡ 0 ∷ 7 ∷ []
   pub d-left : T .left planD (replicate 216 9) ≡ planC ++ (arcBytes 4 1 4 ++ (arcBytes 4 2 3 ++ replicate 48 9))
   -- A with its first arc as a job arc too: the extra arc goes
   pub both-left : T .left planABoth (replicate 192 9) ≡ planC ++ (arcBytes 3 1 2 ++ (arcBytes 4 2 4 ++ replicate 24 9))
   -- "an arc with a longer wait always remains": the same, with a wait on the extra arc
   pub wait-left : T .left planAJobWaits (replicate 192 9) ≡ planAJobWaits
-  -- "9 comes after the circles and needs the given file's length; 7 comes last.": B is overloaded, and its 7 is Verdict's (`overloaded` of Trim)
+  -- "9 comes after the circles and needs the given file's length; 7 comes last.": B is overloaded, and its 7
+  -- is Verdict's (`overloaded` of Trim)
   pub d-short : outputNumbers (T .answer planD 215) ≡ 9 ∷ 216 ∷ []
   pub e-circle : outputNumbers (T .answer planE 0) ≡ 6 ∷ 1 ∷ []
   pub b-short : outputNumbers (T .answer planB 191) ≡ 9 ∷ 192 ∷ []

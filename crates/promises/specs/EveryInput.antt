@@ -1,5 +1,6 @@
--- DEMAND 1 of document 00, about a planner P: "every input gets a result or a numbered refusal of document 01, and a refusal leaves every lent byte and number as
--- before." It holds of ours: `every-input` of proofs/EveryInputHolds.antt, for every list of numbers, bytes or not. Assumes nothing.
+-- DEMAND 1 of document 00, about a planner P: "every input gets a result or a numbered refusal of document
+-- 01, and a refusal leaves every lent byte and number as before." It holds of ours: `every-input` of
+-- proofs/EveryInputHolds.antt, for every list of numbers, bytes or not.
 use mathlib.Core.Path.{_≡_}
 use mathlib.Core.List.{List, [], _∷_, _++_}
 use mathlib.Core.Logic.{_⊎_}
@@ -18,7 +19,8 @@ abbrev pub OneOf : List ℕ → ℕ → Type 0
 OneOf [] n = ⊥
 OneOf (x ∷ xs) n = (n ≡ x) ⊎ OneOf xs n
 
--- "Check order: 1; then records in file order, 2, 3, 4 within each": the reader's numbers; 12 comes "in each record after 3 and before 4" (02, change 2), 13 "in each record after 4" (02, change 3)
+-- "Check order: 1; then records in file order, 2, 3, 4 within each": the reader's numbers; 12 comes "in each
+-- record after 3 and before 4" (02, change 2), 13 "in each record after 4" (02, change 3)
 abbrev pub reading : List ℕ
 reading = 1 ∷ 2 ∷ 3 ∷ 12 ∷ 4 ∷ 13 ∷ []
 
@@ -26,7 +28,8 @@ reading = 1 ∷ 2 ∷ 3 ∷ 12 ∷ 4 ∷ 13 ∷ []
 abbrev pub opening : List ℕ
 opening = reading ++ 5 ∷ 6 ∷ []
 
--- an operation that writes gives "a result or a numbered refusal", by one of these numbers, whatever the bytes and however much is lent
+-- an operation that writes gives "a result or a numbered refusal", by one of these numbers, whatever the
+-- bytes and however much is lent
 abbrev pub AnswersBy : List ℕ → Writing → Type 0
 AnswersBy numbers W =
     (s : List ℕ) (n : ℕ) → ((r : ℕ) × (W .answer s n ≡ Written r)) ⊎ ((c : Cause) × (W .answer s n ≡ Refused c) × OneOf numbers (causeNumber c))

@@ -1,5 +1,6 @@
--- THE HOLLOW PLANNERS of document 01, "How far the contracts reach", and that the price-list sentence holds of none of them: `HollowPlannersFail` of five planners
--- that are ours but for their hollow part, and `HollowFail` of every planner with such a part (proofs/HollowFail.antt). Assumes nothing.
+-- THE HOLLOW PLANNERS of document 01, "How far the contracts reach", and that the price-list sentence holds
+-- of none of them: `HollowPlannersFail` of five planners that are ours but for their hollow part, and
+-- `HollowFail` of every planner with such a part (proofs/HollowFail.antt).
 use mathlib.Core.Path.{_≡_}
 use mathlib.Core.Bool.{Bool, true}
 use mathlib.Core.List.{List}
@@ -58,7 +59,8 @@ availableAsNeed =
     })
     (ours .flow)
 
--- "7 given before any set is weighed": by whatever test of the activity records and the crew record, which do not say what is ordered
+-- "7 given before any set is weighed": by whatever test of the activity records and the crew record,
+-- which do not say what is ordered
 abbrev pub unordered : List ℕ → List ℕ
 unordered s = take (24 * (activityCount s + 1)) s
 

@@ -1,6 +1,7 @@
--- CHANGE 2 of document 02, "Milestones", about a planner P: `MilestoneSentence P`. Ours keeps it: `milestones-keep` of proofs/MilestonesHold.antt. In which durations a crew
--- can work, and a crew check takes, is `Workable` of planner's Times, of which demands 2 and 3 speak; here is what follows for milestones, and 12. Quotations are from
--- document 02, change 2. Assumes nothing.
+-- CHANGE 2 of document 02, "Milestones", about a planner P: `MilestoneSentence P`. Ours keeps it:
+-- `milestones-keep` of proofs/MilestonesHold.antt. In which durations a crew can work, and a crew check
+-- takes, is `Workable` of planner's Times, of which demands 2 and 3 speak; here is what follows for
+-- milestones, and 12. Quotations are from document 02, change 2.
 use mathlib.Core.Path.{_≡_}
 use mathlib.Core.Bool.{false}
 use mathlib.Core.List.{List, [], _∷_}
@@ -19,8 +20,8 @@ use Rattle.planner.specs.declared.Output.the-variants.{Written}
 use Rattle.promises.specs.Planner.{Planner}
 use Rattle.promises.specs.Paper.{EveryGives, SomeGives}
 
--- of any bytes: "12, duration 0 with a demand, with the place, in each record after 3 and before 4" (plan's Refused says when) every operation gives there, whatever is lent or
--- asked, and none gives it otherwise
+-- of any bytes: "12, duration 0 with a demand, with the place, in each record after 3 and before 4" (plan's
+-- Refused says when) every operation gives there, whatever is lent or asked, and none gives it otherwise
 pub record Twelve (P : Planner) (s : List ℕ) : Type 0 where
   pub twelve : (p : ℕ) → DemandingMilestone s p → EveryGives P s (12 ∷ p ∷ [])
   pub twelve-means : (p : ℕ) → SomeGives P s (12 ∷ p ∷ []) → DemandingMilestone s p
@@ -36,8 +37,8 @@ pub record Milestones (P : Planner) (s : List ℕ) (i : ℕ) : Type 0 where
       → (v : ℕ) → v < activityCount s + 2 → unitsRead n (P .flow (k + 1) .left s out) (i + 1) v ≡ 0
   -- "A milestone is never at work": in no period of any crew
   pub never : (x w : ℕ → ℕ) → FileCrew s x w → (t : ℕ) → active x w t i ≡ false
-  -- "and still passes order on": what it waits for is before what waits for it, so that no unrelated set holds both; and is done before that starts, of every crew and of the
-  -- earliest starts
+  -- "and still passes order on": what it waits for is before what waits for it, so that no unrelated set
+  -- holds both; and is done before that starts, of every crew and of the earliest starts
   pub orders : (h j : ℕ) → FileArc s h i → FileArc s i j → Before (FileArc s) h j
   pub passes : (x w : ℕ → ℕ) → FileCrew s x w → (h j : ℕ) → FileArc s h i → FileArc s i j → x h + w h ≤ x j
   pub starts : (out : List ℕ) → activityCount s + 1 ≤ length out → (h j : ℕ) → FileArc s h i → FileArc s i j

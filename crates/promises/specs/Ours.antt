@@ -1,5 +1,6 @@
--- OUR PLANNER: what the code does, by its contracts in planner/src. Each part is the definition that the contract of that operation names, so this file, and no other of
--- the demands, reaches the definitions of what the operations answer and write. Assumes nothing.
+-- OUR PLANNER: what the code does, by its contracts in planner/src. Each part is the definition that the
+-- contract of that operation names, so this file, and no other of the demands, reaches the definitions of
+-- what the operations answer and write.
 use mathlib.Core.List.{[]}
 use Rattle.schedule.specs.PeriodLoad.{startedBy, finishedNoSooner, loadOf}
 use Rattle.schedule.specs.model.Arrays.{workOf}
@@ -35,7 +36,8 @@ ourSheet kind page = record { answer = λ s n. sheetAnswer s kind page n; left =
 abbrev pub ourTrim : Writing
 ourTrim = record { answer = trimAnswer; left = trimOut }
 
--- and the steps of its load sum (change 4), by the contracts in schedule/src/load.rt: `started_by`, `finished_no_sooner`, and `period_load` on the plan's demands
+-- and the steps of its load sum (change 4), by the contracts in schedule/src/load.rt: `started_by`,
+-- `finished_no_sooner`, and `period_load` on the plan's demands
 abbrev pub ourSteps : LoadSteps
 ourSteps =
     record {

@@ -1,9 +1,12 @@
--- DEMAND 2 of document 00, about a planner P: "Order, flows, earliest starts and the crew check are those of the paper on resource flows that 01 condenses.", in
--- the file's own terms, for every readable plan (`PaperSentence P`). Since change 5 of document 02 an arc can have a wait: "Demand 2 holds them and the crew check to the paper where
--- every wait is 0." What is said of starts and crew checks is therefore said of a rule by which arcs are kept (`Rule`): of the file's, with its waits, for every plan, and of the
--- paper's where every wait is 0 (`PaperTimes`). Ours meets it: `paper` of proofs/PaperHolds.antt. What is at work and what is occupied in a
--- period is here what it is in demand 3: `crewOccupies` of Times. By which steps it is added up is `LoadSentence L` (02, change 4); ours meets it: `loads`, beside `paper`.
--- Quotations are from document 01, where no other is named. Assumes nothing.
+-- DEMAND 2 of document 00, about a planner P: "Order, flows, earliest starts and the crew check are those of
+-- the paper on resource flows that 01 condenses.", in the file's own terms, for every readable plan
+-- (`PaperSentence P`). Since change 5 of document 02 an arc can have a wait: "Demand 2 holds them and the
+-- crew check to the paper where every wait is 0." What is said of starts and crew checks is therefore said of
+-- a rule by which arcs are kept (`Rule`): of the file's, with its waits, for every plan, and of the paper's
+-- where every wait is 0 (`PaperTimes`). Ours meets it: `paper` of proofs/PaperHolds.antt. What is at work and
+-- what is occupied in a period is here what it is in demand 3: `crewOccupies` of Times. By which steps it is
+-- added up is `LoadSentence L` (02, change 4); ours meets it: `loads`, beside `paper`. Quotations are from
+-- document 01, where no other is named.
 use mathlib.Core.Path.{_≡_}
 use mathlib.Core.Bool.{Bool, true, cond, _&&_}
 use mathlib.Core.List.{List, [], _∷_}
@@ -65,7 +68,8 @@ pub record Circles (P : Planner) (s : List ℕ) : Type 0 where
 
 -- ---- the rule by which an arc is kept
 
--- in the durations w, how long after the start of i the arc from i to j lets j start. `arcWeight s` is the file's: the duration, and the wait on the arc
+-- in the durations w, how long after the start of i the arc from i to j lets j start. `arcWeight s` is the
+-- file's: the duration, and the wait on the arc
 abbrev pub Rule : Type 0
 Rule = (ℕ → ℕ) → ℕ → ℕ → ℕ
 
@@ -73,15 +77,18 @@ Rule = (ℕ → ℕ) → ℕ → ℕ → ℕ
 abbrev pub paperRule : Rule
 paperRule w i j = w i
 
--- ---- earliest starts, as Starts writes them to what it is lent: number i is the start of activity i + 1, and number m that of the end
+-- ---- earliest starts, as Starts writes them to what it is lent: number i is the start of activity i + 1,
+-- and number m that of the end
 
--- "Earliest starts are the least that keep all arcs, and the end still follows the last finish." (02, change 5)
+-- "Earliest starts are the least that keep all arcs, and the end still follows the
+-- last finish." (02, change 5)
 pub record EarliestStarts (P : Planner) (s : List ℕ) (rule : Rule) (out : List ℕ) : Type 0 where
   -- "Starts: m+1 numbers, activities 1 to m and then the end."
   pub answers : P .starts .answer s (length out) ≡ Written (activityCount s + 1)
   -- "the end starts at the largest finish of all, or at 0."
   pub end : LargestOr0 (FinishOf (λ i. i < activityCount s) (at (P .starts .left s out)) (fileDuration s)) (getD (P .starts .left s out) (activityCount s) 0)
-  -- "Every schedule that keeps the arcs with the file's durations starts each no earlier.": nor the end, and the starts themselves are such a schedule
+  -- "Every schedule that keeps the arcs with the file's durations starts each no earlier.": nor the end, and
+  -- the starts themselves are such a schedule
   pub least : (x : ℕ → ℕ) → Keeps (FileArc s) x (rule (fileDuration s)) → (i : ℕ) → i < activityCount s → getD (P .starts .left s out) i 0 ≤ x i
   pub end-least : (x : ℕ → ℕ) → Keeps (FileArc s) x (rule (fileDuration s)) → (last : ℕ) → ((i : ℕ) → i < activityCount s → x i + fileDuration s i ≤ last)
       → getD (P .starts .left s out) (activityCount s) 0 ≤ last
@@ -90,7 +97,8 @@ pub record EarliestStarts (P : Planner) (s : List ℕ) (rule : Rule) (out : List
   pub rest : drop (activityCount s + 1) (P .starts .left s out) ≡ drop (activityCount s + 1) out
   pub room : length (P .starts .left s out) ≡ length out
 
--- ---- crew check: "Given m starts and m worked durations", of one or more except for milestones, which keep 0 (02, change 2)
+-- ---- crew check: "Given m starts and m worked durations", of one or more except for milestones,
+-- which keep 0 (02, change 2)
 
 pub record RightLists (s starts worked : List ℕ) : Type 0 where
   pub starts-all : length starts ≡ activityCount s
@@ -121,18 +129,21 @@ pub record CrewCheck (P : Planner) (s : List ℕ) (rule : Rule) (starts worked :
   pub ten : (crewCheckNumbers (P .crew-check s starts worked) ≡ 10 ∷ activityCount s ∷ []) ↔ (RightLists s starts worked → ⊥)
   -- "fits": exactly when every arc is kept, and no period of any kind is over
   pub fits : RightLists s starts worked → (P .crew-check s starts worked ≡ Found Fits) ↔ (Keeps (FileArc s) (at starts) (rule (at worked)) × NeverOver s starts worked)
-  -- "find the first arc i to j, by from and then to, with start of i plus its duration greater than the start of j.": by the rule, that is
+  -- "find the first arc i to j, by from and then to, with start of i plus its duration greater than the start
+  -- of j.": by the rule, that is
   pub broken : RightLists s starts worked → (i j : ℕ)
       → (P .crew-check s starts worked ≡ Found (Broken (i + 1) (j + 1))) ↔ FirstBroken (FileArc s) (at starts) (rule (at worked)) i j
   -- "If none, find the first period, then lowest kind, whose occupied sum exceeds the availability."
   pub overload : RightLists s starts worked → (t k : ℕ)
       → (P .crew-check s starts worked ≡ Found (Overload t (k + 1))) ↔ (Keeps (FileArc s) (at starts) (rule (at worked)) × FirstOverload s starts worked t k)
 
--- ---- the load of a period: "its steps shall follow the text of section 1 of source document 000: started by t−1, then finished no sooner than t, then added kind by kind"
+-- ---- the load of a period: "its steps shall follow the text of section 1 of source document 000: started by
+-- t−1, then finished no sooner than t, then added kind by kind"
 -- (02, change 4)
 
--- THE STEPS of a planner: a test of a start and a time; one of a start, a worked duration and a period; and the load that is so added, by a plan, starts, worked durations and
--- a period, a number for each kind. No operation answers them, so they are no part of a Planner. Ours are `ourSteps` of Ours.
+-- THE STEPS of a planner: a test of a start and a time; one of a start, a worked duration and a period; and
+-- the load that is so added, by a plan, starts, worked durations and a period, a number for each kind. No
+-- operation answers them, so they are no part of a Planner. Ours are `ourSteps` of Ours.
 pub record LoadSteps : Type 0 where
   pub started-by : ℕ → ℕ → Bool
   pub finished-no-sooner : ℕ → ℕ → ℕ → Bool
@@ -151,9 +162,11 @@ pub record PeriodLoad (L : LoadSteps) (s starts worked : List ℕ) (t : ℕ) : T
   pub at-work : (i : ℕ) → i < activityCount s → passes L starts worked t i ≡ active (at starts) (at worked) t i
   -- and the load so added
   pub added : (k : ℕ) → k < fileKinds s → at (L .load s starts worked t) k ≡ sum (activityCount s) (λ i. cond (passes L starts worked t i) (fileDemand s k i) 0)
-  -- is the paper's sum for every period and kind": what is occupied, by which the crew check answers (`IsOver`) and of which demand 3 speaks
+  -- is the paper's sum for every period and kind": what is occupied, by which the crew check answers
+  -- (`IsOver`) and of which demand 3 speaks
   pub paper-sum : (k : ℕ) → k < fileKinds s → at (L .load s starts worked t) k ≡ crewOccupies s k (at starts) (at worked) t
-  -- "Sums never wrap.": neither the load, nor start plus duration, which are 32-bit, in the 64 bits of the code
+  -- "Sums never wrap.": neither the load, nor start plus duration, which are
+  -- 32-bit, in the 64 bits of the code
   pub load-fits : (k : ℕ) → k < fileKinds s → at (L .load s starts worked t) k < 2 ^ 64
   pub finish-fits : (i : ℕ) → at starts i < 2 ^ 32 → at worked i < 2 ^ 32 → at starts i + at worked i < 2 ^ 64
 
@@ -172,7 +185,8 @@ pub record PaperTimes (P : Planner) (s : List ℕ) : Type 0 where
   pub crews : (starts worked : List ℕ) → CrewCheck P s paperRule starts worked
 
 pub record Paper (P : Planner) (s : List ℕ) : Type 0 where
-  -- "For kind k, a flow gives each pair (i, j) a whole number of units (000, equations 1 and 2).": the records that Flow writes, read back
+  -- "For kind k, a flow gives each pair (i, j) a whole number of units (000, equations 1 and 2).": the
+  -- records that Flow writes, read back
   pub flows : (k : ℕ) (out : List ℕ) (n : ℕ) → P .flow (k + 1) .answer s (length out) ≡ Written n → FileFlow s k (unitsRead n (P .flow (k + 1) .left s out))
   pub starts : (out : List ℕ) → activityCount s + 1 ≤ length out → EarliestStarts P s (arcWeight s) out
   pub crews : (starts worked : List ℕ) → CrewCheck P s (arcWeight s) starts worked

@@ -1,5 +1,7 @@
--- WHICH ANSWER WHEN (01, "Operations and causes"): for any bytes, and for any that is lent or asked, which of the numbered refusals a planner P gives, or which result.
--- It holds of ours: `refusals` of proofs/RefusalsHold.antt. 5 and 6 are said in Paper (Circles), 10 there too (CrewCheck), Verdict's 7 in PriceList. Assumes nothing.
+-- WHICH ANSWER WHEN (01, "Operations and causes"): for any bytes, and for any that is lent or
+-- asked, which of the numbered refusals a planner P gives, or which result. It holds of ours:
+-- `refusals` of proofs/RefusalsHold.antt. 5 and 6 are said in Paper (Circles), 10 there too
+-- (CrewCheck), Verdict's 7 in PriceList.
 use mathlib.Core.Path.{_≡_}
 use mathlib.Core.List.{List, [], _∷_}
 use Prim.Native.Nat.{ℕ, _+_, _≤_, _<_}
@@ -17,15 +19,17 @@ use Rattle.promises.specs.EveryInput.{OneOf, reading}
 use Rattle.promises.specs.Paper.{EveryGives, SomeGives}
 use Rattle.promises.specs.PriceList.{Exceeds, Enough}
 
--- "Check order: 1; then records in file order, 2, 3, 4 within each": what the reader finds (`answerOf` of plan's Causes, and its meaning in plan's Refused) every
--- operation gives, and none gives one of these numbers otherwise
+-- "Check order: 1; then records in file order, 2, 3, 4 within each": what the reader finds
+-- (`answerOf` of plan's Causes, and its meaning in plan's Refused) every operation gives, and none
+-- gives one of these numbers otherwise
 pub record Unreadables (P : Planner) (s : List ℕ) : Type 0 where
   pub every : (u : Unread) → answerOf s ≡ answer.Refused u → EveryGives P s (unreadNumbers u)
   pub some : (n : ℕ) (values : List ℕ) → OneOf reading n → SomeGives P s (n ∷ values) → (u : Unread) × (answerOf s ≡ answer.Refused u) × (unreadNumbers u ≡ n ∷ values)
 
 -- of a readable plan without a circle
 pub record Refusals (P : Planner) (s : List ℕ) : Type 0 where
-  -- "Needs, Starts, Overload: 9.": "lent slice too short | 9 | length needed", "Lengths needed: K; m+1; 24 bytes for Overload"
+  -- "Needs, Starts, Overload: 9.": "lent slice too short | 9 | length needed", "Lengths needed: K;
+  -- m+1; 24 bytes for Overload"
   pub needs-short : (n : ℕ) → n < fileKinds s → outputNumbers (P .needs .answer s n) ≡ 9 ∷ fileKinds s ∷ []
   pub needs : (n : ℕ) → fileKinds s ≤ n → outputNumbers (P .needs .answer s n) ≡ 0 ∷ fileKinds s ∷ []
   pub starts-short : (n : ℕ) → n < activityCount s + 1 → outputNumbers (P .starts .answer s n) ≡ 9 ∷ (activityCount s + 1) ∷ []

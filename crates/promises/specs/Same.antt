@@ -1,6 +1,7 @@
--- "plans with the same activities, crew, set of job arcs and set of extra arcs get equal flows" (01, Flow), about a planner P (`EqualFlows P`): when two files
--- s and t say the same plan (the order of the arc records is free, and an arc may be of both types in both; and so are the waits, which no flow reads), and what then is equal. It holds of ours:
--- `equal-flows` of proofs/EqualFlowsHold.antt. Assumes nothing.
+-- "plans with the same activities, crew, set of job arcs and set of extra arcs get equal flows" (01, Flow),
+-- about a planner P (`EqualFlows P`): when two files s and t say the same plan (the order of the arc records
+-- is free, and an arc may be of both types in both; and so are the waits, which no flow reads), and what then
+-- is equal. It holds of ours: `equal-flows` of proofs/EqualFlowsHold.antt.
 use mathlib.Core.Path.{_≡_}
 use mathlib.Core.List.{List}
 use mathlib.Core.Logic.{_↔_}
@@ -31,10 +32,12 @@ pub record SamePlan (s t : List ℕ) : Type 0 where
 abbrev pub SameWaits : List ℕ → List ℕ → Type 0
 SameWaits s t = (i j : ℕ) → fileWait s i j ≡ fileWait t i j
 
--- an operation that writes, whatever it is lent, answers the same of both files, and leaves the same, byte for byte
+-- an operation that writes, whatever it is lent, answers the same of both files, and
+-- leaves the same, byte for byte
 abbrev pub WritesAlike : Writing → List ℕ → List ℕ → Type 0
 WritesAlike O s t = (out : List ℕ) → (O .answer s (length out) ≡ O .answer t (length out)) × (O .left s out ≡ O .left t out)
 
--- "Which such flow is free, but plans with the same .. get equal flows.": whichever kind is asked for, Flow answers and leaves the same
+-- "Which such flow is free, but plans with the same .. get equal flows.": whichever kind is asked for, Flow
+-- answers and leaves the same
 abbrev pub EqualFlows : Planner → Type 0
 EqualFlows P = (s t : List ℕ) → Readable s → Readable t → SamePlan s t → (kind : ℕ) → WritesAlike (P .flow kind) s t

@@ -1,4 +1,4 @@
--- What is read of the bytes of a number, and that they are bytes. Assumes nothing.
+-- What is read of the bytes of a number, and that they are bytes.
 use mathlib.Core.Path.{_≡_, refl, ap, ap₂, _∙_}
 use mathlib.Core.List.{List, [], _∷_, _++_}
 use Prim.Native.Nat.{ℕ, zero, suc, _+_, _*_, _/_, _%_, _^_, _≤_, _<_}

@@ -1,4 +1,4 @@
--- Some of several records, one after another: each stands where those kept before it are counted. Assumes nothing.
+-- Some of several records, one after another: each stands where those kept before it are counted.
 use mathlib.Core.Path.{_≡_, refl, sym, ap, _∙_}
 use mathlib.Core.Bool.{Bool, true, false}
 use mathlib.Core.List.{List, [], _++_, append-assoc, append-nil}

@@ -1,4 +1,4 @@
--- The loop that writes the bytes of a number, one after another. Assumes nothing.
+-- The loop that writes the bytes of a number, one after another.
 use mathlib.Core.Path.{_≡_, sym, ap, _∙_}
 use mathlib.Core.List.{List, _∷_}
 use Prim.Native.Nat.{ℕ, suc, _+_, _-_, _/_, _%_, _≤_, _<_}

@@ -1,4 +1,4 @@
--- What stands in a flow record and in an overload record. Assumes nothing.
+-- What stands in a flow record and in an overload record.
 use mathlib.Core.Path.{_≡_, refl, ap, _∙_}
 use mathlib.Core.Bool.{true}
 use mathlib.Core.List.{List, [], _∷_, _++_}

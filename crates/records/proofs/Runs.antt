@@ -1,4 +1,4 @@
--- Records written one after another, each to the start of what is left of the lent bytes. Assumes nothing.
+-- Records written one after another, each to the start of what is left of the lent bytes.
 use mathlib.Core.Path.{_≡_, refl, sym, ap, _∙_}
 use mathlib.Core.List.{List, [], _++_, append-assoc, append-nil}
 use Prim.Native.Nat.{ℕ, zero, suc, _+_, _*_, _<_}

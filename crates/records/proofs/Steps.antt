@@ -1,4 +1,4 @@
--- The steps by which a record is written, put together. Assumes nothing.
+-- The steps by which a record is written, put together.
 use mathlib.Core.Path.{_≡_, _∙_}
 use mathlib.Core.List.{List, _++_, append-assoc, append-nil}
 use Prim.Native.Nat.{ℕ, _+_, _-_, _≤_}

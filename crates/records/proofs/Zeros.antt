@@ -1,4 +1,4 @@
--- Spare bytes: what their test says, and what a loop that makes it needs. Assumes nothing.
+-- Spare bytes: what their test says, and what a loop that makes it needs.
 use mathlib.Core.Path.{_≡_, refl}
 use mathlib.Core.Bool.{true, false}
 use mathlib.Core.List.{List, [], _∷_}

@@ -1,4 +1,4 @@
--- The bytes of a record: its fields and its spare bytes (document 01, "The plan file"). Assumes nothing.
+-- The bytes of a record: its fields and its spare bytes (document 01, "The plan file").
 use Prim.Native.Nat.{ℕ, zero, suc, _+_, _*_, _<_}
 use mathlib.Core.List.{List, [], _∷_}
 use mathlib.Core.Bool.{Bool, true, _&&_}

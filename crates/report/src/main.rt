@@ -1,5 +1,5 @@
-// The report: reads a plan on standard input and prints its report on standard output (document 01, "Plans A to F"). The whole text is made by one proved
-// function, `report_text` of report_lines.
+// The report: reads a plan on standard input and prints its report on standard output (document 01, "Plans A to F").
+// The whole text is made by one proved function, `report_text` of report_lines.
 ghost use mathlib.Core.Path.{_≡_};
 ghost use lib.ListN.{length};
 ghost use Rattle.report_lines.specs.Report.{textRoom};

@@ -1,4 +1,4 @@
--- What the planner answers of an accepted plan, and what it writes. Assumes nothing.
+-- What the planner answers of an accepted plan, and what it writes.
 use mathlib.Core.Path.{_≡_, refl, sym, _∙_}
 use mathlib.Core.Bool.{true, false}
 use mathlib.Core.List.{List, _++_}

@@ -1,4 +1,4 @@
--- The lines of a flow: how long one is, what the code holds of one, and that only the records matter. Assumes nothing.
+-- The lines of a flow: how long one is, what the code holds of one, and that only the records matter.
 use mathlib.Core.Path.{_≡_, refl, sym, _∙_}
 use mathlib.Core.List.{List, [], _∷_, _++_}
 use Prim.Native.Nat.{ℕ, _+_, _-_, _*_, _^_, _≤_, _<_}

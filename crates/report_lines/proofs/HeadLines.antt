@@ -1,4 +1,5 @@
--- The first lines of an accepted plan: how long they are, what they are given by, and that they are written one after another. Assumes nothing.
+-- The first lines of an accepted plan: how long they are, what they are given by, and that they
+-- are written one after another.
 use mathlib.Core.Path.{_≡_, refl, ap, _∙_}
 use mathlib.Core.List.{List, [], _∷_, _++_}
 use Prim.Native.Nat.{ℕ, _+_, _*_, _≤_, _<_}

@@ -1,4 +1,4 @@
--- The lines of a kind's flow are those of what Flow of an accepted plan writes. Assumes nothing.
+-- The lines of a kind's flow are those of what Flow of an accepted plan writes.
 use mathlib.Core.Path.{_≡_, ap₂, _∙_}
 use mathlib.Core.List.{List}
 use Prim.Native.Nat.{ℕ, _-_, _*_, _≤_}

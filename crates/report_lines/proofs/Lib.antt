@@ -1,4 +1,4 @@
--- Laws of the report's lines, of what the planner answers of an accepted plan, and of the whole report. Assumes nothing.
+-- Laws of the report's lines, of what the planner answers of an accepted plan, and of the whole report.
 pub mod HeadLines
 pub mod FlowLines
 pub mod RefusalLine

@@ -1,4 +1,4 @@
--- The numbers of a refused plan's line: they are written to the front of a list that has room for them. Assumes nothing.
+-- The numbers of a refused plan's line: they are written to the front of a list that has room for them.
 use mathlib.Core.Path.{_≡_, refl, sym, ap, _∙_}
 use mathlib.Core.List.{List, [], _∷_, _++_, map, append-nil}
 use Prim.Native.Nat.{ℕ, zero, suc, min, _+_, _/_, _%_, _≤_, _<_}

@@ -1,4 +1,4 @@
--- The report of any bytes has room in `textRoom` bytes. Assumes nothing.
+-- The report of any bytes has room in `textRoom` bytes.
 use mathlib.Core.Path.{_≡_, refl, ap}
 use mathlib.Core.Bool.{true}
 use mathlib.Core.List.{List}

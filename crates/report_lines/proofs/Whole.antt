@@ -1,4 +1,4 @@
--- The whole text: the first lines of an accepted plan and those of its flows behind them, or a refused plan's line. Assumes nothing.
+-- The whole text: the first lines of an accepted plan and those of its flows behind them, or a refused plan's line.
 use mathlib.Core.Path.{_≡_, sym, ap, ap₂, _∙_}
 use mathlib.Core.List.{List, _++_}
 use Prim.Native.Nat.{ℕ, _+_, _*_, _≤_}

@@ -1,5 +1,5 @@
--- The lines of the report (document 01, "Plans A to F"): "Fields: m, K; kind, need, availability; activity, start; end's start; kind, from, to, units, added
--- mark. Kinds ascend." Every line ends in a newline. Assumes nothing.
+-- The lines of the report (document 01, "Plans A to F"): "Fields: m, K; kind, need, availability; activity,
+-- start; end's start; kind, from, to, units, added mark. Kinds ascend." Every line ends in a newline.
 use mathlib.Core.List.{List, [], _∷_, _++_, map}
 use Prim.Native.Nat.{ℕ, suc, _+_, _*_}
 use lib.ListN.{getD, take, drop}
@@ -55,11 +55,12 @@ flowNumbers r = byte r 1 ∷ byte r 2 ∷ byte r 3 ∷ field r 4 4 ∷ byte r 8 
 unfoldable pub flowLines : ℕ → List ℕ → List ℕ
 flowLines n records = joined (λ i. lineOf flowWord (flowNumbers (drop (24 * i) records))) n
 
--- ---- "A refused plan prints one line: `refused`, the number, then nothing (1), place (2–4), activity (5, 6), or kind, need and members ascending (7).
+-- ---- "A refused plan prints one line: `refused`, the number, then nothing (1), place (2–4), activity (5,
+-- 6), or kind, need and members ascending (7).
 -- A number added later is followed by what it returns."
 
--- whatever the cause: its number, its plain values, and the members of its set, as activities. (Where it shows no set, there are no members: `plain-numbers`
--- of proofs/RefusalLine.antt.)
+-- whatever the cause: its number, its plain values, and the members of its set, as activities. (Where it
+-- shows no set, there are no members: `plain-numbers` of proofs/RefusalLine.antt.)
 abbrev pub refusalNumbers : Refusal → List ℕ
 refusalNumbers r = r .number ∷ (take (r .values) (r .first ∷ r .second ∷ []) ++ map suc (members elements (numberOf (r .set))))
 

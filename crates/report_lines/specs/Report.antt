@@ -1,4 +1,5 @@
--- THE REPORT of a file's bytes (document 01, "Plans A to F"): `reportOf`, which `report_text` of src/text.rt writes. Its lines are those of Lines. Assumes nothing.
+-- THE REPORT of a file's bytes (document 01, "Plans A to F"): `reportOf`, which `report_text` of src/text.rt
+-- writes. Its lines are those of Lines.
 use mathlib.Core.Path.{_≡_}
 use mathlib.Core.Bool.{true}
 use mathlib.Core.List.{List, _++_}
@@ -20,7 +21,8 @@ use Rattle.report_lines.specs.Lines.{headRoom, headLines, flowLines, ref
 unfoldable pub kindLines : Plan → ℕ → List ℕ
 kindLines q k = flowLines (flowCount q k) (recordBytes q k)
 
--- so many bytes have room for the lines of a flow, and so many for the whole text (the last line may ask for 78 more while it is written)
+-- so many bytes have room for the lines of a flow, and so many for the whole text (the last line may ask for
+-- 78 more while it is written)
 abbrev pub flowRoom : ℕ
 flowRoom = 32 * mostRecords
 
@@ -44,7 +46,7 @@ reportOf s = reportBy (verdictAnswer s) s
 abbrev pub Accepts : List ℕ → Type 0
 Accepts s = isFine (verdictFault s) ≡ true
 
--- n counts bytes at the front of xs: the kit's `Counts` of `io`, word for word, since a library has no use for the rest of `io`. (A caller's `&out[..n]` then
--- needs no proof file.)
+-- n counts bytes at the front of xs: the kit's `Counts` of `io`, word for word, since a library has no use
+-- for the rest of `io`. (A caller's `&out[..n]` then needs no proof file.)
 abbrev pub Counts : ℕ → List ℕ → Type 0
 Counts n xs = (n ≤ length xs) × (n ≡ length (take n xs))

@@ -1,4 +1,5 @@
-// The report, written to lent bytes: its lines, from numbers, records and causes, and the whole text of a file's bytes (document 01, "Plans A to F").
+// The report, written to lent bytes: its lines, from numbers, records and causes, and the whole text of a file's bytes
+// (document 01, "Plans A to F").
 use plan::ACTIVITIES;
 
 mod flows;

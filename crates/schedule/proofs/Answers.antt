@@ -1,4 +1,4 @@
--- What the crew check's answer is, and what each answer means. Assumes nothing.
+-- What the crew check's answer is, and what each answer means.
 use mathlib.Core.Path.{_≡_, refl, sym, _∙_, ap, ap₂, subst, subst₂}
 use mathlib.Core.Logic.{_↔_}
 use Prim.Native.Nat.{ℕ, _+_, _≤_, _<_}

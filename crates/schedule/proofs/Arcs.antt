@@ -1,4 +1,4 @@
--- Laws of the first broken arc. Assumes nothing.
+-- Laws of the first broken arc.
 use mathlib.Core.Path.{_≡_, sym, ap, _∙_}
 use mathlib.Core.Bool.{Bool, _&&_}
 use mathlib.Core.List.{List}

@@ -1,4 +1,4 @@
--- What the list of earliest starts is worth: the laws of Starts.antt for arcs that are given as rows. Assumes nothing.
+-- What the list of earliest starts is worth: the laws of Starts.antt for arcs that are given as rows.
 use mathlib.Core.Path.{_≡_, sym}
 use mathlib.Core.List.{List}
 use mathlib.Core.Logic.{Iff·rfl}

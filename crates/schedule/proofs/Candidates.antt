@@ -1,4 +1,4 @@
--- Only for the proofs of the code: the first period is found among those that follow a start. Assumes nothing.
+-- Only for the proofs of the code: the first period is found among those that follow a start.
 use mathlib.Core.Path.{_≡_, refl, sym, ap, _∙_, subst}
 use mathlib.Core.Bool.{true, false, cond}
 use mathlib.Core.Logic.{_⊎_, inl, inr, ⊎-elim, by-cases}

@@ -1,4 +1,4 @@
--- Only for the proofs of the code: level after level every element gets its earliest start. Assumes nothing.
+-- Only for the proofs of the code: level after level every element gets its earliest start.
 use mathlib.Core.Path.{_≡_, refl, sym, _∙_, ap, ap₂}
 use mathlib.Core.Bool.{Bool, true, false, cond, not, _&&_, _||_}
 use mathlib.Core.List.{List}

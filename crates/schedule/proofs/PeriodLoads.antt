@@ -1,4 +1,5 @@
--- Laws of the load of a period: who passes both tests is who is at work, and the load that is added activity by activity is the sum. Assumes nothing.
+-- Laws of the load of a period: who passes both tests is who is at work, and the load that is added
+-- activity by activity is the sum.
 use mathlib.Core.Path.{_≡_, sym, ap, ap₂, _∙_}
 use mathlib.Core.Bool.{Bool, true, false, cond, _&&_}
 use mathlib.Core.List.{List}

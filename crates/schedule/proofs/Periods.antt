@@ -1,4 +1,4 @@
--- Laws of periods: what is occupied rises only in the period that follows a start, so an overload is first seen there. Assumes nothing.
+-- Laws of periods: what is occupied rises only in the period that follows a start, so an overload is first seen there.
 use mathlib.Core.Path.{_≡_, refl, sym, _∙_, ap, subst}
 use mathlib.Core.Bool.{Bool, true, false, cond, _&&_, and-false}
 use mathlib.Core.Logic.{_⊎_, inl, inr, _≢_}

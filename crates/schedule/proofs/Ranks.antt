@@ -1,4 +1,4 @@
--- Arcs of which nothing is before itself have a rank that rises along every arc. Assumes nothing.
+-- Arcs of which nothing is before itself have a rank that rises along every arc.
 use mathlib.Core.Path.{_≡_}
 use mathlib.Core.Bool.{Bool, true}
 use mathlib.Core.List.{List}

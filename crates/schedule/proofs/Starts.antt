@@ -1,4 +1,5 @@
--- Laws of the earliest starts: they keep every arc, are the least that do, and without waits each is the largest finish of those before it, or 0. Assumes nothing.
+-- Laws of the earliest starts: they keep every arc, are the least that do, and without waits each is the largest
+-- finish of those before it, or 0.
 use mathlib.Core.Path.{_≡_, sym, _∙_, ap}
 use mathlib.Core.Bool.{true, cond}
 use mathlib.Core.Logic.{_⊎_, inl, inr, ⊎-elim, _↔_}

@@ -1,4 +1,5 @@
--- What goes by the weights of arcs goes by those of pairs of elements alone, as a table has them: the earliest starts, and what a crew check finds. Assumes nothing.
+-- What goes by the weights of arcs goes by those of pairs of elements alone, as a table has them: the earliest starts,
+-- and what a crew check finds.
 use mathlib.Core.Path.{_≡_, refl, ap, _∙_}
 use mathlib.Core.Bool.{Bool, cond, _&&_}
 use mathlib.Core.List.{List}

@@ -1,5 +1,5 @@
--- The crew check: the first arc that a schedule breaks, and the first period in which more of a kind is occupied than there is.
--- Assumes nothing.
+-- The crew check: the first arc that a schedule breaks, and the first period in which more of a
+-- kind is occupied than there is.
 use mathlib.Core.Bool.{Bool, cond, _&&_}
 use Prim.Native.Nat.{ℕ, suc, _+_, _≤_, _<_}
 use lib.Dec.{ltb}
@@ -12,7 +12,8 @@ use Rattle.schedule.specs.Starts.{endOf}
 use Rattle.schedule.specs.declared.Checked.{Checked}
 use Rattle.schedule.specs.declared.Checked.the-variants.{Fits, Broken, Overload}
 
--- ---- "find the first arc i to j, by from and then to, with start of i plus its duration greater than the start of j",
+-- ---- "find the first arc i to j, by from and then to, with start of i plus its duration
+-- greater than the start of j",
 -- where "start plus duration plus wait" counts (02, change 5)
 
 -- the arc from i to j is there, and is broken
@@ -29,8 +30,8 @@ brokenFrom g s = first (g .elements) (λ i. ltb (brokenTo g s i) (g .elements))
 
 -- ---- "If none, find the first period, then lowest kind, whose occupied sum exceeds the availability."
 
--- the work of a crew: "one start and one duration" for each of `count` activities, what each demands of each of `kinds` kinds, and how much
--- of each kind is available
+-- the work of a crew: "one start and one duration" for each of `count` activities, what each demands of each
+-- of `kinds` kinds, and how much of each kind is available
 pub record Work : Type 0 where
   pub count : ℕ
   pub start : Schedule
@@ -80,7 +81,8 @@ checkOf g c =
     (Broken (brokenFrom g (c .start) + 1) (brokenTo g (c .start) (brokenFrom g (c .start)) + 1))
     (cond (ltb 0 (firstPeriod c)) (Overload (firstPeriod c) (lowestKind c (firstPeriod c) + 1)) Fits)
 
--- ---- what the answers mean, without any search (proofs/Answers.antt shows it); the first broken arc is flow_math's FirstBroken
+-- ---- what the answers mean, without any search (proofs/Answers.antt shows it); the first broken
+-- arc is flow_math's FirstBroken
 
 -- in no period at all is more of a kind occupied than there is
 abbrev pub Enough : Work → Type 0

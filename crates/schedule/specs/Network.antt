@@ -1,11 +1,12 @@
--- A network of arcs, and the schedules that keep its arcs. Assumes nothing.
+-- A network of arcs, and the schedules that keep its arcs.
 use mathlib.Core.Bool.{Bool}
 use Prim.Native.Nat.{ℕ, _<_}
 use Rattle.order.specs.Arcs.{Drawn}
 use Rattle.flow_math.specs.Kept as kept
 
--- So many elements, which pairs of them are arcs, and how long after the start of i the arc from i to j lets j start.
--- (Here that weight is the duration of i, and the wait on the arc added to it: `withWaits` of model/Arrays.)
+-- So many elements, which pairs of them are arcs, and how long after the start of i the arc from i to j
+-- lets j start. (Here that weight is the duration of i, and the wait on the arc added to it:
+-- `withWaits` of model/Arrays.)
 pub record Network : Type 0 where
   pub elements : ℕ
   pub arc : ℕ → ℕ → Bool
@@ -23,7 +24,8 @@ Schedule = ℕ → ℕ
 abbrev pub Keeps : Network → Schedule → Type 0
 Keeps g s = kept.Keeps (Arc g) s (g .weight)
 
--- no circle, said by a rank below the number of elements that rises along every arc (`ranked` of proofs/Ranks.antt)
+-- no circle, said by a rank below the number of elements that rises along every arc
+-- (`ranked` of proofs/Ranks.antt)
 pub record Ranked (g : Network) : Type 0 where
   pub rank : ℕ → ℕ
   pub below : (i : ℕ) → i < g .elements → rank i < g .elements

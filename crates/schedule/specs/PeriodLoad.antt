@@ -1,6 +1,8 @@
--- The load of a period, in the steps of the paper (document 000, section 1): "For period t ∈ N0, we define A(s, t) = {i ∈ N : s_i ≤ (t − 1) ∧ s_i + d_i ≥ t}, the
--- activities that are active during period t.", and of each kind k the sum of r_ik over them; document 01 says "at work" and "occupied". The code takes these steps in this
--- order (src/load.rt). Who passes both tests is who is at work, and the load is what is occupied: `both-tests` and `load-kind` of proofs/PeriodLoads.antt. Assumes nothing.
+-- The load of a period, in the steps of the paper (document 000, section 1): "For period t ∈ N0, we define
+-- A(s, t) = {i ∈ N : s_i ≤ (t − 1) ∧ s_i + d_i ≥ t}, the activities that are active during period t.", and of
+-- each kind k the sum of r_ik over them; document 01 says "at work" and "occupied". The code takes these
+-- steps in this order (src/load.rt). Who passes both tests is who is at work, and the load is what is
+-- occupied: `both-tests` and `load-kind` of proofs/PeriodLoads.antt.
 use mathlib.Core.Bool.{Bool, cond, _&&_}
 use mathlib.Core.List.{List}
 use Prim.Native.Nat.{ℕ, _+_, _-_}

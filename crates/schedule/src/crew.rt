@@ -1,4 +1,5 @@
-// The crew check: the first broken arc, or else the first period with the lowest kind of which more is occupied than there is.
+// The crew check: the first broken arc, or else the first period with the lowest kind of which
+// more is occupied than there is.
 ghost use mathlib.Core.Path.{_≡_};
 ghost use mathlib.Core.Bool.{_&&_};
 ghost use Prim.Native.Nat.{_+_, _*_, _^_, _≤_, _<_};

@@ -1,6 +1,7 @@
-// The load of a period, in the steps of the paper (document 000, section 1): "For period t ∈ N0, we define A(s, t) = {i ∈ N : s_i ≤ (t − 1) ∧ s_i + d_i ≥ t}, the
-// activities that are active during period t", and of each kind k the sum of r_ik over them. Document 01 says "at work" and "occupied". Here s is `starts`, d is `worked`, r is
-// `demands`, and the sum of kind k + 1 is `load[k]`.
+// The load of a period, in the steps of the paper (document 000, section 1): "For period t ∈ N0, we define A(s, t) = {i
+// ∈ N : s_i ≤ (t − 1) ∧ s_i + d_i ≥ t}, the activities that are active during period t", and of each kind k the sum of
+// r_ik over them. Document 01 says "at work" and "occupied". Here s is `starts`, d is `worked`, r is `demands`, and the
+// sum of kind k + 1 is `load[k]`.
 ghost use mathlib.Core.Path.{_≡_};
 ghost use mathlib.Core.List.{[]};
 ghost use Prim.Native.Nat.{_+_, _*_, _^_, _≤_, _<_};

@@ -1,4 +1,5 @@
--- Every move keeps the balance: what an element hands over and has left is its demand, and so for what it takes over; no sum wraps. Assumes nothing.
+-- Every move keeps the balance: what an element hands over and has left is its demand, and so for what
+-- it takes over; no sum wraps.
 use mathlib.Core.Path.{_≡_, sym, ap, _∙_}
 use mathlib.Core.List.{List}
 use mathlib.Core.Logic.{⊎-elim}

@@ -1,4 +1,4 @@
--- What is promised of a test holds of any other test that agrees with it below n. Assumes nothing.
+-- What is promised of a test holds of any other test that agrees with it below n.
 use mathlib.Core.Path.{_≡_, refl, sym, ap, _∙_}
 use mathlib.Core.Bool.{Bool, _&&_, _||_}
 use Prim.Native.Nat.{ℕ, zero, suc, _<_}

@@ -1,4 +1,4 @@
--- The certificate of a search that found nothing: no way leads out of the givers and takers that it reached. Assumes nothing.
+-- The certificate of a search that found nothing: no way leads out of the givers and takers that it reached.
 use mathlib.Core.Path.{_≡_, refl, sym, ap, _∙_}
 use mathlib.Core.Bool.{Bool, true, false, cond}
 use mathlib.Core.List.{List, [], _∷_}

@@ -1,4 +1,4 @@
--- The elements from m on hand over nothing, so that `clear` is left the m first rows of the table alone. Assumes nothing.
+-- The elements from m on hand over nothing, so that `clear` is left the m first rows of the table alone.
 use mathlib.Core.Path.{_≡_, sym, ap, _∙_}
 use mathlib.Core.List.{List}
 use mathlib.Core.Logic.{⊎-elim}

@@ -1,4 +1,4 @@
--- What holds of a handover before and after each round, and at the start. Assumes nothing.
+-- What holds of a handover before and after each round, and at the start.
 use mathlib.Core.List.{List}
 use Prim.Native.Nat.{ℕ, _≤_, _<_}
 use Rattle.order.specs.Stored.{elements}

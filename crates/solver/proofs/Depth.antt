@@ -1,4 +1,5 @@
--- The turn at which a search discovered each giver and taker: along the parents it falls, so that the way back comes to a root. Assumes nothing.
+-- The turn at which a search discovered each giver and taker: along the parents it falls, so that
+-- the way back comes to a root.
 use mathlib.Core.Path.{_≡_, refl, _∙_}
 use mathlib.Core.Bool.{Bool, true, false, cond}
 use mathlib.Core.List.{List}

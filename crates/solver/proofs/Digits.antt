@@ -1,4 +1,4 @@
--- What the search asks of words of elements digits: their members below elements, the lowest, and how many there are. Assumes nothing.
+-- What the search asks of words of elements digits: their members below elements, the lowest, and how many there are.
 use mathlib.Core.Path.{_≡_}
 use mathlib.Core.Logic.{⊎-elim}
 use Prim.Native.Nat.{ℕ, _+_, _%_, _<_}

@@ -1,4 +1,4 @@
--- What the solver ends with: a handover, and where the last search found nothing, a closed search. Assumes nothing.
+-- What the solver ends with: a handover, and where the last search found nothing, a closed search.
 use mathlib.Core.Path.{_≡_, refl}
 use mathlib.Core.List.{List}
 use mathlib.Core.Logic.{⊎-elim, by-cases}

@@ -1,4 +1,4 @@
--- What a quote promises of the first n elements, where the others have no demand, and what its set holds. Assumes nothing.
+-- What a quote promises of the first n elements, where the others have no demand, and what its set holds.
 use mathlib.Core.Path.{_≡_, sym, _∙_}
 use mathlib.Core.Bool.{Bool, true}
 use mathlib.Core.List.{List}

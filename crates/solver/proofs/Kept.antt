@@ -1,4 +1,4 @@
--- What both moves keep, the start and each round keep. Assumes nothing.
+-- What both moves keep, the start and each round keep.
 use mathlib.Core.List.{List}
 use Prim.Native.Nat.{ℕ, _<_, min}
 use lib.Dec.{eqb, ltb}

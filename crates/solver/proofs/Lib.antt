@@ -1,5 +1,6 @@
--- Laws of the solver's model. `QuoteSound` says what they come to: a quote keeps what specs/Sound.antt promises; the files before it lead up to
--- that. `First` says it of the first n elements, where the others have no demand. `Steps` is what the proofs of the functions share.
+-- Laws of the solver's model. `QuoteSound` says what they come to: a quote keeps what specs/Sound.antt promises; the
+-- files before it lead up to that. `First` says it of the first n elements, where the others have no demand. `Steps` is
+-- what the proofs of the functions share.
 pub mod Steps
 pub mod Digits
 pub mod Stores

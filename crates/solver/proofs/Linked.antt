@@ -1,4 +1,4 @@
--- The words of givers say where there is flow, and every move keeps that. Assumes nothing.
+-- The words of givers say where there is flow, and every move keeps that.
 use mathlib.Core.Path.{_≡_, sym, ap, _∙_}
 use mathlib.Core.List.{List}
 use mathlib.Core.Logic.{⊎-elim}

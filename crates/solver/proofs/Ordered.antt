@@ -1,4 +1,4 @@
--- The solver hands over along the order alone. Assumes nothing.
+-- The solver hands over along the order alone.
 use mathlib.Core.Path.{_≡_, refl, ap, _∙_}
 use mathlib.Core.List.{List}
 use mathlib.Core.Logic.{_⊎_, inl, inr, ⊎-elim}

@@ -1,4 +1,4 @@
--- The solver on the rows of a strict order and on demands of at most 65,535: what its outcome promises. Assumes nothing.
+-- The solver on the rows of a strict order and on demands of at most 65,535: what its outcome promises.
 use mathlib.Core.Path.{_≡_, refl, sym, ap, ap₂, _∙_}
 use mathlib.Core.Bool.{Bool, not, _&&_}
 use mathlib.Core.List.{List}

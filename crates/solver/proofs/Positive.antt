@@ -1,4 +1,5 @@
--- The word of a list has the members at which it is not 0, and no others; an element with units left is a leader, or has none after it. Assumes nothing.
+-- The word of a list has the members at which it is not 0, and no others; an element with units left is a
+-- leader, or has none after it.
 use mathlib.Core.Path.{_≡_}
 use mathlib.Core.List.{List}
 use mathlib.Core.Logic.{⊎-elim, by-cases}

@@ -1,5 +1,5 @@
--- What a quote promises, it keeps: of every order without a circle, with demands of at most 65,535, of which those of the
--- elements from m on are 0 (`Plan`). Assumes nothing.
+-- What a quote promises, it keeps: of every order without a circle, with demands of at most 65,535, of which those of
+-- the elements from m on are 0 (`Plan`).
 --
 --   sound               the quote is sound: its set is unrelated and weighs exactly the need, and its handover reaches it (specs/Sound.antt)
 --   ends                the rounds end by a search that found nothing: the number of rounds is never what stops them

@@ -1,4 +1,5 @@
--- The rounds end: each round whose search found something leaves fewer units, so that with a round for each unit the last search finds nothing. Assumes nothing.
+-- The rounds end: each round whose search found something leaves fewer units, so that with a round for each unit
+-- the last search finds nothing.
 use mathlib.Core.Path.{_≡_, refl, ap, _∙_}
 use mathlib.Core.Bool.{true, false, cond}
 use mathlib.Core.List.{List}

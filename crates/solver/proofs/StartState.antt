@@ -1,4 +1,4 @@
--- Where the solver starts: nothing is handed over, and all demands are left. Assumes nothing.
+-- Where the solver starts: nothing is handed over, and all demands are left.
 use mathlib.Core.Path.{_≡_, sym, ap, _∙_}
 use mathlib.Core.Bool.{cond}
 use mathlib.Core.List.{List}

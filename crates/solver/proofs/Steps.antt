@@ -1,4 +1,4 @@
--- What the model comes to at each step, from the values that the code has in hand. Assumes nothing.
+-- What the model comes to at each step, from the values that the code has in hand.
 use mathlib.Core.Path.{_≡_, sym, ap, ap₂, _∙_, refl}
 use mathlib.Core.List.{List}
 use Prim.Native.Nat.{ℕ, _*_, _+_, _-_, _^_, _<_, min, _≤_}

@@ -1,4 +1,4 @@
--- What a store does to a list, and to a sum over some of its places. Assumes nothing.
+-- What a store does to a list, and to a sum over some of its places.
 use mathlib.Core.Path.{_≡_, sym, ap, _∙_}
 use mathlib.Core.Bool.{cond}
 use mathlib.Core.List.{List}

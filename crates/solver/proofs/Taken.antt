@@ -1,4 +1,4 @@
--- The words of givers say where there is flow: so taking that back leaves nothing handed over. Assumes nothing.
+-- The words of givers say where there is flow: so taking that back leaves nothing handed over.
 use mathlib.Core.Path.{_≡_, refl, sym, ap, _∙_}
 use mathlib.Core.List.{List, [], _∷_}
 use mathlib.Core.Logic.{⊎-elim, by-cases}

@@ -1,4 +1,5 @@
--- The parents of a search: a taker that it reached has a giver before it that it saw, and a giver is a root or gives to a taker that it reached. Assumes nothing.
+-- The parents of a search: a taker that it reached has a giver before it that it saw, and a giver is a root or gives
+-- to a taker that it reached.
 use mathlib.Core.Path.{_≡_, refl, ap, _∙_}
 use mathlib.Core.Bool.{Bool, true, false}
 use mathlib.Core.List.{List, [], _∷_}

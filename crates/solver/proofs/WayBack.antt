@@ -1,4 +1,5 @@
--- The way back through the parents of a search: from a taker to the giver that led to it, and on to the taker that this one gives to. Assumes nothing.
+-- The way back through the parents of a search: from a taker to the giver that led to it, and on to the
+-- taker that this one gives to.
 use mathlib.Core.Path.{_≡_, ap, _∙_}
 use mathlib.Core.List.{List}
 use mathlib.Core.Logic.{⊎-elim}

@@ -1,4 +1,4 @@
--- What a quote promises. It is a theorem: `sound` of proofs/QuoteSound.antt. Assumes nothing.
+-- What a quote promises. It is a theorem: `sound` of proofs/QuoteSound.antt.
 use mathlib.Core.Path.{_≡_}
 use mathlib.Core.Bool.{Bool, true}
 use mathlib.Core.List.{List}
@@ -21,7 +21,8 @@ use Rattle.solver.specs.model.Quote.{quoteOf, flowOf}
 abbrev pub asked : List ℕ → ℕ → ℕ
 asked demand i = getD demand i 0
 
--- what is asked of a plan of m elements: the order is strict, each demand is at most 65,535, and the elements from m on have none
+-- what is asked of a plan of m elements: the order is strict, each demand is at most 65,535, and the
+-- elements from m on have none
 pub record Plan (m : ℕ) (o : Order) (demand : List ℕ) : Type 0 where
   pub within : m ≤ elements
   pub idle : (i : ℕ) → m ≤ i → i < elements → asked demand i ≡ 0
@@ -38,7 +39,8 @@ pub record Sound (n : ℕ) (b : ℕ → ℕ → Bool) (d : ℕ → ℕ) (x : ℕ
   -- f is a handover that reaches it: what it does not hand over is the need
   pub handover : Handover n b d f
   pub reaches : x + total n f ≡ sum n d
-  -- of any a units that are enough it makes a resource flow that meets equations (1) and (2) along the order and sends a - x straight through
+  -- of any a units that are enough it makes a resource flow that meets equations (1) and (2) along the order
+  -- and sends a - x straight through
   pub flow : (a : ℕ) → x ≤ a → ResourceFlow n b d a (nodeFlow n d f x a)
   pub spare : (a : ℕ) → nodeFlow n d f x a 0 (suc n) ≡ a - x
 

@@ -1,5 +1,6 @@
-// The need of one kind: the greatest demand of elements of which no two are ordered, with a set that has it and a handover that shows it.
-// The order comes as the order crate's struct. `quote` is the way in; what it promises is `SoundQuote` of specs/Sound.antt.
+// The need of one kind: the greatest demand of elements of which no two are ordered, with a set that has it and a
+// handover that shows it. The order comes as the order crate's struct. `quote` is the way in; what it promises is
+// `SoundQuote` of specs/Sound.antt.
 ghost use mathlib.Core.Path.{_≡_};
 ghost use Prim.Native.Nat.{_≤_};
 ghost use Rattle.order.specs.Stored.{elements, numberOf};

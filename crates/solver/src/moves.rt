@@ -1,4 +1,5 @@
-// The moves of a handover: units at i * ELEMENTS + j, for each taker the set of those that give to it, and what givers and takers have left.
+// The moves of a handover: units at i * ELEMENTS + j, for each taker the set of those that give to it, and what
+// givers and takers have left.
 ghost use mathlib.Core.Path.{_≡_};
 ghost use mathlib.Core.List.{List};
 ghost use Prim.Native.Nat.{ℕ, _<_};

@@ -1,5 +1,5 @@
--- The digits of a number, of any size, and what each operation does to them. `digit` is a number, so that `omega` goes by cases over it;
--- `bit` is the test of it. Assumes nothing.
+-- The digits of a number, of any size, and what each operation does to them. `digit` is a number, so that `omega` goes
+-- by cases over it; `bit` is the test of it.
 use mathlib.Core.Path.{_≡_, refl, sym, ap, ap₂, _∙_}
 use mathlib.Core.Bool.{Bool, true, false, not, _&&_, _||_}
 use mathlib.Core.Logic.{_⊎_, inl, inr}

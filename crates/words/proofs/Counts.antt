@@ -1,4 +1,4 @@
--- How many numbers below n have a property. Assumes nothing.
+-- How many numbers below n have a property.
 use mathlib.Core.Path.{_≡_, refl, sym, ap, ap₂, _∙_}
 use mathlib.Core.Bool.{Bool, true, false}
 use mathlib.Core.Logic.{_≢_}

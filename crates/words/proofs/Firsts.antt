@@ -1,4 +1,4 @@
--- The first of the numbers below n that have a property, and whether there is one. Assumes nothing.
+-- The first of the numbers below n that have a property, and whether there is one.
 use mathlib.Core.Path.{_≡_, refl, sym, ap, ap₂, _∙_}
 use mathlib.Core.Bool.{Bool, true, false, false≢true, _||_}
 use mathlib.Core.Logic.{_↔_, ⊎-elim}

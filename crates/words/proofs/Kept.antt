@@ -1,4 +1,4 @@
--- What each step of a loop keeps, the loop keeps. Assumes nothing.
+-- What each step of a loop keeps, the loop keeps.
 use mathlib.Core.Path.{_≡_, refl}
 use mathlib.Core.Bool.{Bool, true, false, cond}
 use mathlib.Core.List.{List, [], _∷_}

@@ -1,4 +1,4 @@
--- What the proofs of loops go by: over the members of a number, of at most n turns, and up to n. Assumes nothing.
+-- What the proofs of loops go by: over the members of a number, of at most n turns, and up to n.
 use mathlib.Core.Path.{_≡_, refl, sym, ap, _∙_}
 use mathlib.Core.Bool.{Bool, true, false, cond}
 use mathlib.Core.List.{List, [], _∷_, _++_}

@@ -1,4 +1,4 @@
--- The largest of finitely many numbers. Assumes nothing.
+-- The largest of finitely many numbers.
 use mathlib.Core.Path.{_≡_, refl, sym, ap₂, _∙_}
 use mathlib.Core.Logic.{_⊎_, inl, inr}
 use Prim.Native.Nat.{ℕ, zero, suc, _+_, max, _≤_, _<_}

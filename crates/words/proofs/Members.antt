@@ -1,4 +1,4 @@
--- The members of a number: the lowest, the number without it, and the list of all, ascending. Assumes nothing.
+-- The members of a number: the lowest, the number without it, and the list of all, ascending.
 use mathlib.Core.Path.{_≡_, refl, sym, ap, ap₂, _∙_}
 use mathlib.Core.Bool.{Bool, true, false, not, _&&_, and-true, and-false, cond}
 use mathlib.Core.List.{List, [], _∷_, _++_, map}

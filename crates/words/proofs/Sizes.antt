@@ -1,4 +1,4 @@
--- How many members a number has, by `count_ones`, after each operation. Assumes nothing.
+-- How many members a number has, by `count_ones`, after each operation.
 use mathlib.Core.Path.{_≡_, refl, sym, ap, ap₂, _∙_}
 use mathlib.Core.Bool.{Bool, false, not, _&&_, and-true}
 use mathlib.Core.Logic.{⊎-elim, _≢_}

@@ -1,4 +1,4 @@
--- Lists that are given by their elements. Assumes nothing.
+-- Lists that are given by their elements.
 use mathlib.Core.Path.{_≡_, refl, sym, ap, _∙_}
 use mathlib.Core.Bool.{cond}
 use mathlib.Core.List.{List, _++_}

@@ -1,4 +1,4 @@
--- Tests, and the facts that they decide. Assumes nothing.
+-- Tests, and the facts that they decide.
 use mathlib.Core.Path.{_≡_, refl, sym, ap, _∙_, subst}
 use mathlib.Core.Bool.{Bool, true, false, not, cond, _&&_, _||_, true≢false, false≢true}
 use mathlib.Core.Logic.{_⊎_, inl, inr, ⊎-elim, _↔_, _≢_, by-cases}

@@ -1,4 +1,4 @@
--- A number of any size as a set: its members are the places at which its binary digit is 1. Assumes nothing.
+-- A number of any size as a set: its members are the places at which its binary digit is 1.
 use mathlib.Core.Bool.{Bool}
 use Prim.Native.Nat.{ℕ, _-_, _/_, _%_, _^_}
 use lib.Bits.{bitAnd, bitOr}

@@ -1,4 +1,4 @@
--- The members of a number, listed. Assumes nothing.
+-- The members of a number, listed.
 use mathlib.Core.List.{List, [], _∷_, map}
 use Prim.Native.Nat.{ℕ, zero, suc, _/_, _%_}
 

@@ -1,4 +1,4 @@
--- Lists that are given by their elements. Assumes nothing.
+-- Lists that are given by their elements.
 use mathlib.Core.List.{List, [], _∷_, _++_}
 use Prim.Native.Nat.{ℕ, zero, suc}
 use lib.ListN.{take, drop}

@@ -1,4 +1,5 @@
--- Every answer's code is a number of 64 bits, and so is the set that Verdict shows: of every plan's bytes, and whatever is lent. Assumes nothing.
+-- Every answer's code is a number of 64 bits, and so is the set that Verdict shows: of every plan's
+-- bytes, and whatever is lent.
 --
 --   verdict-small, needs-small, starts-small, overload-small, flow-small, sheet-small, trim-small, report-small, crew-small    the operations
 use mathlib.Core.Path.{_≡_, refl, sym, subst}

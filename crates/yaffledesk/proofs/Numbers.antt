@@ -1,4 +1,4 @@
--- What stands in a refusal's code. Assumes nothing.
+-- What stands in a refusal's code.
 use mathlib.Core.Path.{_≡_, ap, _∙_}
 use Prim.Native.Nat.{ℕ, _%_}
 use native.Mathlib.Omega.{arith}

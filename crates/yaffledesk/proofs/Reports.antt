@@ -1,4 +1,4 @@
--- How the report ends: with 9 and nothing written, or with the text at the front. Assumes nothing.
+-- How the report ends: with 9 and nothing written, or with the text at the front.
 use mathlib.Core.Path.{_≡_, refl, sym, ap, _∙_}
 use mathlib.Core.List.{List}
 use Prim.Native.Nat.{ℕ, _≤_, _<_}

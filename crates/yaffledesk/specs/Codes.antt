@@ -1,4 +1,5 @@
--- The answers as numbers of 64 bits: the low 8 bits are the number of document 01 (0: done), and the bits above are its values. Assumes nothing.
+-- The answers as numbers of 64 bits: the low 8 bits are the number of document 01 (0: done), and
+-- the bits above are its values.
 use Prim.Native.Nat.{ℕ, _+_, _*_}
 use Rattle.order.specs.Stored.{numberOf}
 use Rattle.order.specs.Sets.{sizeOf}
@@ -17,8 +18,9 @@ use Rattle.planner.specs.declared.CrewChecked.the-variants as crew
 abbrev pub packed : ℕ → ℕ → ℕ
 packed number rest = number + 256 * rest
 
--- A refusal, whatever its cause: first + 256 * second + 2^40 * size of the set. What a cause does not return is 0; so 1 has 0 above it, 2 to 6 and 8 to 11 have their
--- one value (`plain-code` of proofs/Numbers.antt), and 7 has kind + 256 * need + 2^40 * size.
+-- A refusal, whatever its cause: first + 256 * second + 2^40 * size of the set. What a cause does not return
+-- is 0; so 1 has 0 above it, 2 to 6 and 8 to 13 have their one value (`plain-code` of proofs/Numbers.antt),
+-- and 7 has kind + 256 * need + 2^40 * size.
 abbrev pub refusalCode : Refusal → ℕ
 refusalCode r = packed (r .number) (r .first + 256 * r .second + 1099511627776 * sizeOf (r .set))
 

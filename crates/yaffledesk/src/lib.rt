@@ -1,5 +1,6 @@
-// The planner's operations and the report for C: numbers and slices only. Every answer is one number of 64 bits. Its low 8 bits are the number of document 01, 0 where the
-// operation is done; the bits above are its values. `include/yaffledesk.h` is the same for a C reader.
+// The planner's operations and the report for C: numbers and slices only. Every answer is one number of 64 bits. Its
+// low 8 bits are the number of document 01, 0 where the operation is done; the bits above are its values.
+// `include/yaffledesk.h` is the same for a C reader.
 ghost use mathlib.Core.Path.{_≡_};
 ghost use lib.ListN.{length};
 ghost use Rattle.planner.specs.Verdict.{verdictAnswer};

@@ -1,4 +1,4 @@
--- `bench_c::yaffledesk_bench_crew_check` meets its contract, by those of `schedule::crew_check` and `number`. Assumes nothing.
+-- `bench_c::yaffledesk_bench_crew_check` meets its contract, by those of `schedule::crew_check` and `number`.
 use mathlib.Core.Path.{ap, _∙_}
 use borrow.Author.Needs.{needs}
 use Rattle.bench_c.specs.Numbers.{numberOf}

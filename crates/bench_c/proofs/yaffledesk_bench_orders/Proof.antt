@@ -1,4 +1,4 @@
--- `bench_c::yaffledesk_bench_orders` meets its contract: the plan order, begun from the job order, is that of all arcs. Assumes nothing.
+-- `bench_c::yaffledesk_bench_orders` meets its contract: the plan order, begun from the job order, is that of all arcs.
 use mathlib.Core.Path.{_≡_, ap, _∙_}
 use mathlib.Core.List.{List}
 use Prim.Native.Nat.{ℕ}

@@ -1,4 +1,4 @@
--- `bench_c::yaffledesk_bench_read` meets its contract, field by field, by that of `plan::read`. Assumes nothing.
+-- `bench_c::yaffledesk_bench_read` meets its contract, field by field, by that of `plan::read`.
 use mathlib.Core.Path.{ap}
 use borrow.Author.Needs.{needs}
 use Rattle.plan.specs.declared.Reading.{Reading}

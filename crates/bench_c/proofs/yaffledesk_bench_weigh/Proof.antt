@@ -1,4 +1,4 @@
--- `bench_c::yaffledesk_bench_weigh` meets its contract, by that of `solver::weigh_ranked`. Assumes nothing.
+-- `bench_c::yaffledesk_bench_weigh` meets its contract, by that of `solver::weigh_ranked`.
 use mathlib.Core.Path.{ap, _∙_}
 use Prim.Native.Nat.{_%_, _^_}
 use borrow.Author.Needs.{needs}

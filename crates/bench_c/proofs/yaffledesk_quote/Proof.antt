@@ -1,4 +1,5 @@
--- `bench_c::yaffledesk_quote` meets its contract: the order is that of the arcs, and the rest is as `solver::quote` leaves it. Assumes nothing.
+-- `bench_c::yaffledesk_quote` meets its contract: the order is that of the arcs, and the rest is
+-- as `solver::quote` leaves it.
 use mathlib.Core.Path.{ap, _∙_}
 use Prim.Native.Nat.{_%_, _^_}
 use borrow.Author.Needs.{needs}

@@ -1,6 +1,8 @@
--- `sheet::write_page` meets its contract: a walk of its MIR, by hand. All that it knows of `begin`, `head` and `fill` is that each meets its contract.
--- Each is called at the borrow's own lifetime, share and ghost name: what the first two return is, by their contracts, a record that is known whole, pointer and ghost name with it, so what `fill` says of the last list is said of `out`'s. The borrow is given up for good (`gave-slice`).
--- Assumes nothing.
+-- `crew_sheet::write_page` meets its contract: a walk of its MIR, by hand. All that it knows of `begin`, `head` and
+-- `fill` is that each meets its contract.
+-- Each is called at the borrow's own lifetime, share and ghost name: what the first two return is, by their contracts,
+-- a record that is known whole, pointer and ghost name with it, so what `fill` says of the last list is said of
+-- `out`'s. The borrow is given up for good (`gave-slice`).
 use mathlib.Core.Path.{_≡_, refl, sym, _∙_, ap, subst}
 use Prim.Native.Nat.{ℕ, _≤_, _<_, _^_, _*_}
 use mathlib.Core.List.{[], _∷_, List}

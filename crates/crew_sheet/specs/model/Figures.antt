@@ -1,5 +1,5 @@
--- ONLY FOR THE PROOFS OF THE CODE: the characters of a right-aligned number, as they are written from the last on. That these are those of `column` is `column-at` of
--- proofs/Columns.antt. Assumes nothing.
+-- ONLY FOR THE PROOFS OF THE CODE: the characters of a right-aligned number, as they are written from the
+-- last on. That these are those of `column` is `column-at` of proofs/Columns.antt.
 use mathlib.Core.Bool.{cond}
 use Prim.Native.Nat.{ℕ, _+_, _%_}
 use lib.Dec.{eqb}

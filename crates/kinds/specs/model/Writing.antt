@@ -1,5 +1,6 @@
--- ONLY FOR THE PROOFS OF THE CODE: records as they are written, one after another, to the start of what is left of the lent bytes. That this comes
--- to the records of `Flows` is `flow-written` of proofs/RecordsWritten.antt. Assumes nothing.
+-- ONLY FOR THE PROOFS OF THE CODE: records as they are written, one after another, to the start of what is
+-- left of the lent bytes. That this comes to the records of `Flows` is `flow-written` of
+-- proofs/RecordsWritten.antt.
 use mathlib.Core.Bool.{cond}
 use mathlib.Core.List.{List, _++_}
 use Prim.Native.Nat.{ℕ, suc, _+_, _*_, _≤_}

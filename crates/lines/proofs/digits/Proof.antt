@@ -1,4 +1,4 @@
--- `lines::digits` meets its contract: each turn divides one digit more off (`Dividing`). Assumes nothing.
+-- `lines::digits` meets its contract: each turn divides one digit more off (`Dividing`).
 use native.Mathlib.Omega.{arith}
 use borrow.Author.Needs.{needs}
 use Rattle.lines.proofs.Decimals.{Dividing, dividing-one, dividing-next, dividing-end}

@@ -1,4 +1,4 @@
--- `lines::put_bytes` meets its contract: each turn writes one byte more (`Copying`). Assumes nothing.
+-- `lines::put_bytes` meets its contract: each turn writes one byte more (`Copying`).
 use Prim.Native.Nat.{_-_}
 use native.Mathlib.Omega.{arith}
 use borrow.Author.Needs.{needs}

@@ -1,4 +1,4 @@
--- `lines::put_decimal` meets its contract: each turn writes one digit more, from the last on (`Spelling`). Assumes nothing.
+-- `lines::put_decimal` meets its contract: each turn writes one digit more, from the last on (`Spelling`).
 use native.Mathlib.Omega.{arith}
 use borrow.Author.Needs.{needs}
 use Rattle.lines.proofs.Decimals.{places-most}

@@ -1,4 +1,4 @@
--- `lines::put_line` meets its contract: the word, the numbers and the line's end, one after another (`line-more`). Assumes nothing.
+-- `lines::put_line` meets its contract: the word, the numbers and the line's end, one after another (`line-more`).
 use mathlib.Core.Path.{_∙_}
 use native.Mathlib.Omega.{arith}
 use borrow.Author.Needs.{needs}

@@ -1,4 +1,4 @@
--- `lines::put_numbers` meets its contract: each turn writes a space and a number more (`Listing`). Assumes nothing.
+-- `lines::put_numbers` meets its contract: each turn writes a space and a number more (`Listing`).
 use Prim.Native.Nat.{_-_}
 use native.Mathlib.Omega.{arith}
 use lib.ListN.{length-set}

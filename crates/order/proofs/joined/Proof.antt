@@ -1,4 +1,4 @@
--- `order::joined` meets its contract. The invariant: the rows are what the steps done make of those at the start. Assumes nothing.
+-- `order::joined` meets its contract. The invariant: the rows are what the steps done make of those at the start.
 use mathlib.Core.Path.{_≡_, ap, _∙_}
 use mathlib.Core.List.{List}
 use Prim.Native.Nat.{ℕ, _≤_, _-_}

@@ -1,4 +1,4 @@
--- `order::places` meets its contract, by that of `places_word`. Assumes nothing.
+-- `order::places` meets its contract, by that of `places_word`.
 use borrow.Author.Needs.{needs}
 use Rattle.order.specs.Stored.{numberOf}
 use Rattle.order.proofs.places.Statement.{statement}

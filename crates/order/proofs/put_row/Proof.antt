@@ -1,4 +1,4 @@
--- `order::put_row` meets its contract: a row is a word. Assumes nothing.
+-- `order::put_row` meets its contract: a row is a word.
 use mathlib.Core.Path.{refl}
 use borrow.Author.Needs.{needs}
 use Rattle.order.specs.Stored.{putRow, numberOf}

@@ -1,5 +1,6 @@
--- Further arcs added to rows: each that they do not hold yet (what that comes to is `extended-by` of proofs/Orders.antt; code finds what an element gains by
--- all its arcs at once, proofs/Gaining.antt). For any n. Assumes nothing.
+-- Further arcs added to rows: each that they do not hold yet (what that comes to is `extended-by` of
+-- proofs/Orders.antt; code finds what an element gains by all its arcs at once,
+-- proofs/Gaining.antt). For any n.
 use mathlib.Core.Bool.{cond}
 use mathlib.Core.List.{List}
 use Prim.Native.Nat.{ℕ, zero, suc}

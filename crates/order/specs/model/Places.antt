@@ -1,4 +1,4 @@
--- The places at which a list is not 0, as a number. Assumes nothing.
+-- The places at which a list is not 0, as a number.
 use mathlib.Core.Bool.{cond}
 use mathlib.Core.List.{List}
 use Prim.Native.Nat.{ℕ, zero, suc}

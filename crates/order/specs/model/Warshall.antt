@@ -1,5 +1,6 @@
--- How code closes rows: what is before an element becomes before all that this one gains or has. Over all elements that is Warshall's closure, by which code finds
--- the order of arcs that are given as rows (that it does is `closed` of proofs/Closure.antt). For any n. Assumes nothing.
+-- How code closes rows: what is before an element becomes before all that this one gains or has. Over all
+-- elements that is Warshall's closure, by which code finds the order of arcs that are given as rows (that it
+-- does is `closed` of proofs/Closure.antt). For any n.
 use mathlib.Core.Bool.{cond}
 use mathlib.Core.List.{List}
 use Prim.Native.Nat.{ℕ, zero, suc}

@@ -1,4 +1,4 @@
--- `plan::read` meets its contract: a wrong length is refused, and of a right one the phases come to the reading. Assumes nothing.
+-- `plan::read` meets its contract: a wrong length is refused, and of a right one the phases come to the reading.
 use mathlib.Core.Path.{_∙_}
 use native.Mathlib.Omega.{arith}
 use lib.ListN.{length}

@@ -1,4 +1,5 @@
--- The arcs of the records that a test picks (those of a type, the extra arcs with wait 0) as a table of sets, record by record: what a reader knows before the record at a place. Assumes nothing.
+-- The arcs of the records that a test picks (those of a type, the extra arcs with wait 0) as a table of sets,
+-- record by record: what a reader knows before the record at a place.
 use mathlib.Core.Bool.{Bool, not, cond, _&&_, _||_}
 use mathlib.Core.List.{List}
 use Prim.Native.Nat.{ℕ, zero, suc, _-_, _≤_}
@@ -22,7 +23,8 @@ withArc r rows = putRow rows (byte r 1 - 1) (withBit (row rows (byte r 1 - 1)) (
 abbrev pub hasArc : List ℕ → List ℕ → Bool
 hasArc rows r = after rows (byte r 1 - 1) (byte r 2 - 1)
 
--- whether the record at a place stays where the extra arcs of the file become those of the rows: of the extra arcs (type 4), those that the rows have
+-- whether the record at a place stays where the extra arcs of the file become those of the rows: of the extra
+-- arcs (type 4), those that the rows have
 abbrev pub staysBy : List ℕ → List ℕ → ℕ → Bool
 staysBy rows s p = not (eqb (typeAt s p) 4) || hasArc rows (recordAt s p)
 

@@ -1,5 +1,5 @@
--- How the code goes about it: the steps of the loops that fill the plan's arrays, and the phases of a file. Only proofs need this: that it comes to
--- `readOf` is `file-read` of proofs/Phases.antt. Assumes nothing.
+-- How the code goes about it: the steps of the loops that fill the plan's arrays, and the phases of a file.
+-- Only proofs need this: that it comes to `readOf` is `file-read` of proofs/Phases.antt.
 use mathlib.Core.Bool.{not}
 use mathlib.Core.List.{List}
 use Prim.Native.Nat.{ℕ, zero, suc, _+_, _-_, _*_}
@@ -32,7 +32,8 @@ putDemands s i demands = upto (putDemand (recordAt s i) i) 8 demands
 abbrev pub putArc : ℕ → List ℕ → ℕ → List ℕ → List ℕ
 putArc type t i rows = arcsAfter type (recordAt t i) rows
 
--- the cause of record i of t, whose first record is at a place of the file, as an arc of a type among m activities; the earlier records are those of t
+-- the cause of record i of t, whose first record is at a place of the file, as an arc of a type among m
+-- activities; the earlier records are those of t
 abbrev pub arcIn : ℕ → ℕ → ℕ → List ℕ → ℕ → Answer
 arcIn type place m t i = rule (arcCause type (place + i) m (recordAt t i)) (not (arcRepeats t i)) (RepeatedArc (place + i))
 

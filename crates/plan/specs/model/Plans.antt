@@ -1,4 +1,4 @@
--- The plan that a readable file says, as tables: of what is in force by Meaning, and of the arcs by ArcRows. Assumes nothing.
+-- The plan that a readable file says, as tables: of what is in force by Meaning, and of the arcs by ArcRows.
 use mathlib.Core.Bool.{cond}
 use mathlib.Core.List.{List}
 use Prim.Native.Nat.{ℕ, _*_, _/_, _%_}
@@ -14,7 +14,8 @@ use Rattle.plan.specs.model.ArcRows.{arcRows}
 unfoldable pub durationsOf : List ℕ → List ℕ
 durationsOf s = table elements (λ i. cond (ltb i (activityCount s)) (fileDuration s i) 0)
 
--- the demand of element i for kind k + 1 stands at elements * k + i. (`demandsOf` of Records, which the crew record is checked by, goes by the activity records.)
+-- the demand of element i for kind k + 1 stands at elements * k + i. (`demandsOf` of Records, which the crew
+-- record is checked by, goes by the activity records.)
 unfoldable pub demandTable : List ℕ → List ℕ
 demandTable s = table (8 * elements) (λ x. cond (ltb (x % elements) (activityCount s)) (fileDemand s (x / elements) (x % elements)) 0)
 

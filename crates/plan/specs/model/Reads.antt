@@ -1,4 +1,4 @@
--- The reading of a file. Assumes nothing.
+-- The reading of a file.
 use mathlib.Core.Bool.{cond}
 use mathlib.Core.List.{List}
 use Prim.Native.Nat.{ℕ}

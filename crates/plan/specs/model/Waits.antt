@@ -1,5 +1,6 @@
--- The waits of a file's arcs, as a table: that of the arc from element i to element j stands at elements * j + i, so that the arcs into j stand together. A plan does not hold
--- it: whoever goes by the waits has them read. Assumes nothing.
+-- The waits of a file's arcs, as a table: that of the arc from element i to element j stands at
+-- elements * j + i, so that the arcs into j stand together. A plan does not hold it: whoever goes
+-- by the waits has them read.
 use mathlib.Core.List.{List}
 use Prim.Native.Nat.{ℕ, _+_, _-_, _*_, _/_, _%_, _<_, max}
 use lib.ListN.{getD, set}

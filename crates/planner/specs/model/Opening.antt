@@ -1,4 +1,4 @@
--- What the code holds of a plan after each of the two steps, and 7 in its turn, alone or after 8 and 9. Assumes nothing.
+-- What the code holds of a plan after each of the two steps, and 7 in its turn, alone or after 8 and 9.
 use mathlib.Core.Bool.{not}
 use mathlib.Core.List.{List}
 use Prim.Native.Nat.{ℕ, _+_}
@@ -31,10 +31,12 @@ openedOf s = record { plan = planIn s; rows = rowsOf s; job = jobOrder s; order 
 abbrev pub overloadIn : Order → Plan → Overload
 overloadIn o q = lowestOverload (q .count) o (q .demand) (q .available) (q .kinds)
 
--- 7 in its turn, from what was found of the first n kinds (that it is the cause of Need is `weighed` of proofs/QuotedNeeds.antt)
+-- 7 in its turn, from what was found of the first n kinds (that it is the cause of Need is `weighed`
+-- of proofs/QuotedNeeds.antt)
 abbrev pub orFound : Fault → Overload → ℕ → Fault
 orFound f v n = orCause f (ltb (v .kind) n) (Overloaded (v .kind + 1) (v .need) (v .set))
 
--- 8, 9 and 7 in their turn, after a fault: the causes of an operation on one kind of a plan, by its order (`kindFault` of Flow)
+-- 8, 9 and 7 in their turn, after a fault: the causes of an operation on one kind of a plan, by its
+-- order (`kindFault` of Flow)
 abbrev pub kindFaultIn : Fault → Order → Plan → ℕ → ℕ → ℕ → Fault
 kindFaultIn f o q kind lent needed = orFound (orShort (orCause f (not (isKind kind (q .kinds))) (NoKind (q .kinds))) lent needed) (overloadIn o q) (q .kinds)

@@ -1,4 +1,4 @@
--- The writing of a kind's flow, of a plan and its orders. Kind k stands for kind k + 1 of the file. Assumes nothing.
+-- The writing of a kind's flow, of a plan and its orders. Kind k stands for kind k + 1 of the file.
 use mathlib.Core.List.{List}
 use Prim.Native.Nat.{ℕ, _+_, _≤_, _<_}
 use lib.ListN.{getD}

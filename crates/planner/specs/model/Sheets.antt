@@ -1,4 +1,5 @@
--- What Sheet goes by: the starts of a plan, by the arcs of a file, in room for those of all elements and of the end. Assumes nothing.
+-- What Sheet goes by: the starts of a plan, by the arcs of a file, in room for those of
+-- all elements and of the end.
 use mathlib.Core.List.{List}
 use Prim.Native.Nat.{ℕ, _+_}
 use lib.ListN.{replicate}

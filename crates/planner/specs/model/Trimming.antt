@@ -1,5 +1,6 @@
--- How Trim's code considers an extra arc: what is left of the extra arcs, and the sets of what each element is before by all arcs that are left. Only proofs need this: that it comes to
--- `trimStep` is `considered` of proofs/TrimSteps.antt. Assumes nothing.
+-- How Trim's code considers an extra arc: what is left of the extra arcs, and the sets of what each
+-- element is before by all arcs that are left. Only proofs need this: that it comes to `trimStep` is
+-- `considered` of proofs/TrimSteps.antt.
 use mathlib.Core.Path.{_≡_}
 use mathlib.Core.Bool.{Bool, not, cond, _&&_, _||_}
 use mathlib.Core.List.{List}
@@ -27,7 +28,8 @@ followsIn job extra afters i j = member (othersOf job extra i j) j || someBefore
 unfoldable pub fitsBy : ℕ → Order → List ℕ → List ℕ → ℕ → Bool
 fitsBy m o demand available n = not (ltb (lowestOverload m o demand available n .kind) n)
 
--- the extra arcs that are left when the pair i, j has been considered: its arc goes, if it may, where its pair follows, or where no kind then needs more than there is
+-- the extra arcs that are left when the pair i, j has been considered: its arc goes, if it may, where its
+-- pair follows, or where no kind then needs more than there is
 unfoldable pub extraLeft : ℕ → List ℕ → List ℕ → List ℕ → ℕ → List ℕ → List ℕ → List ℕ → ℕ → ℕ → List ℕ
 extraLeft m job demand available n free afters extra i j =
     let less = withoutArc extra i j in

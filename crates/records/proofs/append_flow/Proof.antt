@@ -1,4 +1,5 @@
--- `records::append_flow` meets its contract: a writing to the start of the lent tail is a writing there (`tail-written`). Assumes nothing.
+-- `records::append_flow` meets its contract: a writing to the start of the lent tail is a
+-- writing there (`tail-written`).
 use Prim.Native.Nat.{_*_}
 use borrow.Author.Needs.{needs}
 use Rattle.records.specs.Records.{bytes, flowRecord}

@@ -1,4 +1,4 @@
--- `records::begin` meets its contract: zeros, and then four stores (`begin-steps`). Assumes nothing.
+-- `records::begin` meets its contract: zeros, and then four stores (`begin-steps`).
 use borrow.Author.Needs.{needs}
 use native.Mathlib.Omega.{arith}
 use lib.ListN.{length-set}

@@ -1,4 +1,4 @@
--- `records::put` meets its contract: each turn writes one byte more of the number (`Puts`). Assumes nothing.
+-- `records::put` meets its contract: each turn writes one byte more of the number (`Puts`).
 use Prim.Native.Nat.{_-_}
 use native.Mathlib.Omega.{arith}
 use Rattle.records.proofs.Puts.{Putting, putting-none, putting-next, putting-length, putting-all}

@@ -1,4 +1,4 @@
--- `records::write_flow` meets its contract: the type and three fields, the units, the mark (`flow-steps`). Assumes nothing.
+-- `records::write_flow` meets its contract: the type and three fields, the units, the mark (`flow-steps`).
 use borrow.Author.Needs.{needs}
 use native.Mathlib.Omega.{arith}
 use lib.ListN.{length-set}

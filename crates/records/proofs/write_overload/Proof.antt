@@ -1,4 +1,4 @@
--- `records::write_overload` meets its contract: the type and two fields, the need, the set (`overload-steps`). Assumes nothing.
+-- `records::write_overload` meets its contract: the type and two fields, the need, the set (`overload-steps`).
 use borrow.Author.Needs.{needs}
 use Rattle.records.proofs.Steps.{overload-steps}
 use Rattle.records.proofs.write_overload.Statement.{statement}

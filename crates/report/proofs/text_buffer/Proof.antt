@@ -1,4 +1,4 @@
--- `report::text_buffer` meets its contract: a list of so many zeros has that length, whatever the number. Assumes nothing.
+-- `report::text_buffer` meets its contract: a list of so many zeros has that length, whatever the number.
 use mathlib.Core.Path.{sym}
 use Prim.Native.Nat.{ℕ}
 use lib.ListN.{length-replicate}

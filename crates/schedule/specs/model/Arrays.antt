@@ -1,4 +1,5 @@
--- A plan's arrays: arcs as a table of sets, a wait for each pair of elements, a duration for each element, and a demand for each kind and element. Assumes nothing.
+-- A plan's arrays: arcs as a table of sets, a wait for each pair of elements, a duration for each element,
+-- and a demand for each kind and element.
 use mathlib.Core.Path.{_≡_}
 use mathlib.Core.List.{List}
 use Prim.Native.Nat.{ℕ, _+_, _*_, _^_, _≤_, _<_}
@@ -21,8 +22,8 @@ netOf rows weight = record { elements = elements; arc = after rows; weight = wei
 abbrev pub byDuration : List ℕ → ℕ → ℕ → ℕ
 byDuration durations i j = at durations i
 
--- the weight of an arc with a wait: the duration of the element that it comes from, and the wait on the arc from i to j, which stands at
--- elements * j + i (the arcs into j together)
+-- the weight of an arc with a wait: the duration of the element that it comes from, and the wait on the arc
+-- from i to j, which stands at elements * j + i (the arcs into j together)
 abbrev pub withWaits : List ℕ → List ℕ → ℕ → ℕ → ℕ
 withWaits durations waits i j = at durations i + at waits (elements * j + i)
 

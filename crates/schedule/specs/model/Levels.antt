@@ -1,5 +1,5 @@
--- ONLY FOR THE PROOFS OF THE CODE: the words and lists by which it comes to the earliest starts, level by level, and how it finds the first
--- period. Nothing here is needed to read what the crate promises. Assumes nothing.
+-- ONLY FOR THE PROOFS OF THE CODE: the words and lists by which it comes to the earliest starts, level by
+-- level, and how it finds the first period. Nothing here is needed to read what the crate promises.
 use mathlib.Core.Path.{_≡_}
 use mathlib.Core.Bool.{Bool, true, cond}
 use mathlib.Core.List.{List}
@@ -46,9 +46,11 @@ startsBy g done = table elements (λ i. cond (bit done i) (earliestOf g i) 0)
 abbrev pub RanksDone : List ℕ → (ℕ → ℕ → ℕ) → ℕ → ℕ → Type 0
 RanksDone rows weight done r = (R : Ranked (netOf rows weight)) (j : ℕ) → j < elements → R .rank j < r → bit done j ≡ true
 
--- ---- the first period. What is occupied rises only after a start, so only the periods that follow one are tried.
+-- ---- the first period. What is occupied rises only after a start, so only the
+-- periods that follow one are tried.
 
--- `best` is 0 or an overloaded period, and no later than any overloaded period that follows the start of one of the first n
+-- `best` is 0 or an overloaded period, and no later than any overloaded period that follows the
+-- start of one of the first n
 pub record Best (c : Work) (n best : ℕ) : Type 0 where
   pub real : 0 < best → overloaded c best ≡ true
   pub least : (i : ℕ) → i < n → overloaded c (suc (c .start i)) ≡ true → (0 < best) × (best ≤ suc (c .start i))

@@ -1,4 +1,4 @@
--- ONLY FOR THE PROOFS OF THE CODE: the load of a period as it grows, activity by activity and kind by kind. Assumes nothing.
+-- ONLY FOR THE PROOFS OF THE CODE: the load of a period as it grows, activity by activity and kind by kind.
 use mathlib.Core.Bool.{cond}
 use mathlib.Core.List.{List}
 use Prim.Native.Nat.{ℕ, _+_}

@@ -1,4 +1,4 @@
--- `clear` meets its contract. The invariant: the places passed are 0, as are those past the m first rows. Assumes nothing.
+-- `clear` meets its contract. The invariant: the places passed are 0, as are those past the m first rows.
 use Prim.Native.Nat.{_*_, _-_, _≤_}
 use native.Mathlib.Omega.{arith}
 use borrow.Author.Needs.{needs}

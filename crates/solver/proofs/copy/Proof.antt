@@ -1,4 +1,4 @@
--- `copy` meets its contract. The invariant: the list has the entries passed. Assumes nothing.
+-- `copy` meets its contract. The invariant: the list has the entries passed.
 use mathlib.Core.Path.{_≡_, refl}
 use Prim.Native.Nat.{_-_, _≤_}
 use native.Mathlib.Omega.{arith}

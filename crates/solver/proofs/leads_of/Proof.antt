@@ -1,4 +1,4 @@
--- `leads_of` meets its contract, by that of `leading_of`. Assumes nothing.
+-- `leads_of` meets its contract, by that of `leading_of`.
 use borrow.Author.Needs.{needs}
 use Rattle.solver.proofs.leads_of.Statement.{statement}
 use Rattle.solver.proofs.leads_of.Tie as tie

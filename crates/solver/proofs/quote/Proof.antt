@@ -1,4 +1,4 @@
--- `quote` meets its contract, by that of `quote_ranked`. Assumes nothing.
+-- `quote` meets its contract, by that of `quote_ranked`.
 use mathlib.Core.Path.{ap, _∙_}
 use mathlib.Core.List.{List}
 use Prim.Native.Nat.{ℕ}

@@ -1,4 +1,4 @@
--- `quote_ranked` meets its contract, by those of its parts. Assumes nothing.
+-- `quote_ranked` meets its contract, by those of its parts.
 use borrow.Author.Needs.{needs}
 use Rattle.solver.proofs.Steps.{quotes}
 use Rattle.solver.proofs.quote_ranked.Statement.{statement}

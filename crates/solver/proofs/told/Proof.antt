@@ -1,4 +1,4 @@
--- `told` meets its contract, by those of its parts. Assumes nothing.
+-- `told` meets its contract, by those of its parts.
 use denote.Ref.{now}
 use mathlib.Core.Path.{ap, _∙_}
 use borrow.Author.Needs.{needs}

@@ -1,4 +1,4 @@
--- `total` meets its contract. The invariant: the sum is that of the entries passed. Assumes nothing.
+-- `total` meets its contract. The invariant: the sum is that of the entries passed.
 use mathlib.Core.Path.{_≡_, ap, _∙_}
 use Prim.Native.Nat.{ℕ, _≤_, _-_}
 use native.Mathlib.Omega.{arith}

@@ -1,4 +1,4 @@
--- `weigh_ranked` meets its contract, by those of its parts. Assumes nothing.
+-- `weigh_ranked` meets its contract, by those of its parts.
 use borrow.Author.Needs.{needs}
 use Rattle.solver.proofs.Steps.{quotes, ends-as}
 use Rattle.solver.proofs.Taken.{takes}

@@ -1,5 +1,5 @@
--- The handover and its moves, as functions on lists: the units at i * elements + j, for each taker the word of those that give to it, and what each
--- giver and each taker has left. Assumes nothing.
+-- The handover and its moves, as functions on lists: the units at i * elements + j, for each taker the word
+-- of those that give to it, and what each giver and each taker has left.
 use mathlib.Core.Bool.{Bool, cond}
 use mathlib.Core.List.{List}
 use Prim.Native.Nat.{ℕ, zero, suc, _+_, _-_, _*_, _%_, _^_, min}

@@ -1,5 +1,6 @@
--- What `quote` gives, as a function of the number m of elements in use, the order and the demands alone: the need, a set that has it, and the
--- handover. The elements from m on are passed over, whatever stands for them. Assumes nothing.
+-- What `quote` gives, as a function of the number m of elements in use, the order and the
+-- demands alone: the need, a set that has it, and the handover. The elements from m on are
+-- passed over, whatever stands for them.
 use mathlib.Core.Path.{_≡_}
 use mathlib.Core.List.{List}
 use Prim.Native.Nat.{ℕ, zero, suc, _+_, _*_, _≤_}

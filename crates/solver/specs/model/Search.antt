@@ -1,5 +1,5 @@
--- The search for a way to hand over more, as functions on words and lists. Every element stands once on the left, as a giver, and once on the
--- right, as a taker. Assumes nothing.
+-- The search for a way to hand over more, as functions on words and lists. Every element stands once on the
+-- left, as a giver, and once on the right, as a taker.
 use mathlib.Core.Bool.{Bool, cond}
 use mathlib.Core.List.{List}
 use Prim.Native.Nat.{ℕ}

@@ -1,5 +1,6 @@
--- The solver, as functions on lists: a start, a round (a search, and the walk back where it found something), and rounds until a search finds
--- nothing. m is the number of elements in use: those from m on have no units, and are passed over. Assumes nothing.
+-- The solver, as functions on lists: a start, a round (a search, and the walk back where it found
+-- something), and rounds until a search finds nothing. m is the number of elements in use: those from m on
+-- have no units, and are passed over.
 use mathlib.Core.Path.{_≡_}
 use mathlib.Core.Bool.{Bool, cond}
 use mathlib.Core.List.{List}
@@ -24,7 +25,8 @@ blankRows = replicate (cells elements) 0
 
 -- ---- the start: the elements with the fewest after them hand over first
 
--- the elements by how many come after them, a word for each number; one with none after it has nobody to hand over to, and is left out
+-- the elements by how many come after them, a word for each number; one with none after it has nobody to
+-- hand over to, and is left out
 abbrev pub rankOf : ℕ → ℕ
 rankOf row = count elements (bit row) % elements
 
@@ -37,7 +39,8 @@ ranking rows i b = rankedAt (setAt rows i) i b
 unfoldable pub ranked : ℕ → List ℕ → List ℕ
 ranked m rows = upto (ranking rows) m blankRows
 
--- an element hands over to all that it is before; then each word of the ranking that has elements, lowest number first
+-- an element hands over to all that it is before; then each word of the ranking that has
+-- elements, lowest number first
 abbrev pub handOver : List ℕ → Network → ℕ → Network
 handOver rows s i = each elements (handing i) s (setAt rows i)
 

@@ -1,4 +1,4 @@
--- `words::has` meets its contract: the code's test is `bit`, written out. Assumes nothing.
+-- `words::has` meets its contract: the code's test is `bit`, written out.
 use mathlib.Core.Path.{refl}
 use borrow.Author.Needs.{needs}
 use Rattle.words.specs.Bits.{digit, bit}

@@ -1,4 +1,4 @@
--- `words::lowest` meets its contract, by `trailing-first`. Assumes nothing.
+-- `words::lowest` meets its contract, by `trailing-first`.
 use mathlib.Core.Path.{_∙_}
 use borrow.Author.Needs.{needs}
 use Rattle.words.specs.Bits.{wordBits}

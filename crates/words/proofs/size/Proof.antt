@@ -1,4 +1,4 @@
--- `words::size` meets its contract, by `ones-count`. Assumes nothing.
+-- `words::size` meets its contract, by `ones-count`.
 use mathlib.Core.Path.{_∙_}
 use native.Mathlib.Omega.{arith}
 use borrow.Author.Needs.{needs}

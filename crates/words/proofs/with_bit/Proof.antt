@@ -1,4 +1,4 @@
--- `words::with_bit` meets its contract: `1 << i` is 2 ^ i below the number of bits. Assumes nothing.
+-- `words::with_bit` meets its contract: `1 << i` is 2 ^ i below the number of bits.
 use mathlib.Core.Path.{ap}
 use Prim.Native.Nat.{ℕ}
 use lib.Bits.{bitOr}

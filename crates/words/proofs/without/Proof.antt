@@ -1,4 +1,4 @@
--- `words::without` meets its contract: a meet is at most either side, so the difference does not go below 0. Assumes nothing.
+-- `words::without` meets its contract: a meet is at most either side, so the difference does not go below 0.
 use borrow.Author.Needs.{needs}
 use lib.Bits.{and-le-l}
 use Rattle.words.proofs.without.Statement.{statement}

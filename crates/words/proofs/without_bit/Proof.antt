@@ -1,4 +1,4 @@
--- `words::without_bit` meets its contract, by that of `without`: `1 << i` is 2 ^ i below the number of bits. Assumes nothing.
+-- `words::without_bit` meets its contract, by that of `without`: `1 << i` is 2 ^ i below the number of bits.
 use mathlib.Core.Path.{ap, _∙_}
 use Prim.Native.Nat.{ℕ}
 use borrow.Author.Needs.{needs}

@@ -1,5 +1,6 @@
--- Loops as recursions: over the members of a number, of at most n turns, and up to n. A loop in code keeps one of these to what it was at the
--- start, so its invariant is "the run from here equals the run from the start". Assumes nothing.
+-- Loops as recursions: over the members of a number, of at most n turns, and up to n. A loop in
+-- code keeps one of these to what it was at the start, so its invariant is "the run from here
+-- equals the run from the start".
 use mathlib.Core.Bool.{Bool, cond}
 use mathlib.Core.List.{List, [], _∷_}
 use Prim.Native.Nat.{ℕ, zero, suc}

@@ -1,4 +1,5 @@
--- `yaffledesk::yaffledesk_needs` meets its contract: the code of the planner's answer, which is small; what was lent is as the planner left it. Assumes nothing.
+-- `yaffledesk::yaffledesk_needs` meets its contract: the code of the planner's answer, which is small; what was
+-- lent is as the planner left it.
 use mathlib.Core.Path.{ap, _∙_}
 use lib.ListN.{length}
 use Rattle.planner.specs.Needs.{needsAnswer}

@@ -1,4 +1,5 @@
--- `yaffledesk::yaffledesk_report` meets its contract: the code of the answer, which is small; what was lent is as `write_report` left it. Assumes nothing.
+-- `yaffledesk::yaffledesk_report` meets its contract: the code of the answer, which is small; what was lent
+-- is as `write_report` left it.
 use mathlib.Core.Path.{ap, _∙_}
 use native.Mathlib.Omega.{arith}
 use lib.ListN.{length}

@@ -1,4 +1,4 @@
--- `yaffledesk::yaffledesk_set` meets its contract: it is the set in the planner's answer, which is one word. Assumes nothing.
+-- `yaffledesk::yaffledesk_set` meets its contract: it is the set in the planner's answer, which is one word.
 use mathlib.Core.Path.{ap, _∙_}
 use Prim.Native.Nat.{_%_, _^_}
 use native.Mathlib.Nat.{mod-eq-of-lt}

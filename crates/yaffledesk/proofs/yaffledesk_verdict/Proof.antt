@@ -1,4 +1,4 @@
--- `yaffledesk::yaffledesk_verdict` meets its contract: it is the code of the planner's answer, which is small. Assumes nothing.
+-- `yaffledesk::yaffledesk_verdict` meets its contract: it is the code of the planner's answer, which is small.
 use mathlib.Core.Path.{sym, ap, _∙_, subst}
 use Prim.Native.Nat.{_<_, _^_}
 use native.Mathlib.Omega.{arith}

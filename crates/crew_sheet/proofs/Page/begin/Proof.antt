@@ -1,6 +1,6 @@
--- `sheet::Page::begin` meets its contract: a walk of its MIR, by hand. The borrow of the slice goes into the result as it is, beside the number 0.
--- The parameter is spent: the result names its lifetime, so nothing is had of it at exit, and `out .entry` is all that the contract can say.
--- Assumes nothing.
+-- `crew_sheet::Page::begin` meets its contract: a walk of its MIR, by hand. The borrow of the slice goes into the
+-- result as it is, beside the number 0. The parameter is spent: the result names its lifetime, so nothing is had of it
+-- at exit, and `out .entry` is all that the contract can say.
 use mathlib.Core.Path.{refl}
 use Prim.Native.Nat.{ℕ}
 use mathlib.Core.List.{[], _∷_, List}

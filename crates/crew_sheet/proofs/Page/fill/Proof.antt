@@ -1,6 +1,7 @@
--- `sheet::Page::fill` meets its contract: a walk of its MIR, by hand. The struct is taken apart, and the slice and the number are passed to `put_lines` with the other arguments, of which the proof knows only that it meets its contract.
--- The callee is called at the parameters' own lifetimes and shares: the page's borrow is given up for good (`PageHeld.antt`'s `page-gave`); what the shared slices own is had twice, and one copy is kept for the exit.
--- Assumes nothing.
+-- `crew_sheet::Page::fill` meets its contract: a walk of its MIR, by hand. The struct is taken apart, and the slice and
+-- the number are passed to `put_lines` with the other arguments, of which the proof knows only that it meets its
+-- contract. The callee is called at the parameters' own lifetimes and shares: the page's borrow is given up for good
+-- (`PageHeld.antt`'s `page-gave`); what the shared slices own is had twice, and one copy is kept for the exit.
 use mathlib.Core.Path.{_≡_, refl}
 use Prim.Native.Nat.{ℕ, _≤_, _<_, _^_, _+_, _*_}
 use mathlib.Core.List.{[], _∷_, List}

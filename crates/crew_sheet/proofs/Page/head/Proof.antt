@@ -1,6 +1,7 @@
--- `sheet::Page::head` meets its contract: a walk of its MIR, by hand. The slice is lent again to `put_head`, for a lifetime that is made for the call, and comes back at the list that `put_head` left (`Again.antt`). It goes into the result, beside the number that `put_head` returned.
--- All that the proof knows of `put_head` is that it meets its contract. The parameter is spent, since the result names its lifetime (`PageHeld.antt`'s `page-spent`).
--- Assumes nothing.
+-- `crew_sheet::Page::head` meets its contract: a walk of its MIR, by hand. The slice is lent again to `put_head`, for a
+-- lifetime that is made for the call, and comes back at the list that `put_head` left (`Again.antt`). It goes into the
+-- result, beside the number that `put_head` returned. All that the proof knows of `put_head` is that it meets its
+-- contract. The parameter is spent, since the result names its lifetime (`PageHeld.antt`'s `page-spent`).
 use mathlib.Core.Path.{_≡_, refl, ap}
 use Prim.Native.Nat.{ℕ, _≤_, _<_, _^_, _+_}
 use mathlib.Core.List.{[], _∷_, List}

@@ -1,4 +1,4 @@
--- `sheet::field::four` meets its contract: the two halves that it read are those of `field`. Assumes nothing.
+-- `crew_sheet::field::four` meets its contract: the two halves that it read are those of `field`.
 use borrow.Author.Needs.{needs}
 use Rattle.crew_sheet.proofs.Filling.{field-halves}
 use Rattle.crew_sheet.proofs.field.four.Statement.{statement}

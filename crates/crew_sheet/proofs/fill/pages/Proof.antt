@@ -1,4 +1,4 @@
--- `sheet::fill::pages` meets its contract, case by case. Assumes nothing.
+-- `crew_sheet::fill::pages` meets its contract, case by case.
 use borrow.Author.Needs.{needs}
 use native.Mathlib.Omega.{arith}
 use Rattle.crew_sheet.specs.Sheet.{pagesOf}

@@ -1,4 +1,4 @@
--- `sheet::fill::put_lines` meets its contract: each turn writes one line more (`Putting`). Assumes nothing.
+-- `crew_sheet::fill::put_lines` meets its contract: each turn writes one line more (`Putting`).
 use Prim.Native.Nat.{_-_}
 use borrow.Author.Needs.{needs}
 use native.Mathlib.Omega.{arith}

@@ -1,4 +1,4 @@
--- `sheet::fill::put_record` meets its contract: the line of what it read. Assumes nothing.
+-- `crew_sheet::fill::put_record` meets its contract: the line of what it read.
 use borrow.Author.Needs.{needs}
 use native.Mathlib.Omega.{arith}
 use Rattle.lines.specs.Text.{text}

@@ -1,4 +1,4 @@
--- `sheet::text::figure` meets its contract, case by case. Assumes nothing.
+-- `crew_sheet::text::figure` meets its contract, case by case.
 use borrow.Author.Needs.{needs}
 use borrow.Author.Tests.{eq-eqb, ne-eqb}
 use Rattle.crew_sheet.proofs.text.figure.Statement.{statement}

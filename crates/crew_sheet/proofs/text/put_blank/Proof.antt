@@ -1,4 +1,4 @@
--- `sheet::text::put_blank` meets its contract: blanks and the line's end. Assumes nothing.
+-- `crew_sheet::text::put_blank` meets its contract: blanks and the line's end.
 use mathlib.Core.Path.{refl, _∙_}
 use native.Mathlib.Omega.{arith}
 use borrow.Author.Needs.{needs}

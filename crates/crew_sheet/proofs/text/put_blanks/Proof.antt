@@ -1,4 +1,4 @@
--- `sheet::text::put_blanks` meets its contract: each turn writes one blank more (`Copying`). Assumes nothing.
+-- `crew_sheet::text::put_blanks` meets its contract: each turn writes one blank more (`Copying`).
 use mathlib.Core.Path.{sym, ap, _∙_}
 use Prim.Native.Nat.{ℕ, _+_, _-_}
 use native.Mathlib.Omega.{arith}

@@ -1,4 +1,4 @@
--- `sheet::text::put_cell` meets its contract: columns, then blanks. Assumes nothing.
+-- `crew_sheet::text::put_cell` meets its contract: columns, then blanks.
 use native.Mathlib.Omega.{arith}
 use borrow.Author.Needs.{needs}
 use lib.ListN.{length-replicate}

@@ -1,4 +1,5 @@
--- `sheet::text::put_column` meets its contract: each turn writes one character more, from the last on (`Aligning`). Assumes nothing.
+-- `crew_sheet::text::put_column` meets its contract: each turn writes one character more,
+-- from the last on (`Aligning`).
 use native.Mathlib.Omega.{arith}
 use borrow.Author.Needs.{needs}
 use Rattle.crew_sheet.proofs.Columns.{Aligning, aligning-none, aligning-next, aligning-length, aligning-end}

@@ -1,4 +1,4 @@
--- `sheet::text::put_head` meets its contract: the word, two cells and the line's end, one after another. Assumes nothing.
+-- `crew_sheet::text::put_head` meets its contract: the word, two cells and the line's end, one after another.
 use mathlib.Core.Path.{refl, _∙_}
 use mathlib.Core.List.{List, [], _∷_, _++_}
 use Prim.Native.Nat.{ℕ}

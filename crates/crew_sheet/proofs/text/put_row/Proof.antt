@@ -1,4 +1,4 @@
--- `sheet::text::put_row` meets its contract: four cells and the line's end, one after another. Assumes nothing.
+-- `crew_sheet::text::put_row` meets its contract: four cells and the line's end, one after another.
 use mathlib.Core.Path.{_∙_}
 use mathlib.Core.List.{List, _++_}
 use Prim.Native.Nat.{ℕ}

@@ -1,4 +1,4 @@
--- `kinds::flows::mark` meets its contract, case by case. Assumes nothing.
+-- `kinds::flows::mark` meets its contract, case by case.
 use mathlib.Core.Path.{_≡_, sym, ap, _∙_}
 use Prim.Native.Nat.{ℕ, suc, _-_, _<_}
 use native.Mathlib.Omega.{arith}

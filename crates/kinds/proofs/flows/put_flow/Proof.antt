@@ -1,4 +1,4 @@
--- `kinds::flows::put_flow` meets its contract. The invariant: the rows passed are written. Assumes nothing.
+-- `kinds::flows::put_flow` meets its contract. The invariant: the rows passed are written.
 use mathlib.Core.Path.{_≡_}
 use Prim.Native.Nat.{_+_, _≤_, _-_}
 use native.Mathlib.Omega.{arith}

@@ -1,4 +1,4 @@
--- `kinds::flows::put_pair` meets its contract: a pair without units writes nothing, another its record. Assumes nothing.
+-- `kinds::flows::put_pair` meets its contract: a pair without units writes nothing, another its record.
 use mathlib.Core.Path.{sym}
 use native.Mathlib.Omega.{arith}
 use borrow.Author.Needs.{needs}

@@ -1,4 +1,4 @@
--- `kinds::flows::put_row` meets its contract. The invariant: the pairs passed are written. Assumes nothing.
+-- `kinds::flows::put_row` meets its contract. The invariant: the pairs passed are written.
 use mathlib.Core.Path.{_≡_}
 use Prim.Native.Nat.{_+_, _≤_, _-_}
 use native.Mathlib.Omega.{arith}

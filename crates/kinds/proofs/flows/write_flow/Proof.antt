@@ -1,4 +1,4 @@
--- `kinds::flows::write_flow` meets its contract: what is written are the units of the kind, as the solver hands over. Assumes nothing.
+-- `kinds::flows::write_flow` meets its contract: what is written are the units of the kind, as the solver hands over.
 use mathlib.Core.Path.{refl, sym, subst, _∙_}
 use Prim.Native.Nat.{ℕ, _+_}
 use native.Mathlib.Omega.{arith}

@@ -1,4 +1,4 @@
--- `kinds::needs::demands_for` meets its contract. The invariant: the demands passed are copied. Assumes nothing.
+-- `kinds::needs::demands_for` meets its contract. The invariant: the demands passed are copied.
 use mathlib.Core.Path.{_≡_, refl, _∙_}
 use Prim.Native.Nat.{ℕ, _≤_, _<_, _-_}
 use native.Mathlib.Omega.{arith}

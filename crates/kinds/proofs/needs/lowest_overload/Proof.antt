@@ -1,5 +1,5 @@
--- `kinds::needs::lowest_overload` meets its contract. The invariant: no kind passed needs more than there is, and nothing is handed over any more.
--- (It does not see the order itself: it speaks of every order that has the rows.) Assumes nothing.
+-- `kinds::needs::lowest_overload` meets its contract. The invariant: no kind passed needs more than there is, and
+-- nothing is handed over any more. (It does not see the order itself: it speaks of every order that has the rows.)
 use mathlib.Core.Path.{_≡_, refl}
 use Prim.Native.Nat.{_≤_, _-_}
 use native.Mathlib.Omega.{arith}

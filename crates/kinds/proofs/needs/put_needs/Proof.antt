@@ -1,5 +1,6 @@
--- `kinds::needs::put_needs` meets its contract. The invariant: the needs of the kinds passed are written over the front, and nothing is handed over
--- any more. (It does not see the order itself: it speaks of every order that has the rows.) Assumes nothing.
+-- `kinds::needs::put_needs` meets its contract. The invariant: the needs of the kinds passed are written
+-- over the front, and nothing is handed over any more. (It does not see the order itself: it speaks of
+-- every order that has the rows.)
 use mathlib.Core.Path.{_≡_, refl, ap, _∙_}
 use Prim.Native.Nat.{ℕ, _≤_, _-_}
 use native.Mathlib.Omega.{arith}

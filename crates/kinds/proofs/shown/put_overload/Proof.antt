@@ -1,4 +1,4 @@
--- `kinds::shown::put_overload` meets its contract, by whether the kind is one of the first n. Assumes nothing.
+-- `kinds::shown::put_overload` meets its contract, by whether the kind is one of the first n.
 use mathlib.Core.Path.{_∙_}
 use native.Mathlib.Omega.{arith}
 use borrow.Author.Needs.{needs}

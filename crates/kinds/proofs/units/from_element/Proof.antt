@@ -1,4 +1,5 @@
--- `kinds::units::from_element` meets its contract: to the end what it hands over to nobody, to an element what it hands over to it. Assumes nothing.
+-- `kinds::units::from_element` meets its contract: to the end what it hands over to nobody, to an
+-- element what it hands over to it.
 use mathlib.Core.Path.{_∙_, ap}
 use Prim.Native.Nat.{ℕ, _-_}
 use native.Mathlib.Omega.{arith}

@@ -1,4 +1,5 @@
--- `kinds::units::from_start` meets its contract: the spare units to the end, to an element what nobody hands over to it. Assumes nothing.
+-- `kinds::units::from_start` meets its contract: the spare units to the end, to an element
+-- what nobody hands over to it.
 use mathlib.Core.Path.{_∙_, ap}
 use Prim.Native.Nat.{ℕ, _-_}
 use native.Mathlib.Omega.{arith}

@@ -1,4 +1,4 @@
--- `kinds::units::units` meets its contract: from the start, or from an element. Assumes nothing.
+-- `kinds::units::units` meets its contract: from the start, or from an element.
 use mathlib.Core.Path.{_∙_, ap}
 use Prim.Native.Nat.{ℕ, suc}
 use native.Mathlib.Omega.{arith}

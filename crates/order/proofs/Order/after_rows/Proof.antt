@@ -1,4 +1,4 @@
--- `Order::after_rows` meets its contract: they are its rows. Assumes nothing.
+-- `Order::after_rows` meets its contract: they are its rows.
 use mathlib.Core.Path.{refl}
 use Rattle.order.specs.Orders.{afterRows}
 use Rattle.order.proofs.Order.after_rows.Statement.{statement}

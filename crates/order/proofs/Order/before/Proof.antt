@@ -1,4 +1,4 @@
--- `Order::before` meets its contract, by its row. Assumes nothing.
+-- `Order::before` meets its contract, by its row.
 use mathlib.Core.Path.{ap, _∙_}
 use Prim.Native.Nat.{ℕ}
 use borrow.Author.Needs.{needs}

@@ -1,4 +1,4 @@
--- `Order::circle` meets its contract. The invariant: no element below i is before itself. Assumes nothing.
+-- `Order::circle` meets its contract. The invariant: no element below i is before itself.
 use mathlib.Core.Path.{_≡_, sym, ap, _∙_}
 use mathlib.Core.Bool.{false}
 use Prim.Native.Nat.{ℕ, _≤_, _<_, _-_}

@@ -1,4 +1,4 @@
--- `Order::empty` meets its contract: all its words are 0. Assumes nothing.
+-- `Order::empty` meets its contract: all its words are 0.
 use mathlib.Core.Path.{refl}
 use Rattle.order.specs.Stored.{cells}
 use Rattle.order.proofs.Order.empty.Statement.{statement}

@@ -1,4 +1,4 @@
--- `Order::of` meets its contract: the rows are closed. Assumes nothing.
+-- `Order::of` meets its contract: the rows are closed.
 use mathlib.Core.Path.{ap}
 use mathlib.Core.List.{List}
 use Prim.Native.Nat.{ℕ}

@@ -1,4 +1,4 @@
--- `Order::with_arc` meets its contract, by that of `gain_all`. Assumes nothing.
+-- `Order::with_arc` meets its contract, by that of `gain_all`.
 use mathlib.Core.Path.{_≡_, ap, _∙_}
 use mathlib.Core.List.{List}
 use Prim.Native.Nat.{ℕ}

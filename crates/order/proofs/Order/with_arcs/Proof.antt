@@ -1,4 +1,5 @@
--- `Order::with_arcs` meets its contract. The invariant: the run over the rows left, from the rows so far, is the run over all. Assumes nothing.
+-- `Order::with_arcs` meets its contract. The invariant: the run over the rows left, from the rows
+-- so far, is the run over all.
 use mathlib.Core.Path.{_≡_, refl, sym, ap, _∙_, subst}
 use mathlib.Core.List.{List}
 use Prim.Native.Nat.{ℕ, _-_, _≤_}

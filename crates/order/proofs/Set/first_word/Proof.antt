@@ -1,4 +1,4 @@
--- `Set::first_word` meets its contract: the number of a set of one word is below 2 ^ 64. Assumes nothing.
+-- `Set::first_word` meets its contract: the number of a set of one word is below 2 ^ 64.
 use mathlib.Core.Path.{sym}
 use native.Mathlib.Nat.{mod-eq-of-lt}
 use borrow.Author.Needs.{needs}

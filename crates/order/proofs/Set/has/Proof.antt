@@ -1,4 +1,4 @@
--- `Set::has` meets its contract, by the number of the word. Assumes nothing.
+-- `Set::has` meets its contract, by the number of the word.
 use borrow.Author.Needs.{needs}
 use Rattle.order.specs.Stored.{numberOf, setOf}
 use Rattle.order.proofs.Set.has.Statement.{statement}

@@ -1,4 +1,4 @@
--- `Set::is_empty` meets its contract, by the number of the word. Assumes nothing.
+-- `Set::is_empty` meets its contract, by the number of the word.
 use mathlib.Core.Path.{refl}
 use borrow.Author.Needs.{needs}
 use Rattle.order.specs.Stored.{numberOf, setOf}

@@ -1,4 +1,4 @@
--- `Set::single` meets its contract, by that of `with`. Assumes nothing.
+-- `Set::single` meets its contract, by that of `with`.
 use borrow.Author.Needs.{needs}
 use Rattle.order.specs.Stored.{numberOf, setOf}
 use Rattle.order.proofs.Set.single.Statement.{statement}

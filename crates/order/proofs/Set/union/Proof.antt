@@ -1,4 +1,4 @@
--- `Set::union` meets its contract, by the number of the word. Assumes nothing.
+-- `Set::union` meets its contract, by the number of the word.
 use mathlib.Core.Path.{refl}
 use Rattle.order.specs.Stored.{numberOf, setOf}
 use Rattle.order.proofs.Set.union.Statement.{statement}

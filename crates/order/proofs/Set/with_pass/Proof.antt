@@ -1,4 +1,4 @@
--- `Set::with_pass` meets its contract: the word of equal digits has all of what is gained, or nothing of it. Assumes nothing.
+-- `Set::with_pass` meets its contract: the word of equal digits has all of what is gained, or nothing of it.
 use mathlib.Core.Path.{_≡_, sym, ap, _∙_}
 use mathlib.Core.Logic.{⊎-elim}
 use Prim.Native.Nat.{ℕ, _+_, _-_, _%_, _^_, _<_}

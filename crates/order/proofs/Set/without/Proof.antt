@@ -1,4 +1,4 @@
--- `Set::without` meets its contract, by the number of the word. Assumes nothing.
+-- `Set::without` meets its contract, by the number of the word.
 use mathlib.Core.Path.{ap}
 use borrow.Author.Needs.{needs}
 use Rattle.order.specs.Stored.{numberOf, setOf}

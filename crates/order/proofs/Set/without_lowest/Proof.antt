@@ -1,4 +1,4 @@
--- `Set::without_lowest` meets its contract, by that of `words::without_lowest`; nothing is taken out of the empty set. Assumes nothing.
+-- `Set::without_lowest` meets its contract, by that of `words::without_lowest`; nothing is taken out of the empty set.
 use mathlib.Core.Path.{sym, ap, _∙_}
 use Prim.Native.Nat.{ℕ}
 use borrow.Author.Needs.{needs}

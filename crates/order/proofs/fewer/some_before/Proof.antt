@@ -1,4 +1,4 @@
--- `fewer::some_before` meets its contract. The invariant: what is left tells as much as the set at the start. Assumes nothing.
+-- `fewer::some_before` meets its contract. The invariant: what is left tells as much as the set at the start.
 use mathlib.Core.Path.{_≡_, refl, sym, ap, _∙_}
 use Prim.Native.Nat.{ℕ}
 use borrow.Author.Needs.{needs}

@@ -1,4 +1,4 @@
--- `fewer::without_arc` meets its contract, by its row. Assumes nothing.
+-- `fewer::without_arc` meets its contract, by its row.
 use mathlib.Core.Path.{ap, _∙_}
 use Prim.Native.Nat.{ℕ, _^_}
 use borrow.Author.Needs.{needs}

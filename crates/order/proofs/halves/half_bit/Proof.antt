@@ -1,4 +1,4 @@
--- `halves::half_bit` meets its contract. Assumes nothing.
+-- `halves::half_bit` meets its contract.
 use mathlib.Core.Path.{sym, _∙_}
 use borrow.Author.Needs.{needs}
 use borrow.Author.Tests.{eq-eqb, ne-eqb}

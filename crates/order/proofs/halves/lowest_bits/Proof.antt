@@ -1,4 +1,4 @@
--- `halves::lowest_bits` meets its contract. Assumes nothing.
+-- `halves::lowest_bits` meets its contract.
 use mathlib.Core.Path.{sym, ap, _∙_}
 use Prim.Native.Nat.{ℕ, _-_, _%_, _^_, _<_}
 use native.Mathlib.Nat.{mod-eq-of-lt}

@@ -1,5 +1,5 @@
--- `transitive::add_row` meets its contract. The invariant: the run over what is left, from the rows with what is gained so far, is the run from the start, and none
--- of what is left is held. Assumes nothing.
+-- `transitive::add_row` meets its contract. The invariant: the run over what is left, from the rows with what is gained
+-- so far, is the run from the start, and none of what is left is held.
 use mathlib.Core.Path.{_≡_, sym, ap, _∙_, subst}
 use mathlib.Core.List.{List}
 use Prim.Native.Nat.{ℕ}

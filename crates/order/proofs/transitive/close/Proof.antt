@@ -1,4 +1,5 @@
--- `transitive::close` meets its contract. The invariant: the rows are what the passes done make of the arcs; all of them are Warshall's closure. Assumes nothing.
+-- `transitive::close` meets its contract. The invariant: the rows are what the passes done make of the arcs; all of
+-- them are Warshall's closure.
 use mathlib.Core.Path.{_≡_, ap, _∙_}
 use Prim.Native.Nat.{ℕ, _≤_, _-_}
 use native.Mathlib.Omega.{arith}

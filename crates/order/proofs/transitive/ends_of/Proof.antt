@@ -1,4 +1,4 @@
--- `transitive::ends_of` meets its contract. The invariant: the set has the ends of the rows passed. Assumes nothing.
+-- `transitive::ends_of` meets its contract. The invariant: the set has the ends of the rows passed.
 use mathlib.Core.Path.{_≡_, ap₂, _∙_}
 use Prim.Native.Nat.{_≤_, _-_}
 use native.Mathlib.Numerals.{add-one}

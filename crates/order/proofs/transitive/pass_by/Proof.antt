@@ -1,4 +1,4 @@
--- `transitive::pass_by` meets its contract. The invariant: the rows are what the steps done make of those at the start. Assumes nothing.
+-- `transitive::pass_by` meets its contract. The invariant: the rows are what the steps done make of those at the start.
 use mathlib.Core.Path.{_≡_}
 use Prim.Native.Nat.{ℕ, _≤_, _-_}
 use native.Mathlib.Omega.{arith}

@@ -1,4 +1,4 @@
--- `transitive::pass_over` meets its contract, by the two tests. Assumes nothing.
+-- `transitive::pass_over` meets its contract, by the two tests.
 use mathlib.Core.Path.{_≡_, sym, ap, _∙_}
 use Prim.Native.Nat.{ℕ}
 use borrow.Author.Needs.{needs}

@@ -1,4 +1,4 @@
--- `plan::activity::activities_cause` meets its contract: no record before the place of the loop is refused. Assumes nothing.
+-- `plan::activity::activities_cause` meets its contract: no record before the place of the loop is refused.
 use mathlib.Core.Path.{_≡_}
 use mathlib.Core.Bool.{true}
 use Prim.Native.Nat.{ℕ, _-_, _≤_, _<_}

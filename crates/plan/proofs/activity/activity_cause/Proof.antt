@@ -1,4 +1,4 @@
--- `plan::activity::activity_cause` meets its contract: it rewrites with the calls, each one the next rule of the chain. Assumes nothing.
+-- `plan::activity::activity_cause` meets its contract: it rewrites with the calls, each one the next rule of the chain.
 use borrow.Author.Needs.{needs}
 use Rattle.plan.specs.Causes.{activityCause}
 use Rattle.plan.proofs.activity.activity_cause.Statement.{statement}

@@ -1,4 +1,4 @@
--- `plan::activity::activity_fields` meets its contract: each `return` rewrites with the test that led there. Assumes nothing.
+-- `plan::activity::activity_fields` meets its contract: each `return` rewrites with the test that led there.
 use native.Mathlib.Omega.{arith}
 use borrow.Author.Tests.{lt-ltb, le-ltb}
 use borrow.Author.Needs.{needs}

@@ -1,4 +1,4 @@
--- `plan::activity::activity_timed` meets its contract: each `return` rewrites with the test of the duration. Assumes nothing.
+-- `plan::activity::activity_timed` meets its contract: each `return` rewrites with the test of the duration.
 use native.Mathlib.Omega.{arith}
 use borrow.Author.Tests.{lt-ltb, le-ltb}
 use borrow.Author.Needs.{needs}

@@ -1,4 +1,4 @@
--- `plan::activity::demands_some` meets its contract. The invariant: nothing is demanded of the kinds passed. Assumes nothing.
+-- `plan::activity::demands_some` meets its contract. The invariant: nothing is demanded of the kinds passed.
 use mathlib.Core.Path.{_≡_, sym}
 use mathlib.Core.Bool.{false}
 use Prim.Native.Nat.{ℕ, _≤_, _<_, _-_}

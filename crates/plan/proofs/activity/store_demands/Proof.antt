@@ -1,4 +1,4 @@
--- `plan::activity::store_demands` meets its contract: the array is what the steps so far make of it. Assumes nothing.
+-- `plan::activity::store_demands` meets its contract: the array is what the steps so far make of it.
 use mathlib.Core.Path.{_≡_}
 use Prim.Native.Nat.{_-_, _≤_}
 use native.Mathlib.Omega.{arith}

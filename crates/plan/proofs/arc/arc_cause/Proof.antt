@@ -1,4 +1,4 @@
--- `plan::arc::arc_cause` meets its contract: it rewrites with the calls, each one the next rule of the chain. Assumes nothing.
+-- `plan::arc::arc_cause` meets its contract: it rewrites with the calls, each one the next rule of the chain.
 use borrow.Author.Needs.{needs}
 use Rattle.plan.specs.Causes.{arcCause}
 use Rattle.plan.proofs.arc.arc_cause.Statement.{statement}

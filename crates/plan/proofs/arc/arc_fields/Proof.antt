@@ -1,4 +1,4 @@
--- `plan::arc::arc_fields` meets its contract: each `return` rewrites with the tests and the calls that led there. Assumes nothing.
+-- `plan::arc::arc_fields` meets its contract: each `return` rewrites with the tests and the calls that led there.
 use borrow.Author.Needs.{needs}
 use Rattle.plan.specs.Records.{arcFields}
 use Rattle.plan.proofs.ReaderLoops.{told, told-not}

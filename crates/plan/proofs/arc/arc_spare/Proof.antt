@@ -1,4 +1,4 @@
--- `plan::arc::arc_spare` meets its contract: each `return` rewrites with the tests and the calls that led there. Assumes nothing.
+-- `plan::arc::arc_spare` meets its contract: each `return` rewrites with the tests and the calls that led there.
 use borrow.Author.Needs.{needs}
 use Rattle.plan.proofs.ReaderLoops.{told, told-not}
 use Rattle.plan.proofs.arc.arc_spare.Statement.{statement}

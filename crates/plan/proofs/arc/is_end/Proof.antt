@@ -1,4 +1,4 @@
--- `plan::arc::is_end` meets its contract: each `return` rewrites with the tests and the calls that led there. Assumes nothing.
+-- `plan::arc::is_end` meets its contract: each `return` rewrites with the tests and the calls that led there.
 use native.Mathlib.Omega.{arith}
 use borrow.Author.Tests.{lt-ltb, le-ltb}
 use borrow.Author.Needs.{needs}

@@ -1,4 +1,4 @@
--- `plan::arc::read_arc` meets its contract: each `return` is one way through the chain of rules. Assumes nothing.
+-- `plan::arc::read_arc` meets its contract: each `return` is one way through the chain of rules.
 use mathlib.Core.Path.{refl, sym, ap, _∙_}
 use mathlib.Core.Bool.{not}
 use borrow.Author.Needs.{needs}

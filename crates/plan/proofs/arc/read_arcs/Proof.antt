@@ -1,4 +1,5 @@
--- `plan::arc::read_arcs` meets its contract: no record before the place of the loop is refused, and their arcs are stored, so that they tell which arc is repeated. Assumes nothing.
+-- `plan::arc::read_arcs` meets its contract: no record before the place of the loop is refused, and their arcs are
+-- stored, so that they tell which arc is repeated.
 use mathlib.Core.Path.{_≡_, ap, _∙_}
 use mathlib.Core.Bool.{true}
 use Prim.Native.Nat.{ℕ, _-_, _≤_, _<_}

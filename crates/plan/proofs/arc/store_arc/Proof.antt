@@ -1,4 +1,4 @@
--- `plan::arc::store_arc` meets its contract. Assumes nothing.
+-- `plan::arc::store_arc` meets its contract.
 use borrow.Author.Needs.{needs}
 use Rattle.order.proofs.Stored.{number-of}
 use Rattle.plan.specs.model.ArcRows.{withArc}

@@ -1,4 +1,4 @@
--- `plan::checks::rule` meets its contract, by the cases of the answer so far and of the test. Assumes nothing.
+-- `plan::checks::rule` meets its contract, by the cases of the answer so far and of the test.
 use borrow.Author.Needs.{needs}
 use Rattle.plan.specs.Causes.{rule}
 use Rattle.plan.proofs.checks.rule.Statement.{statement}

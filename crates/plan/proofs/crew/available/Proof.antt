@@ -1,4 +1,4 @@
--- `plan::crew::available` meets its contract: the elements below the place of the loop are the table's. Assumes nothing.
+-- `plan::crew::available` meets its contract: the elements below the place of the loop are the table's.
 use mathlib.Core.Path.{_≡_, refl, _∙_}
 use Prim.Native.Nat.{ℕ, _-_, _≤_, _<_}
 use native.Mathlib.Omega.{arith}

@@ -1,4 +1,4 @@
--- `plan::crew::crew_cause` meets its contract: it rewrites with the calls, each one the next rule of the chain. Assumes nothing.
+-- `plan::crew::crew_cause` meets its contract: it rewrites with the calls, each one the next rule of the chain.
 use borrow.Author.Needs.{needs}
 use Rattle.plan.specs.Causes.{crewCause}
 use Rattle.plan.proofs.crew.crew_cause.Statement.{statement}

@@ -1,4 +1,4 @@
--- `plan::crew::crew_fields` meets its contract: each `return` rewrites with the tests and the calls that led there. Assumes nothing.
+-- `plan::crew::crew_fields` meets its contract: each `return` rewrites with the tests and the calls that led there.
 use native.Mathlib.Omega.{arith}
 use lib.ListN.{getD}
 use borrow.Author.Tests.{lt-ltb, le-ltb, lt-leb, le-leb}

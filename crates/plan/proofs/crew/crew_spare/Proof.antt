@@ -1,4 +1,4 @@
--- `plan::crew::crew_spare` meets its contract: each `return` rewrites with the tests and the calls that led there. Assumes nothing.
+-- `plan::crew::crew_spare` meets its contract: each `return` rewrites with the tests and the calls that led there.
 use borrow.Author.Needs.{needs}
 use Rattle.plan.proofs.ReaderLoops.{told, told-not}
 use Rattle.plan.proofs.crew.crew_spare.Statement.{statement}

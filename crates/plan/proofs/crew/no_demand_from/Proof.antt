@@ -1,4 +1,5 @@
--- `plan::crew::no_demand_from` meets its contract: the test of what is left of the demands equals the test of all of them. Assumes nothing.
+-- `plan::crew::no_demand_from` meets its contract: the test of what is left of the demands
+-- equals the test of all of them.
 use Prim.Native.Nat.{_*_, _≤_, _-_}
 use mathlib.Core.Path.{_≡_, refl, sym, _∙_}
 use native.Mathlib.Omega.{arith}

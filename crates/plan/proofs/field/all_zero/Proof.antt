@@ -1,4 +1,4 @@
--- `plan::field::all_zero` meets its contract: the test of what is left of the range equals the test of the whole range. Assumes nothing.
+-- `plan::field::all_zero` meets its contract: the test of what is left of the range equals the test of the whole range.
 use Prim.Native.Nat.{_≤_, _-_}
 use mathlib.Core.Path.{_≡_, refl, sym, _∙_}
 use native.Mathlib.Omega.{arith}

@@ -1,4 +1,4 @@
--- `plan::file::empty_plan` meets its contract: the result computes to the definition. Assumes nothing.
+-- `plan::file::empty_plan` meets its contract: the result computes to the definition.
 use mathlib.Core.Path.{refl}
 use Rattle.order.specs.Stored.{cells}
 use Rattle.plan.specs.model.Plans.{emptyPlan}

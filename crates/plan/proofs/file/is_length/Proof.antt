@@ -1,4 +1,4 @@
--- `plan::file::is_length` meets its contract: each `return` rewrites with the tests and the calls that led there. Assumes nothing.
+-- `plan::file::is_length` meets its contract: each `return` rewrites with the tests and the calls that led there.
 use native.Mathlib.Omega.{arith}
 use borrow.Author.Tests.{lt-ltb, le-ltb, lt-leb, le-leb}
 use Rattle.plan.specs.Causes.{isLength}

@@ -1,4 +1,5 @@
--- `plan::file::leading_records` meets its contract: the run of what is left, from here, equals the run of the whole from the start. Assumes nothing.
+-- `plan::file::leading_records` meets its contract: the run of what is left, from here, equals the run
+-- of the whole from the start.
 use Prim.Native.Nat.{_+_, _*_, _≤_, _-_}
 use mathlib.Core.Path.{_≡_}
 use native.Mathlib.Nat.{sub-zero, zero-add}

@@ -1,4 +1,5 @@
--- `plan::file::read_file` meets its contract: what follows the answer on the activities is what the definition has follow it. Assumes nothing.
+-- `plan::file::read_file` meets its contract: what follows the answer on the activities is what
+-- the definition has follow it.
 use native.Mathlib.Omega.{arith}
 use borrow.Author.Needs.{needs}
 use Rattle.plan.specs.model.Phases.{fileOf}

@@ -1,4 +1,4 @@
--- `plan::file::read_rest` meets its contract: what follows each answer is what the definition has follow it. Assumes nothing.
+-- `plan::file::read_rest` meets its contract: what follows each answer is what the definition has follow it.
 use mathlib.Core.Path.{_≡_, refl}
 use Prim.Native.Nat.{suc, _-_}
 use native.Mathlib.Omega.{arith}

@@ -1,4 +1,4 @@
--- `plan::file::refusal` meets its contract: the plan beside the answer is the empty one. Assumes nothing.
+-- `plan::file::refusal` meets its contract: the plan beside the answer is the empty one.
 use borrow.Author.Needs.{needs}
 use Rattle.plan.proofs.file.refusal.Statement.{statement}
 use Rattle.plan.proofs.file.refusal.Tie as tie

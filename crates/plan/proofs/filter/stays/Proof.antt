@@ -1,4 +1,4 @@
--- `plan::filter::stays` meets its contract: by the record's type. Assumes nothing.
+-- `plan::filter::stays` meets its contract: by the record's type.
 use mathlib.Core.Path.{_∙_}
 use borrow.Author.Needs.{needs}
 use Rattle.plan.proofs.Staying.{other-stays, extra-stays}

@@ -1,4 +1,4 @@
--- `plan::filter::store_each_free` meets its contract: the rows are what the records so far make of them. Assumes nothing.
+-- `plan::filter::store_each_free` meets its contract: the rows are what the records so far make of them.
 use mathlib.Core.Path.{_≡_}
 use Prim.Native.Nat.{_-_, _≤_}
 use native.Mathlib.Omega.{arith}

@@ -1,4 +1,5 @@
--- `plan::filter::store_free` meets its contract: the records after the crew record are arcs, and the rows are what they make of them. Assumes nothing.
+-- `plan::filter::store_free` meets its contract: the records after the crew record are arcs, and the rows
+-- are what they make of them.
 use mathlib.Core.Path.{_∙_}
 use mathlib.Core.List.{List}
 use Prim.Native.Nat.{ℕ, _+_, _*_, _/_, _≤_}

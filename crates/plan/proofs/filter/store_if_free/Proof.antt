@@ -1,4 +1,4 @@
--- `plan::filter::store_if_free` meets its contract: each `return` is one way that the definition has. Assumes nothing.
+-- `plan::filter::store_if_free` meets its contract: each `return` is one way that the definition has.
 use mathlib.Core.Path.{sym, _∙_}
 use borrow.Author.Needs.{needs}
 use Rattle.plan.proofs.FreeArcs.{free-other, free-waits, free-here}

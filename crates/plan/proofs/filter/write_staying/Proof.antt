@@ -1,4 +1,5 @@
--- `plan::filter::write_staying` meets its contract: each record that is looked at is written behind those that stay, or left out (`Staying`). Assumes nothing.
+-- `plan::filter::write_staying` meets its contract: each record that is looked at is written behind those that
+-- stay, or left out (`Staying`).
 use mathlib.Core.Path.{_≡_, sym, _∙_}
 use mathlib.Core.Bool.{Bool}
 use mathlib.Core.List.{List}

@@ -1,4 +1,4 @@
--- `plan::numbers::told_by` meets its contract, by the cases of the cause. Assumes nothing.
+-- `plan::numbers::told_by` meets its contract, by the cases of the cause.
 use mathlib.Core.Path.{sym, ap, _∙_}
 use Rattle.plan.specs.Numbers.{toldBy}
 use borrow.Author.Needs.{needs}

@@ -1,4 +1,4 @@
--- `plan::wait::raise_wait` meets its contract, from the ends of the arc and its wait. Assumes nothing.
+-- `plan::wait::raise_wait` meets its contract, from the ends of the arc and its wait.
 use borrow.Author.Needs.{needs}
 use Rattle.plan.proofs.wait.raise_wait.Statement.{statement}
 use Rattle.plan.proofs.wait.raise_wait.Tie as tie

@@ -1,4 +1,4 @@
--- `plan::wait::raise_waits` meets its contract: the table is what the records so far make of it. Assumes nothing.
+-- `plan::wait::raise_waits` meets its contract: the table is what the records so far make of it.
 use mathlib.Core.Path.{_≡_}
 use Prim.Native.Nat.{_-_, _≤_}
 use native.Mathlib.Omega.{arith}

@@ -1,4 +1,5 @@
--- `plan::wait::store_waits` meets its contract: the records after the crew record are arcs, and the table is what they make of it. Assumes nothing.
+-- `plan::wait::store_waits` meets its contract: the records after the crew record are arcs, and the
+-- table is what they make of it.
 use mathlib.Core.Path.{_∙_}
 use mathlib.Core.List.{List}
 use Prim.Native.Nat.{ℕ, _+_, _*_, _/_, _≤_}

@@ -1,4 +1,4 @@
--- `planner::answer::output_of` meets its contract, by the cases of the fault. Assumes nothing.
+-- `planner::answer::output_of` meets its contract, by the cases of the fault.
 use mathlib.Core.Path.{sym, ap}
 use Rattle.planner.specs.Output.{outputOf}
 use Rattle.planner.specs.declared.Fault.{Fault}

@@ -1,4 +1,4 @@
--- `planner::faults::or_cause` meets its contract, by the cases of the fault and of the test. Assumes nothing.
+-- `planner::faults::or_cause` meets its contract, by the cases of the fault and of the test.
 use mathlib.Core.Path.{sym, ap, _∙_}
 use mathlib.Core.Bool.{Bool}
 use Rattle.planner.specs.Faults.{orCause}

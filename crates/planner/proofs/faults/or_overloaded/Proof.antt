@@ -1,4 +1,4 @@
--- `planner::faults::or_overloaded` meets its contract, by whether there is a fault already. Assumes nothing.
+-- `planner::faults::or_overloaded` meets its contract, by whether there is a fault already.
 use mathlib.Core.Path.{sym, ap, _∙_}
 use native.Mathlib.Omega.{arith}
 use borrow.Author.Tests.{not-true}

@@ -1,4 +1,4 @@
--- `planner::numbers::refusal_of` meets its contract, by the cases of the cause. Assumes nothing.
+-- `planner::numbers::refusal_of` meets its contract, by the cases of the cause.
 use mathlib.Core.Path.{sym, ap, _∙_}
 use Rattle.plan.specs.declared.Told.{Told}
 use Rattle.planner.specs.Numbers.{plain, refusalOf}

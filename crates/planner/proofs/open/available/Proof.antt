@@ -1,4 +1,4 @@
--- `planner::open::available` meets its contract: the opened plan is the one that is read. Assumes nothing.
+-- `planner::open::available` meets its contract: the opened plan is the one that is read.
 use mathlib.Core.Path.{ap}
 use borrow.Author.Needs.{needs}
 use Rattle.planner.specs.declared.open.Opened.{Opened}

@@ -1,4 +1,4 @@
--- `planner::open::open_plan` meets its contract, by its two steps. Assumes nothing.
+-- `planner::open::open_plan` meets its contract, by its two steps.
 use mathlib.Core.Path.{ap, _∙_}
 use Rattle.planner.specs.Open.{faultOf}
 use Rattle.planner.specs.model.Opening.{orderedOf}

@@ -1,4 +1,4 @@
--- `planner::open::or_circles` meets its contract, from the two circles. Assumes nothing.
+-- `planner::open::or_circles` meets its contract, from the two circles.
 use native.Mathlib.Omega.{arith}
 use Rattle.order.proofs.Orders.{circle-le}
 use Rattle.planner.proofs.OpenLaws.{circles-as}

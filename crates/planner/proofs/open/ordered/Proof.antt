@@ -1,4 +1,4 @@
--- `planner::open::ordered` meets its contract, from the rows, the orders and the circles. Assumes nothing.
+-- `planner::open::ordered` meets its contract, from the rows, the orders and the circles.
 use Rattle.planner.proofs.OpenLaws.{ordered-as}
 use borrow.Author.Needs.{needs}
 use Rattle.planner.proofs.open.ordered.Statement.{statement}

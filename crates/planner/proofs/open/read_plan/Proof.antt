@@ -1,4 +1,4 @@
--- `planner::open::read_plan` meets its contract, from what was read. Assumes nothing.
+-- `planner::open::read_plan` meets its contract, from what was read.
 use Rattle.planner.proofs.OpenLaws.{read-as}
 use borrow.Author.Needs.{needs}
 use Rattle.planner.proofs.open.read_plan.Statement.{statement}

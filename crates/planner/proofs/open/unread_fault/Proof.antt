@@ -1,4 +1,4 @@
--- `planner::open::unread_fault` meets its contract, by the cases of the answer. Assumes nothing.
+-- `planner::open::unread_fault` meets its contract, by the cases of the answer.
 use mathlib.Core.Path.{sym, ap}
 use Rattle.planner.specs.Open.{unreadFault}
 use borrow.Author.Needs.{needs}

@@ -1,4 +1,4 @@
--- `report_lines::flows::put_record` meets its contract: the line of the numbers that it read. Assumes nothing.
+-- `report_lines::flows::put_record` meets its contract: the line of the numbers that it read.
 use mathlib.Core.Path.{ap, _∙_}
 use native.Mathlib.Omega.{arith}
 use borrow.Author.Needs.{needs}

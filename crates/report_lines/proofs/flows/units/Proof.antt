@@ -1,4 +1,4 @@
--- `report_lines::flows::units` meets its contract: the four bytes that it read are the four of `field`. Assumes nothing.
+-- `report_lines::flows::units` meets its contract: the four bytes that it read are the four of `field`.
 use borrow.Author.Needs.{needs}
 use Rattle.report_lines.proofs.FlowLines.{units-field}
 use Rattle.report_lines.proofs.flows.units.Statement.{statement}

@@ -1,4 +1,4 @@
--- `report_lines::head::head_text` meets its contract: the four parts, one after another (`head-end`). Assumes nothing.
+-- `report_lines::head::head_text` meets its contract: the four parts, one after another (`head-end`).
 use native.Mathlib.Omega.{arith}
 use borrow.Author.Needs.{needs}
 use Rattle.report_lines.proofs.HeadLines.{needs-room, starts-room, started-at, head-length, head-end}

@@ -1,4 +1,4 @@
--- `report_lines::head::put_starts` meets its contract: each turn writes a line more (`Putting`). Assumes nothing.
+-- `report_lines::head::put_starts` meets its contract: each turn writes a line more (`Putting`).
 use mathlib.Core.Path.{ap, _∙_}
 use Prim.Native.Nat.{_-_}
 use native.Mathlib.Omega.{arith}

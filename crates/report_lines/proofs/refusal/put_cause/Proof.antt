@@ -1,4 +1,5 @@
--- `report_lines::refusal::put_cause` meets its contract: the number and the plain values of what the cause tells, then the members of its set. Assumes nothing.
+-- `report_lines::refusal::put_cause` meets its contract: the number and the plain values of what the cause tells,
+-- then the members of its set.
 use mathlib.Core.Path.{ap, _∙_}
 use native.Mathlib.Omega.{arith}
 use lib.ListN.{length-set}

@@ -1,4 +1,4 @@
--- `report_lines::refusal::put_members` meets its contract: each turn writes a member more (`Listed`). Assumes nothing.
+-- `report_lines::refusal::put_members` meets its contract: each turn writes a member more (`Listed`).
 use native.Mathlib.Omega.{arith}
 use borrow.Author.Needs.{needs}
 use Rattle.order.specs.Stored.{numberOf}

@@ -1,4 +1,4 @@
--- `report_lines::refusal::refused_text` meets its contract: the line of the numbers that were put down. Assumes nothing.
+-- `report_lines::refusal::refused_text` meets its contract: the line of the numbers that were put down.
 use mathlib.Core.Path.{_≡_, sym}
 use native.Mathlib.Omega.{arith}
 use lib.ListN.{length}

@@ -1,4 +1,5 @@
--- `report_lines::text::put_flow` meets its contract: the lines are those of what Flow wrote (`written-lines`), and it does not refuse (`not-refused`). Assumes nothing.
+-- `report_lines::text::put_flow` meets its contract: the lines are those of what Flow wrote (`written-lines`), and it
+-- does not refuse (`not-refused`).
 use mathlib.Core.Path.{ap, _∙_}
 use native.Mathlib.Omega.{arith}
 use borrow.Author.Needs.{needs}

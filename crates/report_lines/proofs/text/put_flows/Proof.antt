@@ -1,4 +1,4 @@
--- `report_lines::text::put_flows` meets its contract: each turn writes the lines of a kind more (`Putting`). Assumes nothing.
+-- `report_lines::text::put_flows` meets its contract: each turn writes the lines of a kind more (`Putting`).
 use mathlib.Core.Path.{_≡_, ap, _∙_}
 use Prim.Native.Nat.{ℕ, _+_, _-_}
 use native.Mathlib.Omega.{arith}

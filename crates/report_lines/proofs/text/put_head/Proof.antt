@@ -1,4 +1,4 @@
--- `report_lines::text::put_head` meets its contract: the numbers that were lent are the plan's (`head-read`). Assumes nothing.
+-- `report_lines::text::put_head` meets its contract: the numbers that were lent are the plan's (`head-read`).
 use native.Mathlib.Omega.{arith}
 use borrow.Author.Needs.{needs}
 use Rattle.lines.specs.Text.{text}

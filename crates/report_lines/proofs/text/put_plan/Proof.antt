@@ -1,4 +1,4 @@
--- `report_lines::text::put_plan` meets its contract: the head, and the flows behind it (`plan-end`). Assumes nothing.
+-- `report_lines::text::put_plan` meets its contract: the head, and the flows behind it (`plan-end`).
 use native.Mathlib.Nat.{le-of-eq}
 use native.Mathlib.Omega.{arith}
 use borrow.Author.Needs.{needs}

@@ -1,4 +1,4 @@
--- `report_lines::text::report_text` meets its contract, by Verdict's answer (`report-is`). Assumes nothing.
+-- `report_lines::text::report_text` meets its contract, by Verdict's answer (`report-is`).
 use mathlib.Core.Path.{ap, _∙_}
 use borrow.Author.Needs.{needs}
 use Rattle.lines.specs.Text.{text, more}

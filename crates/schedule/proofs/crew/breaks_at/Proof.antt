@@ -1,4 +1,4 @@
--- `schedule::breaks_at` meets its contract. By the two tests. Assumes nothing.
+-- `schedule::breaks_at` meets its contract. By the two tests.
 use mathlib.Core.Bool.{Bool, _&&_}
 use mathlib.Core.Path.{sym, _∙_, ap, ap₂}
 use Prim.Native.Nat.{ℕ, _+_, _*_}

@@ -1,4 +1,4 @@
--- `schedule::broken_from` meets its contract. The invariant: no arc from a element passed is broken. Assumes nothing.
+-- `schedule::broken_from` meets its contract. The invariant: no arc from a element passed is broken.
 use mathlib.Core.Bool.{Bool, false}
 use mathlib.Core.Path.{_≡_}
 use Prim.Native.Nat.{ℕ, _≤_, _<_, _-_}

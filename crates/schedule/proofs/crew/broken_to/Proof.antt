@@ -1,4 +1,4 @@
--- `schedule::broken_to` meets its contract. The invariant: no arc to an element passed is broken. Assumes nothing.
+-- `schedule::broken_to` meets its contract. The invariant: no arc to an element passed is broken.
 use mathlib.Core.Bool.{false, _&&_}
 use mathlib.Core.Path.{_≡_, ap, _∙_}
 use Prim.Native.Nat.{ℕ, _≤_, _<_, _-_, _+_, _*_}

@@ -1,4 +1,4 @@
--- `schedule::crew_check` meets its contract. From what the parts found. Assumes nothing.
+-- `schedule::crew_check` meets its contract. From what the parts found.
 use mathlib.Core.Path.{_≡_}
 use native.Mathlib.Omega.{arith}
 use borrow.Author.Needs.{needs}

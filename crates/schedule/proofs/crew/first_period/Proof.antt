@@ -1,4 +1,5 @@
--- `schedule::first_period` meets its contract. The invariant: what is found is no later than any overloaded period after the start of one passed. Assumes nothing.
+-- `schedule::first_period` meets its contract. The invariant: what is found is no later than any overloaded period
+-- after the start of one passed.
 use mathlib.Core.Bool.{Bool}
 use mathlib.Core.Path.{_≡_, sym, _∙_, ap, ap₂, subst}
 use Prim.Native.Nat.{ℕ, suc, _≤_, _-_, _+_}

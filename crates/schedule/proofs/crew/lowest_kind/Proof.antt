@@ -1,4 +1,4 @@
--- `schedule::lowest_kind` meets its contract. The invariant: no kind passed is exceeded. Assumes nothing.
+-- `schedule::lowest_kind` meets its contract. The invariant: no kind passed is exceeded.
 use mathlib.Core.Bool.{false}
 use mathlib.Core.Path.{_≡_, _∙_}
 use Prim.Native.Nat.{ℕ, _≤_, _<_, _-_}

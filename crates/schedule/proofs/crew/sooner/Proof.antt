@@ -1,4 +1,4 @@
--- `schedule::sooner` meets its contract. By its tests. Assumes nothing.
+-- `schedule::sooner` meets its contract. By its tests.
 use mathlib.Core.Path.{sym, _∙_}
 use borrow.Author.Tests.{eq-eqb, ne-eqb, lt-ltb, le-ltb}
 use Rattle.words.proofs.Tests.{cond-true, cond-false}

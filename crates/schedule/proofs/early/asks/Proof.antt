@@ -1,4 +1,4 @@
--- `schedule::asks` meets its contract. By its test. Assumes nothing.
+-- `schedule::asks` meets its contract. By its test.
 use mathlib.Core.Path.{sym, _∙_}
 use borrow.Author.Needs.{needs}
 use Rattle.words.proofs.Tests.{cond-true, cond-false}

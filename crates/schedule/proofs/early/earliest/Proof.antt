@@ -1,4 +1,5 @@
--- `schedule::earliest` meets its contract. The invariant: the starts are those of the elements done, and these are all of a rank below the level. Assumes nothing.
+-- `schedule::earliest` meets its contract. The invariant: the starts are those of the elements done, and these are
+-- all of a rank below the level.
 use mathlib.Core.List.{List}
 use mathlib.Core.Path.{_≡_, sym, ap, _∙_, subst}
 use Prim.Native.Nat.{ℕ, _+_, _≤_, _-_}

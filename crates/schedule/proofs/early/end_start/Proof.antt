@@ -1,4 +1,4 @@
--- `schedule::end_start` meets its contract. The invariant: the largest finish of the elements passed. Assumes nothing.
+-- `schedule::end_start` meets its contract. The invariant: the largest finish of the elements passed.
 use mathlib.Core.Path.{_≡_, refl}
 use Prim.Native.Nat.{_≤_, _-_, _+_}
 use native.Mathlib.Omega.{arith}

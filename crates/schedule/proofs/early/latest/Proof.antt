@@ -1,4 +1,4 @@
--- `schedule::latest` meets its contract. The invariant: the largest that the arcs passed ask. Assumes nothing.
+-- `schedule::latest` meets its contract. The invariant: the largest that the arcs passed ask.
 use mathlib.Core.Bool.{cond}
 use mathlib.Core.Path.{_≡_, refl, sym, ap₂, _∙_}
 use Prim.Native.Nat.{ℕ, _≤_, _-_, _+_, _*_}

@@ -1,4 +1,5 @@
--- `schedule::place` meets its contract. The invariant: what is left to store comes to what there was to store at the start. Assumes nothing.
+-- `schedule::place` meets its contract. The invariant: what is left to store comes to what
+-- there was to store at the start.
 use mathlib.Core.Path.{_≡_, ap}
 use native.Mathlib.Omega.{arith}
 use lib.ListN.{set}

@@ -1,4 +1,4 @@
--- `schedule::ready` meets its contract. From what its calls give. Assumes nothing.
+-- `schedule::ready` meets its contract. From what its calls give.
 use mathlib.Core.Path.{_∙_, ap, ap₂}
 use Prim.Native.Nat.{ℕ}
 use borrow.Author.Needs.{needs}

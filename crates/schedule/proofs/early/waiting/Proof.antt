@@ -1,4 +1,5 @@
--- `schedule::waiting` meets its contract. The invariant: going on from here comes to what going on from the start comes to. Assumes nothing.
+-- `schedule::waiting` meets its contract. The invariant: going on from here comes to what going
+-- on from the start comes to.
 use denote.Ref.{now}
 use mathlib.Core.List.{List}
 use mathlib.Core.Path.{_≡_, ap, ap₂, _∙_}

@@ -1,4 +1,5 @@
--- `schedule::load::add_demands` meets its contract. The invariant: the kinds passed have the demand added, and the others are as they were. Assumes nothing.
+-- `schedule::load::add_demands` meets its contract. The invariant: the kinds passed have the demand added, and
+-- the others are as they were.
 use mathlib.Core.Path.{_≡_, refl, _∙_}
 use Prim.Native.Nat.{ℕ, _+_, _*_, _-_, _^_, _≤_, _<_}
 use native.Mathlib.Omega.{arith}

@@ -1,4 +1,4 @@
--- `schedule::load::finished_no_sooner` meets its contract. The test is the one of the definition. Assumes nothing.
+-- `schedule::load::finished_no_sooner` meets its contract. The test is the one of the definition.
 use mathlib.Core.Path.{ap₂}
 use Prim.Native.Nat.{ℕ, _+_}
 use lib.Dec.{leb}

@@ -1,4 +1,5 @@
--- `schedule::load::period_load` meets its contract. The invariant: the load is that of the activities passed, and at most 2 ^ 32 for each of them. Assumes nothing.
+-- `schedule::load::period_load` meets its contract. The invariant: the load is that of the activities passed, and at
+-- most 2 ^ 32 for each of them.
 use mathlib.Core.List.{[]}
 use mathlib.Core.Logic.{⊎-elim}
 use mathlib.Core.Bool.{true, false}

@@ -1,4 +1,4 @@
--- `schedule::load::started_by` meets its contract. The test is the one of the definition. Assumes nothing.
+-- `schedule::load::started_by` meets its contract. The test is the one of the definition.
 use mathlib.Core.Path.{ap}
 use Prim.Native.Nat.{ℕ}
 use lib.Dec.{leb}

@@ -1,4 +1,5 @@
--- `augment` meets its contract. The invariant: what is left of the walk from here comes to what the walk comes to from the start. Assumes nothing.
+-- `augment` meets its contract. The invariant: what is left of the walk from here comes to what the
+-- walk comes to from the start.
 use mathlib.Core.Path.{_≡_, _∙_}
 use Prim.Native.Nat.{_-_, _≤_, _<_}
 use native.Mathlib.Omega.{arith}

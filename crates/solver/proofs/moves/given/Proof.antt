@@ -1,4 +1,4 @@
--- `moves::given` meets its contract, by the test. Assumes nothing.
+-- `moves::given` meets its contract, by the test.
 use borrow.Author.Needs.{needs}
 use Rattle.order.proofs.Stored.{number-of}
 use Rattle.solver.proofs.Steps.{given-none, given-some}

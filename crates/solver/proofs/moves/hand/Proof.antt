@@ -1,4 +1,5 @@
--- `moves::hand` meets its contract. The invariant: what is left to hand over to makes of the network what all of it makes of that at the start. Assumes nothing.
+-- `moves::hand` meets its contract. The invariant: what is left to hand over to makes of the network what all of it
+-- makes of that at the start.
 use mathlib.Core.Path.{_≡_}
 use borrow.Author.Needs.{needs}
 use Rattle.words.specs.model.Loops.{each}

@@ -1,4 +1,4 @@
--- `join` meets its contract: the stores are those of the model, by `joins`. Assumes nothing.
+-- `join` meets its contract: the stores are those of the model, by `joins`.
 use borrow.Author.Needs.{needs}
 use Rattle.solver.proofs.Steps.{joins}
 use Rattle.solver.proofs.moves.join.Statement.{statement}

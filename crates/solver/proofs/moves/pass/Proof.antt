@@ -1,4 +1,4 @@
--- `pass` meets its contract: both ways out are those of `handing`. Assumes nothing.
+-- `pass` meets its contract: both ways out are those of `handing`.
 use mathlib.Core.Path.{_∙_}
 use borrow.Author.Needs.{needs}
 use Rattle.solver.proofs.Steps.{hands-none, hands-some}

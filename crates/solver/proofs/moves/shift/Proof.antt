@@ -1,4 +1,4 @@
--- `shift` meets its contract: the stores are those of the model, by `shifts`. Assumes nothing.
+-- `shift` meets its contract: the stores are those of the model, by `shifts`.
 use borrow.Author.Needs.{needs}
 use Rattle.solver.proofs.Steps.{shifts}
 use Rattle.solver.proofs.moves.shift.Statement.{statement}

@@ -1,4 +1,4 @@
--- `moves::store` meets its contract. Assumes nothing.
+-- `moves::store` meets its contract.
 use denote.Ref.{now}
 use mathlib.Core.Path.{refl, ap, _∙_}
 use Prim.Native.Nat.{ℕ}

@@ -1,4 +1,5 @@
--- `moves::take_back` meets its contract. The invariant: what is left to take back makes of the units what all of it makes of those at the start. Assumes nothing.
+-- `moves::take_back` meets its contract. The invariant: what is left to take back makes of the units what all of it
+-- makes of those at the start.
 use denote.Ref.{now}
 use mathlib.Core.Path.{_≡_, ap, _∙_}
 use borrow.Author.Needs.{needs}

@@ -1,4 +1,5 @@
--- `moves::take_from` meets its contract. The invariant: what is left to take back makes of the units what all of it makes of those at the start. Assumes nothing.
+-- `moves::take_from` meets its contract. The invariant: what is left to take back makes of the units what all of it
+-- makes of those at the start.
 use mathlib.Core.Path.{_≡_, refl}
 use native.Mathlib.Omega.{arith}
 use borrow.Author.Needs.{needs}

@@ -1,4 +1,5 @@
--- `reach::mark` meets its contract. The invariant: what is left to mark makes of the parents what all of it makes of those at the start. Assumes nothing.
+-- `reach::mark` meets its contract. The invariant: what is left to mark makes of the parents what all of it
+-- makes of those at the start.
 use mathlib.Core.Path.{_≡_, refl}
 use native.Mathlib.Omega.{arith}
 use borrow.Author.Needs.{needs}

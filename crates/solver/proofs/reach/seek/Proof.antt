@@ -1,4 +1,5 @@
--- `reach::seek` meets its contract. The invariant: the turns left make of the search what all of them make of that at the start. Assumes nothing.
+-- `reach::seek` meets its contract. The invariant: the turns left make of the search what all of
+-- them make of that at the start.
 use denote.Ref.{now}
 use mathlib.Core.List.{List}
 use mathlib.Core.Path.{_≡_, ap, _∙_, sym}

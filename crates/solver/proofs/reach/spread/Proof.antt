@@ -1,4 +1,5 @@
--- `reach::spread` meets its contract. The invariant: what is left to visit makes of what is seen what all of it makes of what was known. Assumes nothing.
+-- `reach::spread` meets its contract. The invariant: what is left to visit makes of what is seen what all of
+-- it makes of what was known.
 use denote.Ref.{now}
 use mathlib.Core.Path.{_≡_}
 use borrow.Author.Needs.{needs}

@@ -1,4 +1,4 @@
--- `reach::turn` meets its contract, by the two tests. Assumes nothing.
+-- `reach::turn` meets its contract, by the two tests.
 use denote.Ref.{now}
 use native.Mathlib.Omega.{arith}
 use borrow.Author.Needs.{needs}

@@ -1,4 +1,4 @@
--- `yaffledesk::codes::cause_code` meets its contract: the code of what the cause tells. Assumes nothing.
+-- `yaffledesk::codes::cause_code` meets its contract: the code of what the cause tells.
 use mathlib.Core.Path.{sym, ap, _∙_, subst}
 use Prim.Native.Nat.{_<_, _^_}
 use Rattle.planner.specs.declared.Refusal.{Refusal}

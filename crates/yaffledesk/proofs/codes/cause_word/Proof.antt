@@ -1,4 +1,4 @@
--- `yaffledesk::codes::cause_word` meets its contract: it is the set in what the cause tells. Assumes nothing.
+-- `yaffledesk::codes::cause_word` meets its contract: it is the set in what the cause tells.
 use mathlib.Core.Path.{ap, _∙_}
 use Prim.Native.Nat.{_%_, _^_}
 use Rattle.order.specs.Stored.{numberOf}

@@ -1,4 +1,4 @@
--- `yaffledesk::codes::crew_check_code` meets its contract, by the cases of the answer. Assumes nothing.
+-- `yaffledesk::codes::crew_check_code` meets its contract, by the cases of the answer.
 use mathlib.Core.Path.{sym, ap, _∙_, subst}
 use Prim.Native.Nat.{_<_, _^_}
 use Rattle.planner.specs.declared.CrewChecked.{CrewChecked}

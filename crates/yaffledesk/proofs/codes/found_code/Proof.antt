@@ -1,4 +1,4 @@
--- `yaffledesk::codes::found_code` meets its contract, by the cases of what was found. Assumes nothing.
+-- `yaffledesk::codes::found_code` meets its contract, by the cases of what was found.
 use mathlib.Core.Path.{sym, ap, _∙_, subst}
 use Prim.Native.Nat.{_<_, _^_}
 use native.Mathlib.Omega.{arith}

@@ -1,4 +1,4 @@
--- `yaffledesk::codes::output_code` meets its contract, by the cases of the answer. Assumes nothing.
+-- `yaffledesk::codes::output_code` meets its contract, by the cases of the answer.
 use mathlib.Core.Path.{sym, ap, _∙_, subst}
 use Prim.Native.Nat.{_<_, _^_}
 use Rattle.planner.specs.declared.Output.{Output}

@@ -1,4 +1,4 @@
--- `yaffledesk::text::write_report` meets its contract, by the room that is lent (`report-refused`, `report-written`). Assumes nothing.
+-- `yaffledesk::text::write_report` meets its contract, by the room that is lent (`report-refused`, `report-written`).
 use borrow.Author.Needs.{needs}
 use Rattle.yaffledesk.proofs.Reports.{report-refused, report-written}
 use Rattle.yaffledesk.proofs.text.write_report.Statement.{statement}

@@ -1,4 +1,4 @@
--- `planner::ops::crew_check::bad_lists` meets its contract, by the lengths and the worked durations. Assumes nothing.
+-- `planner::ops::crew_check::bad_lists` meets its contract, by the lengths and the worked durations.
 use Rattle.planner.proofs.CrewCheckLaws.{bad-starts, bad-worked, bad-work}
 use native.Mathlib.Omega.{arith}
 use borrow.Author.Needs.{needs}

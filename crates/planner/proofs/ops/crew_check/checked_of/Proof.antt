@@ -1,4 +1,4 @@
--- `planner::ops::crew_check::checked_of` meets its contract, by the cases of the fault. Assumes nothing.
+-- `planner::ops::crew_check::checked_of` meets its contract, by the cases of the fault.
 use mathlib.Core.Path.{sym, ap}
 use Rattle.planner.specs.CrewCheck.{checkedOf}
 use Rattle.planner.specs.declared.Fault.{Fault}

@@ -1,4 +1,4 @@
--- `planner::ops::crew_check::crew_check` meets its contract, from what was opened and what the schedule gave. Assumes nothing.
+-- `planner::ops::crew_check::crew_check` meets its contract, from what was opened and what the schedule gave.
 use mathlib.Core.Bool.{true≢false}
 use mathlib.Core.List.{List}
 use mathlib.Core.Path.{sym, _∙_}

@@ -1,4 +1,4 @@
--- `planner::ops::crew_check::found_in` meets its contract: the waits are those of the file. Assumes nothing.
+-- `planner::ops::crew_check::found_in` meets its contract: the waits are those of the file.
 use mathlib.Core.Path.{ap, _∙_}
 use mathlib.Core.List.{List}
 use Prim.Native.Nat.{ℕ}

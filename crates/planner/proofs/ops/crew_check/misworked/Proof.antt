@@ -1,4 +1,4 @@
--- `planner::ops::crew_check::misworked` meets its contract, by the test of the duration. Assumes nothing.
+-- `planner::ops::crew_check::misworked` meets its contract, by the test of the duration.
 use borrow.Author.Tests.{eq-eqb, ne-eqb}
 use Rattle.planner.proofs.ops.crew_check.misworked.Statement.{statement}
 use Rattle.planner.proofs.ops.crew_check.misworked.Tie as tie

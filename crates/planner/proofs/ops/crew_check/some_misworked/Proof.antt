@@ -1,4 +1,4 @@
--- `planner::ops::crew_check::some_misworked` meets its contract. The invariant: every worked duration passed fits. Assumes nothing.
+-- `planner::ops::crew_check::some_misworked` meets its contract. The invariant: every worked duration passed fits.
 use mathlib.Core.Path.{_≡_, sym, _∙_}
 use mathlib.Core.Bool.{false}
 use Prim.Native.Nat.{ℕ, _≤_, _<_, _-_}

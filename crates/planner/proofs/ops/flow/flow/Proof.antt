@@ -1,4 +1,4 @@
--- `planner::ops::flow::flow` meets its contract, from what was opened and what the solver hands over. Assumes nothing.
+-- `planner::ops::flow::flow` meets its contract, from what was opened and what the solver hands over.
 use mathlib.Core.List.{List}
 use Prim.Native.Nat.{ℕ, _-_}
 use native.Mathlib.Omega.{arith}

@@ -1,4 +1,4 @@
--- `planner::ops::flow::flow_length` meets its contract, by whether there are activities. Assumes nothing.
+-- `planner::ops::flow::flow_length` meets its contract, by whether there are activities.
 use native.Mathlib.Omega.{arith}
 use Rattle.order.specs.Stored.{elements}
 use Rattle.planner.specs.File.{flowLength}

@@ -1,4 +1,4 @@
--- `planner::ops::flow::is_kind` meets its contract, by whether the kind is 0. Assumes nothing.
+-- `planner::ops::flow::is_kind` meets its contract, by whether the kind is 0.
 use native.Mathlib.Omega.{arith}
 use Rattle.planner.proofs.FlowLaws.{kind-zero, kind-some}
 use Rattle.planner.proofs.ops.flow.is_kind.Statement.{statement}

@@ -1,4 +1,4 @@
--- `planner::ops::flow::kind_fault` meets its contract: three causes in turn. Assumes nothing.
+-- `planner::ops::flow::kind_fault` meets its contract: three causes in turn.
 use mathlib.Core.Path.{refl}
 use borrow.Author.Needs.{needs}
 use Rattle.planner.proofs.ops.flow.kind_fault.Statement.{statement}

@@ -1,4 +1,4 @@
--- `planner::ops::needs::put_numbers` meets its contract. The invariant: so many numbers are written over the front. Assumes nothing.
+-- `planner::ops::needs::put_numbers` meets its contract. The invariant: so many numbers are written over the front.
 use mathlib.Core.Path.{_≡_, refl, ap, _∙_}
 use mathlib.Core.List.{List}
 use Prim.Native.Nat.{ℕ, _≤_, _-_}

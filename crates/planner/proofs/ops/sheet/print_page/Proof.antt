@@ -1,4 +1,4 @@
--- `planner::ops::sheet::print_page` meets its contract: 11 in its turn, or else a page. Assumes nothing.
+-- `planner::ops::sheet::print_page` meets its contract: 11 in its turn, or else a page.
 use mathlib.Core.List.{List}
 use Prim.Native.Nat.{ℕ}
 use native.Mathlib.Omega.{arith}

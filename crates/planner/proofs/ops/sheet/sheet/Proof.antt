@@ -1,4 +1,4 @@
--- `planner::ops::sheet::sheet` meets its contract, from what was opened, the starts and the flow. Assumes nothing.
+-- `planner::ops::sheet::sheet` meets its contract, from what was opened, the starts and the flow.
 use mathlib.Core.List.{List}
 use Prim.Native.Nat.{ℕ, _-_}
 use native.Mathlib.Omega.{arith}

@@ -1,4 +1,4 @@
--- `planner::ops::sheet::starts_of` meets its contract, from what the schedule gave. Assumes nothing.
+-- `planner::ops::sheet::starts_of` meets its contract, from what the schedule gave.
 use mathlib.Core.Path.{refl, sym, _∙_, subst}
 use mathlib.Core.List.{List}
 use Prim.Native.Nat.{ℕ}

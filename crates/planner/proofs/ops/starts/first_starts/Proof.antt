@@ -1,4 +1,5 @@
--- `planner::ops::starts::first_starts` meets its contract: the waits are those of the file, and no larger than its durations may be. Assumes nothing.
+-- `planner::ops::starts::first_starts` meets its contract: the waits are those of the file, and no
+-- larger than its durations may be.
 use mathlib.Core.Path.{sym, ap, _∙_, subst}
 use mathlib.Core.List.{List}
 use Prim.Native.Nat.{ℕ}

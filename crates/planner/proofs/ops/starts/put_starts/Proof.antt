@@ -1,4 +1,4 @@
--- `planner::ops::starts::put_starts` meets its contract. The invariant: so many numbers are written over the front. Assumes nothing.
+-- `planner::ops::starts::put_starts` meets its contract. The invariant: so many numbers are written over the front.
 use Rattle.planner.proofs.StartsLaws.{put-next, before-end, at-end}
 use lib.ListN.{length, length-set}
 use mathlib.Core.Path.{_≡_, refl, sym, ap, _∙_}

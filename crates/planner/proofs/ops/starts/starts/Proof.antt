@@ -1,4 +1,4 @@
--- `planner::ops::starts::starts` meets its contract, from what was opened and what the schedule gave. Assumes nothing.
+-- `planner::ops::starts::starts` meets its contract, from what was opened and what the schedule gave.
 use mathlib.Core.List.{List}
 use Prim.Native.Nat.{ℕ}
 use native.Mathlib.Omega.{arith}

@@ -1,4 +1,5 @@
--- `planner::ops::trim::consider` meets its contract: the arc may not go, its pair follows, or the plan without it was weighed. Assumes nothing.
+-- `planner::ops::trim::consider` meets its contract: the arc may not go, its pair follows, or the
+-- plan without it was weighed.
 use mathlib.Core.Path.{_≡_, sym, ap, _∙_}
 use mathlib.Core.List.{List}
 use Prim.Native.Nat.{ℕ}

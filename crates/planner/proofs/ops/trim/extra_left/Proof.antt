@@ -1,4 +1,5 @@
--- `planner::ops::trim::extra_left` meets its contract: the extra arcs are those that the pairs so far leave, and the order is theirs. Assumes nothing.
+-- `planner::ops::trim::extra_left` meets its contract: the extra arcs are those that the pairs so far
+-- leave, and the order is theirs.
 use mathlib.Core.Path.{sym, subst}
 use Prim.Native.Nat.{_-_, _≤_}
 use native.Mathlib.Omega.{arith}

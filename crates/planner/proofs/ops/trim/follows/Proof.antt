@@ -1,4 +1,4 @@
--- `planner::ops::trim::follows` meets its contract, by where the element leads otherwise. Assumes nothing.
+-- `planner::ops::trim::follows` meets its contract, by where the element leads otherwise.
 use mathlib.Core.Path.{_≡_, sym, ap, ap₂, _∙_}
 use Prim.Native.Nat.{ℕ}
 use borrow.Author.Needs.{needs}

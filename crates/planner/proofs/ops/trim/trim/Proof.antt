@@ -1,4 +1,5 @@
--- `planner::ops::trim::trim` meets its contract, from what was opened, what is left of the extra arcs and what was written. Assumes nothing.
+-- `planner::ops::trim::trim` meets its contract, from what was opened, what is left of the
+-- extra arcs and what was written.
 use mathlib.Core.List.{List}
 use Prim.Native.Nat.{ℕ}
 use native.Mathlib.Omega.{arith}

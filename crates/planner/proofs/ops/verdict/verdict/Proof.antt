@@ -1,4 +1,4 @@
--- `planner::ops::verdict::verdict` meets its contract, from what was opened and what the kinds need. Assumes nothing.
+-- `planner::ops::verdict::verdict` meets its contract, from what was opened and what the kinds need.
 use native.Mathlib.Omega.{arith}
 use Rattle.planner.proofs.OpenLaws.{opened-few}
 use Rattle.planner.proofs.QuotedNeeds.{opened-kinds}

@@ -1,4 +1,4 @@
--- `planner::ops::verdict::verdict_of` meets its contract, by the cases of the fault. Assumes nothing.
+-- `planner::ops::verdict::verdict_of` meets its contract, by the cases of the fault.
 use mathlib.Core.Path.{sym, ap}
 use Rattle.planner.specs.Verdict.{verdictOf}
 use Rattle.planner.specs.declared.Fault.{Fault}
