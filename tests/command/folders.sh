@@ -48,7 +48,7 @@ mkdir "$PARALLEL_HOME" && : >"$PARALLEL_HOME/will-cite"
 parallel -k -X "$yaffledesk" list <"$scratch/names" >"$scratch/parts" 2>"$scratch/err"
 cmp "$scratch/parts" "$scratch/one"
 count $? "a list made by parallel: $(head -c 200 "$scratch/err")"
-# As README has it for Slurm: names in files of their own, and a task for each, which finds the command by its name.
+# As the guide has it for Slurm: names in files of their own, and a task for each, which finds the command by its name.
 mkdir array && (cd array && ln -s ../many . && mkdir bin && ln -s "$yaffledesk" bin/yaffledesk && split -d -a 4 -n l/5 "$scratch/names" names. && : >names.0005)
 for task in 0 1 2 3 4 5; do (cd array && PATH=$PWD/bin:$PATH SLURM_ARRAY_TASK_ID=$task sh "$root/examples/edition.sbatch") || echo "task $task"; done >"$scratch/tasks" 2>&1
 holds "$scratch/tasks" "" && cat array/lines.000[0-5] | cmp - "$scratch/one"

@@ -7,9 +7,24 @@ stored 1 list.json list --json examples
 stored 1 list.json list --csv -j 3 --json examples/*.plan
 stored 1 list.table list -j 256 examples
 
-# README shows the list that a new user sees first.
-"$yaffledesk" list examples | sed 's/^/    /' | cmp - <(grep '^    examples/' "$root/README.md")
-count $? "the list of the examples in README"
+# README and the guide show lines of this list: each is one of its lines or, where it ends in ' ..', begins one.
+# shows DOCUMENT WIDTH: the document does, of the list with names of this width.
+shows() {
+    local shown line one found
+    mapfile -t shown < <(sed -n 's/^    \(examples\/.*\)/\1/p' "$root/$1")
+    for line in "${shown[@]}"; do
+        found=
+        while IFS= read -r one; do
+            [[ $one == "$line" || ($line == *" .." && $one == "${line% ..}"*) ]] && found=1
+        done < <("$yaffledesk" list --width "$2" examples)
+        [ -n "$found" ] || { echo "not in the list: $line" && return 1; }
+    done
+    [ "${#shown[@]}" -ge 4 ]
+}
+shows README.md 18
+count $? "the lines of the list in README"
+shows docs/GUIDE.md 22
+count $? "the lines of the list in the guide"
 
 # Each format says the same as the others, and as the report of the plan; a list in any format is read by Python.
 for format in table csv json; do

@@ -106,7 +106,7 @@ done
 adds "what pictures show" "$python" "$root/tests/command/pictures.py" "$yaffledesk" examples/*.plan reports/*.plan
 rm -f large*.plan
 "$yaffledesk" draw examples/b.plan -o picture.svg && cmp picture.svg "$root/docs/b.svg"
-count $? "the picture of examples/b.plan is the one that README shows, docs/b.svg"
+count $? "the picture of examples/b.plan is the one that README and the guide show, docs/b.svg"
 grep -q '\b2, 3, 4\b' picture.svg && ! grep -q '\b1, 2, 3, 4\b' picture.svg
 count $? "the picture of examples/b.plan names the activities 2, 3, 4"
 cp examples/a.plan '<&">.plan' && "$yaffledesk" draw '<&">.plan' -o picture.svg && rsvg-convert picture.svg -o picture.png

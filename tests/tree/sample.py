@@ -1,4 +1,5 @@
-"""A crate with wrong versions that show nothing, and what has to be said of each: the check of wrong versions is itself seen to fail where it must."""
+"""A crate with wrong versions that show nothing, and what has to be said of each: the check of wrong versions is itself
+seen to fail where it must."""
 import pathlib
 import tempfile
 

@@ -1,4 +1,5 @@
-"""Wrong versions of a crate: crates/NAME/must-fail/*.edit, and what their logs say. docs/PROVING.md says how one is written."""
+"""Wrong versions of a crate: crates/NAME/must-fail/*.edit, and what their logs say. docs/PROVING.md says how one is
+written."""
 import re
 
 # an error that only follows from another one; and one of a proof that no longer fits the code or the statement, whatever that says
