@@ -19,7 +19,7 @@ FILES = {
     "crates.txt": "words:\norder: words\n",
     "crates/words/specs/Wide.antt": f"-- {WIDE}{WIDE[:10]}\nnarrow : 1\n",
     "crates/words/proofs/Wide.antt": f"-- {WIDE}{WIDE[:10]}\n",
-    "crates/words/must-fail/a.edit": f"refuses: words::a, words::b\nwrong: x\nfile: src/lib.rt\nold: a\nnew: {WIDE * 2}",
+    "crates/words/must-fail/a.edit": f"refuses: words::a, words::b\nwrong: x\nfile: src/a.rt\nold: a\nnew: {WIDE * 2}",
     "crates/promises/specs/PriceList.antt": "-- why\nuse Rattle.words.specs.Few.{\n  a,\n}\n\none : 1\none = 1\n",
     "crates/words/specs/Few.antt": "two : 2\n",
     "tests/old/run": "",
