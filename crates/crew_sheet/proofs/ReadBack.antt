@@ -1,6 +1,6 @@
 -- What is printed is read back: a record and a head from their lines, and the lines from a page.
 use mathlib.Core.Path.{_≡_, refl, sym, ap, subst, _∙_}
-use mathlib.Core.List.{List, [], _∷_, _++_, append-assoc, append-nil}
+use mathlib.Core.List.{List, [], _∷_, _++_, append-assoc}
 use Prim.Native.Nat.{ℕ, _+_, _*_, _-_, _^_, _≤_, _<_}
 use native.Mathlib.Omega.{arith}
 use native.Mathlib.Nat.{pow-le-pow-right}
@@ -108,9 +108,3 @@ module _ (flow starts : List ℕ) (n kind page : ℕ) where
       ∙ ap (λ (x : List ℕ). take lineBytes (drop (41 * l) (drop 41 x))) (append-assoc top ls rest)
       ∙ ap (λ (x : List ℕ). take lineBytes (drop (41 * l) x)) (drop-at top (ls ++ rest) 41 (length-head kind page))
       ∙ joined-at lineBytes line (λ k. length-record flow starts n (onLine flow starts n page k)) pageRecords rest l h
-
-  pub page-head : pageLine (sheetPage flow starts n kind page) 0 ≡ headLine kind page
-  page-head = ap (λ (p : List ℕ). pageLine p 0) (sym (append-nil (sheetPage flow starts n kind page))) ∙ page-head-before []
-
-  pub page-line : (l : ℕ) → l < 59 → pageLine (sheetPage flow starts n kind page) (l + 1) ≡ recordLine flow starts n (onLine flow starts n page l)
-  page-line l h = ap (λ (p : List ℕ). pageLine p (l + 1)) (sym (append-nil (sheetPage flow starts n kind page))) ∙ page-line-before [] l h

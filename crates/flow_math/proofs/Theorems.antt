@@ -24,7 +24,6 @@ use Rattle.flow_math.specs.Kept.{Keeps}
 use Rattle.flow_math.specs.Crew.{occupied}
 use Rattle.flow_math.specs.Peak.{Peak}
 use Rattle.flow_math.proofs.Need as Needs
-use Rattle.flow_math.proofs.Weak
 use Rattle.flow_math.proofs.Strong
 use Rattle.flow_math.proofs.Flow as Flows
 use Rattle.flow_math.proofs.Crew as Crews

@@ -1,5 +1,5 @@
 -- The units between the nodes of the flow that a handover makes: what they depend on, and how many they can be.
-use mathlib.Core.Path.{_≡_, refl, ap, ap₂}
+use mathlib.Core.Path.{_≡_, refl, ap}
 use mathlib.Core.Bool.{Bool, true, cond}
 use mathlib.Core.Logic.{_⊎_, inl, inr}
 use Prim.Native.Nat.{ℕ, zero, suc, _+_, _-_, _≤_, _<_}
@@ -38,32 +38,6 @@ units-past n d f x a (suc i) zero h = refl
 units-past n d f x a (suc i) (suc j) (inl l) = rw (le-ltb i n (omega arith))
 units-past n d f x a (suc i) (suc j) (inr l) =
     Tests.by-test (ltb i n) (λ t. rw (t, le-ltb j n (omega arith), ne-eqb j n (λ e. omega arith))) (λ t. rw t)
-
--- ---- the same demands and the same handover below n: the same units
-
-module _ (n : ℕ) (d e : ℕ → ℕ) (f g : ℕ → ℕ → ℕ) (x y a c : ℕ) (hd : (i : ℕ) → i < n → d i ≡ e i)
-    (hf : (i j : ℕ) → i < n → j < n → f i j ≡ g i j) where
-  left-same : (i : ℕ) → i < n → d i - row n f i ≡ e i - row n g i
-  unfolding row
-  left-same i l = ap₂ _-_ (hd i l) (Sums.sum-cong n (λ j. f i j) (λ j. g i j) (λ j m. hf i j l m))
-
-  right-same : (j : ℕ) → j < n → d j - col n f j ≡ e j - col n g j
-  unfolding col
-  right-same j m = ap₂ _-_ (hd j m) (Sums.sum-cong n (λ i. f i j) (λ i. g i j) (λ i l. hf i j l m))
-
-  pub units-same : x ≡ y → a ≡ c → (u v : ℕ) → nodeFlow n d f x a u v ≡ nodeFlow n e g y c u v
-  units-same p q zero zero = refl
-  units-same p q zero (suc j) =
-      Tests.by-test (ltb j n)
-      (λ t. rw t (right-same j (ltb-true j n t)))
-      (λ t. rw t (ap (λ (s : ℕ). cond (eqb j n) s 0) (ap₂ _-_ q p)))
-  units-same p q (suc i) zero = refl
-  units-same p q (suc i) (suc j) =
-      Tests.by-test (ltb i n)
-      (λ s. Tests.by-test (ltb j n)
-      (λ t. rw (s, t) (hf i j (ltb-true i n s) (ltb-true j n t)))
-      (λ t. rw (s, t) (ap (λ (r : ℕ). cond (eqb j n) r 0) (left-same i (ltb-true i n s)))))
-      (λ s. rw s)
 
 -- ---- no more units than the greatest demand, or than are available
 

@@ -11,14 +11,12 @@ use borrow.Author.Count.{below-more}
 use borrow.Author.Tests.{lt-ltb, le-ltb}
 use Rattle.words.specs.Tables.{over}
 use Rattle.words.proofs.Firsts.{first-le, first-stop, first-end}
-use Rattle.words.proofs.Counts.{count-le}
 use Rattle.words.proofs.Tables.{is-table, length-table, getD-table, over-turn}
 use Rattle.words.proofs.Tests.{cond-true, cond-false, cond-has}
 use Rattle.order.specs.Stored.{elements, numberOf}
-use Rattle.order.specs.Sets.{member, sizeOf}
+use Rattle.order.specs.Sets.{sizeOf}
 use Rattle.order.specs.Orders.{afterRows}
 use Rattle.order.specs.declared.Order.{Order}
-use Rattle.order.specs.declared.Set.{Set}
 use Rattle.records.specs.Records.{overloadRecord, startingWith}
 use Rattle.records.proofs.Records.{overload-low}
 use Rattle.solver.specs.model.Quote.{quoteIn}
@@ -89,10 +87,6 @@ module _ (m : ℕ) (o : Order) (demand available : List ℕ) (n : ℕ) where
       (λ e. first-le n (exceeds m o demand available)) (λ e. omega arith)
 
 -- ---- its record
-
--- a set has at most all members
-pub size-le : (S : Set) → sizeOf S ≤ elements
-size-le S = count-le elements (member S)
 
 module _ (v : Overload) (n : ℕ) (out : List ℕ) where
   -- none of the first n kinds

@@ -10,7 +10,7 @@ use Rattle.words.specs.Tables.{table}
 unfoldable pub places : ℕ → ℕ
 places n = suc (first 19 (λ k. ltb n (10 ^ suc k)))
 
--- a number, in decimal: no leading zeros. 48 is the digit 0.
+-- a number, in decimal: no leading zeros (`decimal-first` of proofs/Decimals.antt). 48 is the digit 0.
 unfoldable pub decimal : ℕ → List ℕ
 decimal n = table (places n) (λ i. 48 + n / 10 ^ (places n - suc i) % 10)
 

@@ -8,10 +8,7 @@ use native.Mathlib.Omega.{arith}
 use Rattle.order.specs.Before.{Before, last, more, Joined, Acyclic}
 use Rattle.order.specs.Arcs.{With, NoArc, Within, StrictOrder, Drawn, Arc, arc, In}
 
--- ---- least, transitive, holds the arcs
-
-pub before-holds : {A : ℕ → ℕ → Type 0} {i j : ℕ} → A i j → Before A i j
-before-holds m = last m
+-- ---- transitive, and the least such relation that holds the arcs
 
 pub before-trans : {A : ℕ → ℕ → Type 0} {i j k : ℕ} → Before A i j → Before A j k → Before A i k
 before-trans (last m) c = more m c
@@ -39,22 +36,11 @@ acyclic-joined free i b = free i (before-joined b)
 pub before-same : {A B : ℕ → ℕ → Type 0} → ((i j : ℕ) → A i j ↔ B i j) → (i j : ℕ) → Before A i j ↔ Before B i j
 before-same f i j = (before-map (λ x y. f x y .0), before-map (λ x y. f x y .1))
 
--- what the arcs of an order lead to, they lead to by arcs
-pub before-twice : {A : ℕ → ℕ → Type 0} (i j : ℕ) → Before (Before A) i j ↔ Before A i j
-before-twice {A} i j = (before-least (Before A) (λ x y b. b) (λ x y z p q. before-trans p q), λ b. last b)
-
 -- arcs that are implied already change nothing
 pub before-implied : {A B : ℕ → ℕ → Type 0} → ((i j : ℕ) → B i j → Before A i j) → (i j : ℕ) → Before (Joined A B) i j ↔ Before A i j
 before-implied {A} {B} f i j = (
   before-least (Before A) (λ x y. ⊎-elim (λ a. last a) (f x y)) (λ x y z p q. before-trans p q),
   before-joined,
-)
-
--- the arcs of an order, with further arcs, lead where the arcs that gave it lead with them: a plan order may begin from the job order
-pub before-begun : {A B : ℕ → ℕ → Type 0} (i j : ℕ) → Before (Joined (Before A) B) i j ↔ Before (Joined A B) i j
-before-begun {A} {B} i j = (
-  before-least (Before (Joined A B)) (λ x y. ⊎-elim before-joined (λ b. last (inr b))) (λ x y z p q. before-trans p q),
-  before-map (λ x y. ⊎-elim (λ a. inl (last a)) (λ b. inr b)),
 )
 
 -- the ends of a way are ends of arcs

@@ -34,9 +34,6 @@ pub record Closing (n : ℕ) (A : ℕ → ℕ → Type 0) (k : ℕ) (rows : List
   pub through : (p : ℕ) → p < k → (i j : ℕ) → after rows i p ≡ true → after rows p j ≡ true → after rows i j ≡ true
 
 module _ (n : ℕ) (rows : List ℕ) (long : length rows ≡ cells n) (k : ℕ) where
-  pass-row : ℕ → ℕ
-  pass-row i = passed k (row rows k) (row rows i)
-
   pass-table : passing n k rows ≡ rowTable n (λ i. passed k (row rows k) (row rows i))
   pass-table = rows-updated (λ i w. passed k (row rows k) w) n rows long
 

@@ -2,7 +2,7 @@
 use mathlib.Core.Path.{_≡_, refl, sym, ap, _∙_}
 use mathlib.Core.Bool.{Bool, true, false, _||_}
 use mathlib.Core.List.{List, [], _∷_}
-use mathlib.Core.Logic.{_⊎_, inl, inr, ⊎-elim, _↔_, Iff·symm}
+use mathlib.Core.Logic.{inl, inr, ⊎-elim, _↔_}
 use Prim.Native.Nat.{ℕ, _≤_, _<_}
 use lib.Bits.{bitOr}
 use lib.ListN.{length}
@@ -12,15 +12,13 @@ use Rattle.words.proofs.Bits.{bit-or}
 use Rattle.words.proofs.Tests.{clash, or-says}
 use Rattle.order.specs.Before.{Before, Joined, Acyclic}
 use Rattle.order.specs.Arcs.{With, NoArc, StrictOrder, Within, Drawn, Arc, In}
-use Rattle.order.specs.Stored.{elements, bound, numberOf, cells, row, RowsFit}
-use Rattle.order.specs.Rows.{after, Represents, grow, rowsOf, arcsIn}
+use Rattle.order.specs.Stored.{elements, cells, row, RowsFit}
+use Rattle.order.specs.Rows.{after, grow, rowsOf, arcsIn}
 use Rattle.order.specs.model.Warshall.{endsIn, passingOver}
-use Rattle.order.specs.Sets.{member}
-use Rattle.order.specs.Orders.{OrderOf, isBefore, afterOf, afterRows, emptyOrder, extended, circleOf, orderOf, Direct, orderIn, extendedBy, joinedRows}
+use Rattle.order.specs.Orders.{OrderOf, isBefore, afterRows, emptyOrder, extended, circleOf, orderOf, Direct, orderIn, extendedBy, joinedRows}
 use Rattle.order.specs.declared.Order.{Order}
-use Rattle.order.proofs.Stored.{number-set, to-bound, row-table, row-fit}
-use Rattle.order.proofs.Sets.{member-set}
-use Rattle.order.proofs.Before.{before-same, before-implied, drawn-within}
+use Rattle.order.proofs.Stored.{row-table}
+use Rattle.order.proofs.Before.{before-same, drawn-within}
 use Rattle.order.proofs.Represents
 use Rattle.order.proofs.Closure.{closed}
 use Rattle.order.proofs.Arcs.{rows-represent, arcs-drawn}
@@ -40,9 +38,6 @@ extended-order o x y r hx hy = Represents.grow-represents elements (o .rows) x y
 
 -- ---- what an order says, whatever arcs it is of
 
-pub after-member : (o : Order) (i j : ℕ) → member (afterOf o i) j ≡ isBefore o i j
-after-member o i j = member-set (row (o .rows) i) j
-
 pub after-rows : (o : Order) (i j : ℕ) → after (afterRows o) i j ≡ isBefore o i j
 unfolding afterRows
 after-rows o i j = refl
@@ -57,9 +52,6 @@ module _ {o : Order} {A : ℕ → ℕ → Type 0} (r : OrderOf o A) where
   pub order-means : (i j : ℕ) → (isBefore o i j ≡ true) ↔ Before A i j
   order-means = r .means
 
-  pub before? : (i j : ℕ) → Dec (Before A i j)
-  before? = Represents.before? r
-
   pub order-trans : (i j k : ℕ) → isBefore o i j ≡ true → isBefore o j k ≡ true → isBefore o i k ≡ true
   order-trans = Represents.after-trans r
 
@@ -70,10 +62,6 @@ module _ {o : Order} {A : ℕ → ℕ → Type 0} (r : OrderOf o A) where
   pub order-strict : Acyclic A → StrictOrder elements (isBefore o)
   order-strict free =
       record { irreflexive = λ i h e. clash e (order-free free i); transitive = λ i j k hi hj hk. order-trans i j k }
-
-  -- the set of all that i is before, by its members; it has a digit for each element
-  pub after-fit : (i : ℕ) → numberOf (afterOf o i) < bound
-  after-fit i = rw (number-set (row (o .rows) i)) (to-bound (row-fit elements (o .rows) (r .fit) i))
 
   -- no circle is found exactly where there is none
   pub circle-none : (circleOf o ≡ elements) ↔ Acyclic A
@@ -88,14 +76,6 @@ module _ {o : Order} {A : ℕ → ℕ → Type 0} (r : OrderOf o A) where
   -- arcs that lead the same ways have the same order, however they are given
   pub order-same : {B : ℕ → ℕ → Type 0} {p : Order} → OrderOf p B → ((i j : ℕ) → Before A i j ↔ Before B i j) → o ≡ p
   order-same {p = p} s same = ap ofRows (Represents.represents-once r (p .rows) s same)
-
-  -- adding an arc that is implied changes nothing
-  pub order-implied : (x y : ℕ) → x < elements → y < elements → Before A x y → extended o x y ≡ o
-  order-implied x y hx hy b =
-      sym (order-same (extended-order o x y r hx hy) (λ i j. Iff·symm (before-implied implied i j)))
-    where
-      implied : (i j : ℕ) → (i ≡ x) × (j ≡ y) → Before A i j
-      implied i j e = rw (e .0, e .1) b
 
 -- ---- the order of a list of arcs
 

@@ -12,7 +12,7 @@ use lib.Pow.{pow-lt}
 use lib.ListN.{length, replicate}
 use Rattle.words.specs.Bits.{bit}
 use Rattle.words.specs.Members.{first}
-use Rattle.words.proofs.Tests.{clash, fails, decided, test-same, or-says, and-says, eqb-says, ⊎-iff, cond-has}
+use Rattle.words.proofs.Tests.{clash, fails, test-same, or-says, and-says, eqb-says, ⊎-iff, cond-has}
 use Rattle.words.proofs.Bits.{bit-zero, bit-ext, bit-or, bit-single}
 use Rattle.words.proofs.Firsts.{first-le, first-none, before-first, at-first}
 use Rattle.order.specs.Before.{Before, Acyclic}
@@ -42,10 +42,6 @@ module _ {n : ℕ} {rows : List ℕ} {A : ℕ → ℕ → Type 0} (r : Represent
       go : Dec (i < n) → i < n
       go (yes h) = h
       go (no h) = clash (r .means i j .1 b) (after-past n rows i j (r .long) (omega arith))
-
-  -- it is decided
-  pub before? : (i j : ℕ) → Dec (Before A i j)
-  before? i j = decided (after rows i j) (r .means i j)
 
   pub after-trans : (i j k : ℕ) → after rows i j ≡ true → after rows j k ≡ true → after rows i k ≡ true
   after-trans i j k p q = r .means i k .1 (before-trans (r .means i j .0 p) (r .means j k .0 q))

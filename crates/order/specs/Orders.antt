@@ -34,11 +34,12 @@ afterRows o = o .rows
 unfoldable pub someBefore : List ℕ → Set → ℕ → Bool
 someBefore rows w j = some elements (λ k. member w k && after rows k j)
 
--- "The order without arcs": `Order::empty()`
+-- "The order without arcs": `Order::empty()` (that it is: `empty-order` of proofs/Orders.antt)
 abbrev pub emptyOrder : Order
 emptyOrder = record { rows = replicate (cells elements) 0 }
 
--- "Adding an arc to an order gives the order so extended."
+-- "Adding an arc to an order gives the order so extended." (That it does: `extended-order` of
+-- proofs/Orders.antt.)
 unfoldable pub extended : Order → ℕ → ℕ → Order
 extended o x y = record { rows = grow elements (o .rows) x y }
 

@@ -18,7 +18,6 @@ use Rattle.plan.specs.declared.Cause.the-variants.{Length}
 use Rattle.plan.specs.Records.{recordCount, typeAt, activityCount}
 use Rattle.plan.specs.Causes.{isReadable, causeAt, firstRefusal, followedBy, crewThere, recordsCause, isLength, answerOf}
 use Rattle.plan.specs.Numbers.{toldBy}
-use Rattle.plan.specs.Meaning
 use Rattle.plan.specs.Refused.{WrongLength, FirstFault, CrewMissing}
 use Rattle.plan.proofs.Refusals.{first-refused, all-readable}
 use Rattle.plan.proofs.Places.{leading-ends}

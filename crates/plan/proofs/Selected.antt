@@ -233,14 +233,6 @@ module _ (s t : List ℕ) (e : Readable s) (S : Selected s t) where
 
   -- ---- in the words of Meaning
 
-  pub selected-job : (i j : ℕ) → JobArc t i j → JobArc s i j
-  unfolding JobArc
-  selected-job i j = selected-names
-
-  pub selected-extra : (i j : ℕ) → ExtraArc t i j → ExtraArc s i j
-  unfolding ExtraArc
-  selected-extra i j = selected-names
-
   pub selected-job-wait : (i j : ℕ) → JobArc t i j → jobWait t i j ≡ jobWait s i j
   unfolding JobArc jobWait
   selected-job-wait i j = selected-wait 3 i j (omega arith)

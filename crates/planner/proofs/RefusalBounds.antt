@@ -15,7 +15,6 @@ use Rattle.order.specs.Stored.{numberOf}
 use Rattle.order.proofs.Stored.{number-none}
 use Rattle.crew_sheet.specs.Sheet.{pageBytes}
 use Rattle.plan.specs.Records.{activities}
-use Rattle.plan.specs.declared.Answer.the-variants as answer
 use Rattle.plan.proofs.CausePlaces.{told-small}
 use Rattle.solver.proofs.QuoteSound.{need-small}
 use Rattle.kinds.specs.Needs.{demandsFor}

@@ -100,9 +100,6 @@ module _ (s : List ℕ) (bytes : AreBytes s) (o : Opens s) where
     may-here : mayGo s (pairFrom x) (pairTo x) ≡ true
     may-here = ap₂ (mayGo s) from-is to-is ∙ may
 
-    pub less-here : rowsLess x ≡ withoutArc (trimUpTo s x) i j
-    less-here = ap₂ (withoutArc (trimUpTo s x)) from-is to-is
-
     end-is : after (trimUpTo s (suc x)) i j ≡ after (trimmedRows s) i j
     end-is = pair-sooner (suc x) i j h hj (omega arith)
 

@@ -1,11 +1,9 @@
--- When Starts and Crew check answer what: each case of the plan's fault and of what is lent has its answer. And what
--- Flow leaves where it answers.
+-- What Starts and Crew check answer of a plan that opens, and what Starts and Flow leave where they answer.
 use mathlib.Core.Path.{_≡_, sym, ap, _∙_}
 use mathlib.Core.Bool.{true, false}
 use mathlib.Core.List.{List, _++_}
-use Prim.Native.Nat.{ℕ, _+_, _-_, _≤_, _<_}
+use Prim.Native.Nat.{ℕ, _+_, _-_, _≤_}
 use native.Mathlib.Omega.{arith}
-use lib.Dec.{ltb}
 use lib.ListN.{length, drop}
 use Rattle.records.specs.Records.{startingWith}
 use Rattle.planner.specs.Faults.{orCause}
@@ -13,53 +11,27 @@ use Rattle.planner.specs.Open.{planIn, faultOf, Opens}
 use Rattle.planner.specs.Starts.{needed, startsFault, startsAnswer, startNumbers, startsOut}
 use Rattle.planner.specs.Flow.{flowFault, flowCount, recordBytes, flowAnswer, flowOut}
 use Rattle.planner.specs.CrewCheck.{badLists, crewCheckFault, crewFound, checkedOf, crewCheckAnswer}
-use Rattle.planner.specs.declared.Cause.{Cause}
-use Rattle.planner.specs.declared.Cause.the-variants.{Short, Lists}
+use Rattle.planner.specs.declared.Cause.the-variants.{Lists}
 use Rattle.planner.specs.declared.Fault.{Fault}
-use Rattle.planner.specs.declared.Fault.the-variants.{Fine, Refused}
+use Rattle.planner.specs.declared.Fault.the-variants.{Fine}
 use Rattle.planner.specs.declared.Output.the-variants as output
 use Rattle.planner.specs.declared.CrewChecked.the-variants as crew
-use Rattle.planner.proofs.FaultLaws.{cause-before, cause-next, cause-none, short-next, short-none}
-use Rattle.planner.proofs.OutputLaws.{output-refused, output-fine, output-is-fine, lent-refused, lent-fine}
+use Rattle.planner.proofs.FaultLaws.{cause-next, cause-none, short-none}
+use Rattle.planner.proofs.OutputLaws.{output-fine, output-is-fine, lent-fine}
 use Rattle.planner.proofs.StartsLaws.{length-numbers}
 
 -- ---- Starts
 
 module _ (s : List ℕ) where
-  fault-before : (n : ℕ) (c : Cause) → faultOf s ≡ Refused c → startsFault s n ≡ Refused c
-  unfolding startsFault
-  fault-before n c e = cause-before (faultOf s) (ltb n (needed s)) (Short (needed s)) c e
-
-  fault-short : (n : ℕ) → Opens s → n < needed s → startsFault s n ≡ Refused (Short (needed s))
-  unfolding startsFault
-  fault-short n o l = short-next (faultOf s) n (needed s) o l
-
   fault-none : (n : ℕ) → Opens s → needed s ≤ n → startsFault s n ≡ Fine
   unfolding startsFault
   fault-none n o l = short-none (faultOf s) n (needed s) o l
-
-  -- the causes of the opening
-  pub starts-refused : (n : ℕ) (c : Cause) → faultOf s ≡ Refused c → startsAnswer s n ≡ output.Refused c
-  starts-refused n c e = output-refused (startsFault s n) c (needed s) (fault-before n c e)
-
-  -- CAUSE 9: fewer than m + 1 numbers are lent
-  pub starts-short : (n : ℕ) → Opens s → n < needed s → startsAnswer s n ≡ output.Refused (Short (needed s))
-  starts-short n o l = output-refused (startsFault s n) (Short (needed s)) (needed s) (fault-short n o l)
 
   pub starts-written : (n : ℕ) → Opens s → needed s ≤ n → startsAnswer s n ≡ output.Written (needed s)
   starts-written n o l = output-fine (startsFault s n) (needed s) (fault-none n o l)
 
   module _ (out : List ℕ) where
-    -- a refusal leaves all lent numbers as they were
-    pub out-refused : (c : Cause) → faultOf s ≡ Refused c → startsOut s out ≡ out
-    unfolding startsOut
-    out-refused c e = lent-refused (startsFault s (length out)) c (startNumbers s) out (fault-before (length out) c e)
-
-    pub out-short : Opens s → length out < needed s → startsOut s out ≡ out
-    unfolding startsOut
-    out-short o l = lent-refused (startsFault s (length out)) (Short (needed s)) (startNumbers s) out (fault-short (length out) o l)
-
-    -- else the numbers stand at the front, and the rest is as it was
+    -- the numbers stand at the front, and the rest is as it was
     pub out-numbers : Opens s → needed s ≤ length out → startsOut s out ≡ startNumbers s ++ drop (needed s) out
     unfolding startsOut
     out-numbers o l =
@@ -73,10 +45,6 @@ module _ (s starts worked : List ℕ) where
       → crewCheckAnswer s starts worked ≡ checkedOf f (crewFound s starts worked)
   unfolding crewCheckFault
   by-fault e = ap (λ (f : Fault). checkedOf f (crewFound s starts worked)) e
-
-  -- the causes of the opening
-  pub crew-refused : (c : Cause) → faultOf s ≡ Refused c → crewCheckAnswer s starts worked ≡ crew.Refused c
-  crew-refused c e = by-fault (cause-before (faultOf s) (badLists (planIn s .count) (planIn s .duration) starts worked) (Lists (planIn s .count)) c e)
 
   -- CAUSE 10
   pub crew-lists : Opens s → badLists (planIn s .count) (planIn s .duration) starts worked ≡ true → crewCheckAnswer s starts worked ≡ crew.Refused (Lists (planIn s .count))

@@ -11,7 +11,6 @@ use borrow.Author.Tests.{eqb-true, eq-eqb}
 use Rattle.words.proofs.Tests.{or-left, or-right, or-cases}
 use Rattle.plan.specs.declared.Cause.{Cause as Unread}
 use Rattle.plan.specs.declared.Cause.the-variants.{Length, RecordType, Field, MilestoneDemand, Spare, RepeatedArc}
-use Rattle.plan.specs.declared.Answer.the-variants as answer
 use Rattle.schedule.specs.declared.Checked.{Checked}
 use Rattle.planner.specs.Faults.{orCause}
 use Rattle.planner.specs.Open.{planIn, faultOf}

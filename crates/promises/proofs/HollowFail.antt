@@ -9,7 +9,6 @@ use lib.Dec.{ltb}
 use lib.ListN.{length, getD, replicate, length-replicate}
 use borrow.Author.Tests.{ltb-true}
 use Rattle.words.specs.Bits.{digit, bit}
-use Rattle.words.specs.Members.{count}
 use Rattle.words.specs.Sums.{sum}
 use Rattle.words.specs.Tables.{table}
 use Rattle.words.proofs.Sums.{sum-zero}

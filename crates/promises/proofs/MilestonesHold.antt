@@ -11,7 +11,6 @@ use Rattle.records.specs.Bytes.{AreBytes}
 use Rattle.plan.specs.Records.{activityCount}
 use Rattle.plan.specs.Meaning.{Readable, Milestone, FileArc, fileKinds}
 use Rattle.plan.specs.declared.Cause.the-variants.{MilestoneDemand}
-use Rattle.plan.specs.declared.Answer.the-variants as answer
 use Rattle.plan.proofs.Milestones.{milestone-idle, demanding-refused, refused-demanding}
 use Rattle.flow_math.specs.Crew.{active}
 use Rattle.flow_math.proofs.Crew.{active-says}

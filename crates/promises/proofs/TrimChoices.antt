@@ -4,7 +4,7 @@ use mathlib.Core.Path.{_≡_, refl, sym, ap, _∙_, subst}
 use mathlib.Core.Bool.{true}
 use mathlib.Core.List.{List}
 use mathlib.Core.Logic.{_⊎_, inl, inr, ⊎-elim, _↔_}
-use Prim.Native.Nat.{ℕ, _-_, _*_, _≤_, _<_}
+use Prim.Native.Nat.{ℕ, _*_, _≤_, _<_}
 use native.Mathlib.Decide.{decLt}
 use native.Mathlib.Omega.{arith}
 use Rattle.words.proofs.Tests.{clash}
@@ -20,9 +20,6 @@ use Rattle.plan.proofs.Said.{readable-faultless}
 use Rattle.planner.specs.Open.{planIn, Opens}
 use Rattle.planner.specs.Verdict.{isAccepted}
 use Rattle.planner.specs.Trim.{trimUpTo, trimmedRows}
-use Rattle.planner.specs.declared.Decision.the-variants as verdict
-use Rattle.planner.specs.declared.Fault.the-variants as fault
-use Rattle.planner.specs.declared.Output.the-variants as output
 use Rattle.planner.proofs.OpenLaws.{count-few, said-in, opens-readable}
 use Rattle.planner.proofs.TrimPairs.{Left, extra-says, left-readable, left-bytes, left-at}
 use Rattle.planner.proofs.TrimTurns.{pairOf, rowsLess, pair-sooner, pair-later, turn-goes, turn-stays, turns-held}

@@ -4,7 +4,7 @@
 use mathlib.Core.Path.{_≡_, refl, sym, ap, _∙_, subst}
 use mathlib.Core.Bool.{Bool, true, false, _&&_, and-false}
 use mathlib.Core.List.{List}
-use mathlib.Core.Logic.{_⊎_, inl, inr, ⊎-elim}
+use mathlib.Core.Logic.{inl, inr, ⊎-elim}
 use Prim.Native.Nat.{ℕ, zero, suc, _+_, _-_, _*_}
 use native.Mathlib.Omega.{arith}
 use lib.Dec.{eqb}
@@ -27,9 +27,6 @@ use Rattle.plan.proofs.Filtered.{stays-all}
 use Rattle.planner.specs.Open.{planIn, Opens}
 use Rattle.planner.specs.Verdict.{isAccepted}
 use Rattle.planner.specs.Trim.{pairFrom, pairTo, mayGo, trimStep, trimUpTo, trimmedRows, trimmedFile}
-use Rattle.planner.specs.declared.Decision.the-variants as verdict
-use Rattle.planner.specs.declared.Fault.the-variants as fault
-use Rattle.planner.specs.declared.Output.the-variants as output
 use Rattle.planner.proofs.OpenLaws.{count-few}
 use Rattle.planner.proofs.FileOrders.{opens-acyclic, opens-when}
 use Rattle.planner.proofs.AcceptedLaws.{accepted-more}

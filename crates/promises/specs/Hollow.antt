@@ -1,6 +1,7 @@
 -- THE HOLLOW PLANNERS of document 01, "How far the contracts reach", and that the price-list sentence holds
 -- of none of them: `HollowPlannersFail` of five planners that are ours but for their hollow part, and
--- `HollowFail` of every planner with such a part (proofs/HollowFail.antt).
+-- `HollowFail` of every planner with such a part (`hollow-planners-fail` and `hollow-fail` of
+-- proofs/HollowFail.antt).
 use mathlib.Core.Path.{_≡_}
 use mathlib.Core.Bool.{Bool, true}
 use mathlib.Core.List.{List}

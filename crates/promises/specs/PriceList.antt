@@ -1,7 +1,8 @@
 -- THE PRICE-LIST SENTENCE: demand 3 of document 00, sentence by sentence, about what the operations of a
 -- planner P answer and write, for every readable plan without a circle (`PriceListSentence P`). Ours meets
--- it: `price-list` of proofs/PriceListHolds.antt. The hollow planners of document 01 do not: Hollow. Sets,
--- crews, flows and the file's fields are those of planner's File and Times.
+-- it: `price-list` of proofs/PriceListHolds.antt. The hollow planners of document 01 do not: Hollow. Two
+-- planners that meet it refuse the same plans: `same-verdict` of proofs/DemandsHold.antt. Sets, crews, flows
+-- and the file's fields are those of planner's File and Times.
 use mathlib.Core.Path.{_≡_}
 use mathlib.Core.Bool.{Bool, true}
 use mathlib.Core.List.{List, [], _∷_}

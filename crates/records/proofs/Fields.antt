@@ -5,8 +5,8 @@ use Prim.Native.Nat.{ℕ, zero, suc, _+_, _*_, _/_, _%_, _^_, _≤_, _<_}
 use native.Mathlib.Omega.{arith}
 use native.Mathlib.Nat.{pow-zero, pow-suc, mod-lt, mod-add-div, div-lt-iff-lt-mul}
 use lib.Arith.{mod-mul}
-use lib.ListN.{length, take, drop, replicate, List·getD-append}
-use lib.Seq.{getD-take, getD-drop}
+use lib.ListN.{length, drop, replicate, List·getD-append}
+use lib.Seq.{getD-drop}
 use Rattle.records.specs.Bytes.{byte, field, AreBytes}
 use Rattle.records.specs.Records.{bytes}
 
@@ -57,15 +57,6 @@ field-append l r i zero h = refl
 field-append l r i (suc n) h =
     let b : byte (l ++ r) i ≡ byte l i = List·getD-append l r 0 i (omega arith) in
     let f : field (l ++ r) (i + 1) n ≡ field l (i + 1) n = field-append l r (i + 1) n (omega arith) in
-    rw (b, f)
-
--- a field is one of the bytes that it is within
-pub field-take : (m : ℕ) (l : List ℕ) (i n : ℕ) → i + n ≤ m → field (take m l) i n ≡ field l i n
-unfolding field
-field-take m l i zero h = refl
-field-take m l i (suc n) h =
-    let b : byte (take m l) i ≡ byte l i = getD-take m l i 0 (omega arith) in
-    let f : field (take m l) (i + 1) n ≡ field l (i + 1) n = field-take m l (i + 1) n (omega arith) in
     rw (b, f)
 
 -- it is given by its bytes

@@ -1,11 +1,10 @@
 -- What stands in a flow record and in an overload record.
 use mathlib.Core.Path.{_≡_, refl, ap, _∙_}
-use mathlib.Core.Bool.{true}
 use mathlib.Core.List.{List, [], _∷_, _++_}
 use Prim.Native.Nat.{ℕ, _%_, _^_, _<_}
 use native.Mathlib.Omega.{arith}
-use lib.ListN.{length, drop, replicate, List·getD-append}
-use Rattle.records.specs.Bytes.{byte, field, zeros, AreBytes}
+use lib.ListN.{length, replicate, List·getD-append}
+use Rattle.records.specs.Bytes.{byte, field, AreBytes}
 use Rattle.records.specs.Records.{bytes, flowRecord, overloadRecord}
 use Rattle.records.proofs.Fields.{bytes-low, field-append, field-bytes, bytes-cons, bytes-append, bytes-bytes, bytes-zeros}
 
@@ -13,14 +12,6 @@ module _ (kind from to units mark : ℕ) where
   pub flow-length : length (flowRecord kind from to units mark) ≡ 24
   unfolding flowRecord bytes
   flow-length = refl
-
-  pub flow-type : byte (flowRecord kind from to units mark) 0 ≡ 33
-  unfolding flowRecord
-  flow-type = refl
-
-  pub flow-kind : byte (flowRecord kind from to units mark) 1 ≡ kind
-  unfolding flowRecord
-  flow-kind = refl
 
   pub flow-from : byte (flowRecord kind from to units mark) 2 ≡ from
   unfolding flowRecord
@@ -38,10 +29,6 @@ module _ (kind from to units mark : ℕ) where
   unfolding flowRecord bytes
   flow-mark = refl
 
-  pub flow-spare : zeros (drop 9 (flowRecord kind from to units mark)) ≡ true
-  unfolding flowRecord bytes zeros
-  flow-spare = refl
-
   pub flow-bytes : kind < 256 → from < 256 → to < 256 → mark < 256 → AreBytes (flowRecord kind from to units mark)
   unfolding flowRecord
   flow-bytes k f t m =
@@ -55,10 +42,6 @@ module _ (kind size need members : ℕ) where
   pub overload-length : length (overloadRecord kind size need members) ≡ 24
   unfolding overloadRecord bytes
   overload-length = refl
-
-  pub overload-type : byte (overloadRecord kind size need members) 0 ≡ 32
-  unfolding overloadRecord
-  overload-type = refl
 
   pub overload-kind : byte (overloadRecord kind size need members) 1 ≡ kind
   unfolding overloadRecord
@@ -92,19 +75,3 @@ module _ (kind size need members : ℕ) where
         field-append r rest 4 4 (omega (arith, overload-length)) ∙ overload-need h,
         field-append r rest 8 8 (omega (arith, overload-length)) ∙ overload-set g,
       )
-
-  -- byte 3 and the bytes from 16 on are spare
-  pub overload-spare : (byte (overloadRecord kind size need members) 3 ≡ 0) × (zeros (drop 16 (overloadRecord kind size need members)) ≡ true)
-  unfolding overloadRecord bytes zeros
-  overload-spare = (refl, refl)
-
-  pub overload-bytes : kind < 256 → size < 256 → AreBytes (overloadRecord kind size need members)
-  unfolding overloadRecord
-  overload-bytes k s =
-      bytes-append (32 ∷ kind ∷ size ∷ 0 ∷ bytes 4 need ++ bytes 8 members) (replicate 8 0)
-      (bytes-append (32 ∷ kind ∷ size ∷ 0 ∷ bytes 4 need) (bytes 8 members)
-      (bytes-cons 32 (kind ∷ size ∷ 0 ∷ bytes 4 need) (omega arith)
-      (bytes-cons kind (size ∷ 0 ∷ bytes 4 need) k
-      (bytes-cons size (0 ∷ bytes 4 need) s (bytes-cons 0 (bytes 4 need) (omega arith) (bytes-bytes 4 need)))))
-      (bytes-bytes 8 members))
-      (bytes-zeros 8)

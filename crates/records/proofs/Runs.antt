@@ -1,4 +1,4 @@
--- Records written one after another, each to the start of what is left of the lent bytes.
+-- Parts one after another, such as records and lines.
 use mathlib.Core.Path.{_≡_, refl, sym, ap, _∙_}
 use mathlib.Core.List.{List, [], _++_, append-assoc, append-nil}
 use Prim.Native.Nat.{ℕ, zero, suc, _+_, _*_, _<_}
@@ -9,17 +9,9 @@ use lib.Seq.{take-at, drop-at}
 use Rattle.words.specs.Sums.{sum}
 use Rattle.words.proofs.Sums.{sum-zero, sum-last}
 use Rattle.words.proofs.Tests.{below-suc}
-use Rattle.records.specs.Records.{startingWith, joined}
+use Rattle.records.specs.Records.{joined}
 use Rattle.records.specs.Bytes.{AreBytes}
 use Rattle.records.proofs.Fields.{bytes-append}
-
--- ---- one writing
-
-pub start-written : (r out : List ℕ) → take (length r) (startingWith r out) ≡ r
-start-written r out = take-at r (drop (length r) out) (length r) refl
-
-pub after-start : (r out : List ℕ) → drop (length r) (startingWith r out) ≡ drop (length r) out
-after-start r out = drop-at r (drop (length r) out) (length r) refl
 
 -- ---- a run of parts, one after another
 

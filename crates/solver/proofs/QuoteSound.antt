@@ -2,9 +2,7 @@
 -- the elements from m on are 0 (`Plan`).
 --
 --   sound               the quote is sound: its set is unrelated and weighs exactly the need, and its handover reaches it (specs/Sound.antt)
---   ends                the rounds end by a search that found nothing: the number of rounds is never what stops them
 --   need-small          the need is at most elements times 65,535
---   handed-small        no element hands over more than its demand
 --   no-flow-frees-more  no resource flow of a units sends more than a - need straight from the start to the end
 use mathlib.Core.Path.{sym, subst}
 use mathlib.Core.List.{List}
@@ -23,7 +21,7 @@ use Rattle.flow_math.proofs.Theorems
 use Rattle.solver.specs.model.Network.{handed}
 use Rattle.solver.specs.model.Quote.{chosen, flowIn, flowOf, outcome, quoteIn, quoteOf}
 use Rattle.solver.specs.Sound.{Plan, Sound, SoundQuote, asked}
-use Rattle.solver.proofs.Outcome.{amount-small, outcome-ends, outcome-sound}
+use Rattle.solver.proofs.Outcome.{amount-small, outcome-sound}
 use Rattle.solver.proofs.Carried.{sound-carried, strict-carried}
 
 -- the rows that the solver is given say what the order says (`after-rows`)
@@ -37,9 +35,6 @@ sound m o demand P =
     let w = chosen m (outcome m (afterRows o) demand .search) demand in
     subst (λ (x : ℕ). Sound elements (isBefore o) (asked demand) (quoteOf m o demand .need) (bit x) (handed (flowOf m o demand))) (sym (number-set w))
     (sound-carried elements (after (afterRows o)) (isBefore o) (λ i j hi hj. after-rows o i j) s (outcome-sound m (P .within) (afterRows o) demand (P .idle) (P .small) s))
-
-pub ends : (m : ℕ) (o : Order) (demand : List ℕ) → Plan m o demand → elements ≤ outcome m (afterRows o) demand .search .at
-ends m o demand P = outcome-ends m (P .within) (afterRows o) demand (P .idle) (P .small)
 
 pub need-small : (m : ℕ) (o : Order) (demand : List ℕ) → Plan m o demand → quoteOf m o demand .need ≤ (elements * 65535)
 unfolding quoteIn

@@ -1,4 +1,5 @@
--- What a quote promises. It is a theorem: `sound` of proofs/QuoteSound.antt.
+-- What a quote promises. It is a theorem: `sound` of proofs/QuoteSound.antt. That no flow of a units sends
+-- more than a - x straight through is `no-flow-frees-more` there.
 use mathlib.Core.Path.{_≡_}
 use mathlib.Core.Bool.{Bool, true}
 use mathlib.Core.List.{List}

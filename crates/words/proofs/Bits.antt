@@ -7,7 +7,7 @@ use Prim.Native.Nat.{ℕ, zero, suc, _+_, _-_, _*_, _/_, _%_, _^_, _≤_, _<_, m
 use native.Mathlib.Nat.{one-mul, div-add-mod', div-le-self, mod-lt, mod-eq-of-lt, zero-lt-suc, zero-max, zero-min, zero-sub, pow-suc, pow-succ', div-div-eq-div-mul, zero-div, div-one, lt-of-lt-of-le}
 use native.Mathlib.Omega.{arith}
 use lib.Dec.{lit<, eqb, eqb·suc-suc, eqb·zero-suc, eqb·suc-zero}
-use lib.Bits.{bitAnd, bitOr, bitXor, differ, and-step, or-step, xor-step, or-lt, and-le-l, and-shr, or-shr, block-odd, block-half}
+use lib.Bits.{bitAnd, bitOr, and-step, or-step, or-lt, and-le-l, and-shr, or-shr}
 use lib.Pow.{pow-pos, pow-mono, pow-lt, shr-shr, high}
 use lib.Arith.{lt-one}
 use borrow.Author.Tests.{eq-eqb, ne-eqb, eqb-true}
@@ -125,15 +125,6 @@ and-low x y = omega (arith, and-step x y)
 or-low : (x y : ℕ) → bitOr x y % 2 ≡ max (x % 2) (y % 2)
 or-low x y = omega (arith, or-step x y)
 
-xor-low : (x y : ℕ) → bitXor x y % 2 ≡ (x % 2 + y % 2) % 2
-xor-low x y = go (even-or-odd x) (even-or-odd y)
-  where
-    go : (x % 2 ≡ 0) ⊎ (x % 2 ≡ 1) → (y % 2 ≡ 0) ⊎ (y % 2 ≡ 1) → bitXor x y % 2 ≡ (x % 2 + y % 2) % 2
-    go (inl p) (inl q) = omega (arith, xor-step x y ∙ ap₂ (λ (u v : ℕ). bitXor (x / 2) (y / 2) * 2 + differ u v) p q)
-    go (inl p) (inr q) = omega (arith, xor-step x y ∙ ap₂ (λ (u v : ℕ). bitXor (x / 2) (y / 2) * 2 + differ u v) p q)
-    go (inr p) (inl q) = omega (arith, xor-step x y ∙ ap₂ (λ (u v : ℕ). bitXor (x / 2) (y / 2) * 2 + differ u v) p q)
-    go (inr p) (inr q) = omega (arith, xor-step x y ∙ ap₂ (λ (u v : ℕ). bitXor (x / 2) (y / 2) * 2 + differ u v) p q)
-
 pub digit-and : (a b i : ℕ) → digit (bitAnd a b) i ≡ min (digit a i) (digit b i)
 unfolding digit
 digit-and a b i = ap (λ (x : ℕ). x % 2) (and-shr a b i) ∙ and-low (a / 2 ^ i) (b / 2 ^ i)
@@ -229,20 +220,11 @@ module _ (w i : ℕ) where
 pub shl-one : (k j : ℕ) → j < k → 1 * 2 ^ j % 2 ^ k ≡ 2 ^ j
 shl-one k j h = rw one-mul (mod-eq-of-lt (pow-lt h))
 
--- ---- a number of two words: its low k digits are those of the low word, and the others those of the high one
-
-pub digit-cat-low : (k hi lo i : ℕ) → i < k → digit (hi * 2 ^ k + lo) i ≡ digit lo i
-digit-cat-low zero hi lo i h = absurd (omega arith)
-digit-cat-low (suc k) hi lo zero h = digit-first (hi * 2 ^ suc k + lo) ∙ block-odd hi k lo ∙ sym (digit-first lo)
-digit-cat-low (suc k) hi lo (suc i) h =
-    digit-next (hi * 2 ^ suc k + lo) i ∙ ap (λ (x : ℕ). digit x i) (block-half hi k lo) ∙ digit-cat-low k hi (lo / 2) i (omega arith) ∙ sym (digit-next lo i)
+-- ---- a number of two words: its digits from place k on are those of the high word
 
 pub digit-cat-high : (k hi lo i : ℕ) → lo < 2 ^ k → digit (hi * 2 ^ k + lo) (k + i) ≡ digit hi i
 unfolding digit
 digit-cat-high k hi lo i h = ap (λ (x : ℕ). x % 2) (sym (shr-shr (hi * 2 ^ k + lo) k i) ∙ ap (λ (x : ℕ). x / 2 ^ i) (high hi k h))
-
-pub bit-cat-low : (k hi lo i : ℕ) → i < k → bit (hi * 2 ^ k + lo) i ≡ bit lo i
-bit-cat-low k hi lo i h = bit-by (hi * 2 ^ k + lo) lo i i (digit-cat-low k hi lo i h)
 
 pub bit-cat-high : (k hi lo i : ℕ) → lo < 2 ^ k → bit (hi * 2 ^ k + lo) (k + i) ≡ bit hi i
 bit-cat-high k hi lo i h = bit-by (hi * 2 ^ k + lo) hi (k + i) i (digit-cat-high k hi lo i h)

@@ -3,7 +3,7 @@ use mathlib.Core.Path.{_≡_, refl, sym, ap, ap₂, _∙_}
 use mathlib.Core.Bool.{Bool, true, false}
 use mathlib.Core.Logic.{_≢_}
 use Prim.Native.Nat.{ℕ, zero, suc, _+_, _-_, _≤_, _<_, zero-le}
-use native.Mathlib.Nat.{add-assoc, add-zero, zero-add, suc-add, suc-ne-zero, suc-inj, le-of-eq}
+use native.Mathlib.Nat.{add-assoc, add-zero, zero-add, suc-add, suc-ne-zero, suc-inj}
 use native.Mathlib.Numerals.{add-one}
 use native.Mathlib.Omega.{arith}
 use lib.Dec.{ltb}
@@ -14,10 +14,6 @@ use Rattle.words.proofs.Tests.{by-test}
 tally-le : (b : Bool) → tally b ≤ 1
 tally-le true = omega arith
 tally-le false = omega arith
-
-tally-mono : (a b : Bool) → (a ≡ true → b ≡ true) → tally a ≤ tally b
-tally-mono true b h = le-of-eq (ap tally (sym (h refl)))
-tally-mono false b h = zero-le
 
 -- it goes by the property alone
 pub count-cong : (n : ℕ) (p q : ℕ → Bool) → ((i : ℕ) → i < n → p i ≡ q i) → count n p ≡ count n q
@@ -49,15 +45,6 @@ count-cat (suc m) n p =
     let f = count-cong n (λ i. p (suc (m + i))) (λ i. p (suc m + i)) (λ i h. ap p (sym (suc-add m i))) in
     e ∙ ap (λ (k : ℕ). tally (p 0) + k) (ih ∙ ap (λ (k : ℕ). count m (λ i. p (suc i)) + k) f)
     ∙ sym (add-assoc (tally (p 0)) (count m (λ i. p (suc i))) (count n (λ i. p (suc m + i))))
-
--- a property that is true more often counts no less
-pub count-mono : (n : ℕ) (p q : ℕ → Bool) → ((i : ℕ) → i < n → p i ≡ true → q i ≡ true) → count n p ≤ count n q
-unfolding count
-count-mono zero p q h = zero-le
-count-mono (suc n) p q h =
-    let ih = count-mono n (λ i. p (suc i)) (λ i. q (suc i)) (λ i l. h (suc i) (omega arith)) in
-    let l = tally-mono (p 0) (q 0) (h 0 (omega arith)) in
-    omega arith
 
 -- the property that holds at j, and the same with j taken out
 pub count-out : (n : ℕ) (p q : ℕ → Bool) (j : ℕ) → j < n → p j ≡ true → q j ≡ false → ((i : ℕ) → i ≢ j → p i ≡ q i) → count n p ≡ suc (count n q)

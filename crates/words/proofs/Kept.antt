@@ -45,18 +45,3 @@ module _ {S : Type 0} (P : S → Type 0) (μ : S → ℕ) (stop : S → Bool) (s
   run-ends (suc n) s p h =
       turn-ends (stop s) s (run stop (λ y. y) (λ y. y) step n (step s)) refl (λ e. p)
       (λ e. run-ends n (step s) (go s e p .0) (omega (arith, go s e p .1)))
-
--- the same, where what the turns can still take is said by the invariant
-module _ {S : Type 0} (P : ℕ → S → Type 0) (stop : S → Bool) (step : S → S)
-    (go : (m : ℕ) (s : S) → stop s ≡ false → P (suc m) s → P m (step s)) (bottom : (s : S) → P 0 s → stop s ≡ true) where
-  abbrev Ended : S → Type 0
-  Ended s = ((m : ℕ) × P m s) × (stop s ≡ true)
-
-  last-turn : (t : Bool) (m : ℕ) (s r : S) → stop s ≡ t → P m s → (t ≡ false → Ended r) → Ended (cond t s r)
-  last-turn true m s r e p y = ((m, p), e)
-  last-turn false m s r e p y = y refl
-
-  pub turns-end : (n : ℕ) (s : S) → P n s → Ended (run stop (λ y. y) (λ y. y) step n s)
-  unfolding run
-  turns-end zero s p = ((0, p), bottom s p)
-  turns-end (suc n) s p = last-turn (stop s) (suc n) s (run stop (λ y. y) (λ y. y) step n (step s)) refl p (λ e. turns-end n (step s) (go n s e p))

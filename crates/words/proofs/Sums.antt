@@ -2,7 +2,7 @@
 use mathlib.Core.Path.{_≡_, refl, sym, ap}
 use mathlib.Core.Bool.{Bool, true, false, cond}
 use Prim.Native.Nat.{ℕ, zero, suc, _+_, _*_, _≤_, _<_}
-use native.Mathlib.Nat.{mul-zero, mul-add, suc-mul}
+use native.Mathlib.Nat.{suc-mul}
 use native.Mathlib.Decide.{ℕ-discrete, decLe}
 use mathlib.Core.Logic.{by-cases}
 use native.Mathlib.Numerals.{add-one}
@@ -48,12 +48,6 @@ unfolding sum
 sum-term zero g k l = omega arith
 sum-term (suc n) g k l =
     by-cases (ℕ-discrete k n) (λ p. omega (arith, ap g p)) (λ p. omega (arith, sum-term n g k (omega arith)))
-
--- a factor
-pub sum-mul : (n c : ℕ) (g : ℕ → ℕ) → sum n (λ i. c * g i) ≡ c * sum n g
-unfolding sum
-sum-mul zero c g = sym (mul-zero c)
-sum-mul (suc n) c g = omega (arith, sum-mul n c g, mul-add c (sum n g) (g n))
 
 -- the sum of n times 1
 pub sum-ones : (n : ℕ) → sum n (λ i. 1) ≡ n

@@ -27,11 +27,6 @@ pub by-test {ℓ} : {P : Type ℓ} (t : Bool) → (t ≡ true → P) → (t ≡ 
 by-test true y n = y refl
 by-test false y n = n refl
 
--- a test that says a fact decides it
-pub decided : {P : Type 0} (t : Bool) → (t ≡ true) ↔ P → Dec P
-decided true f = yes (f .0 refl)
-decided false f = no (λ p. false≢true (f .1 p))
-
 -- two tests that are true together are equal
 pub test-same : (a b : Bool) → (a ≡ true ↔ b ≡ true) → a ≡ b
 test-same true b f = sym (f .0 refl)

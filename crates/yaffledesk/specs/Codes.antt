@@ -1,5 +1,5 @@
--- The answers as numbers of 64 bits: the low 8 bits are the number of document 01 (0: done), and
--- the bits above are its values.
+-- The answers as numbers of 64 bits: the low 8 bits are the number of document 01 (0: done; that those of a
+-- refusal are is `code-number` of proofs/Numbers.antt), and the bits above are its values.
 use Prim.Native.Nat.{ℕ, _+_, _*_}
 use Rattle.order.specs.Stored.{numberOf}
 use Rattle.order.specs.Sets.{sizeOf}

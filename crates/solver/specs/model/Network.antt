@@ -2,7 +2,7 @@
 -- of those that give to it, and what each giver and each taker has left.
 use mathlib.Core.Bool.{Bool, cond}
 use mathlib.Core.List.{List}
-use Prim.Native.Nat.{ℕ, zero, suc, _+_, _-_, _*_, _%_, _^_, min}
+use Prim.Native.Nat.{ℕ, _+_, _-_, _*_, _%_, _^_, min}
 use lib.Dec.{eqb, leb}
 use lib.ListN.{getD, set}
 use Rattle.words.specs.Bits.{withBit, minus}

@@ -28,7 +28,8 @@ copying a i b = set b i (getD a i 0)
 unfoldable pub copied : ℕ → List ℕ → List ℕ
 copied m a = upto (copying a) m (blanks 0)
 
--- where the solver starts, and where it ends; each element has at most the greatest demand, 65535
+-- where the solver starts, and where it ends; each element has at most the greatest demand, 65535, so that
+-- the number of rounds is never what stops them (`outcome-ends` of proofs/Outcome.antt)
 abbrev pub untouched : ℕ → List ℕ → Network
 untouched m demand = network unused blankRows (copied m demand) (copied m demand)
 

@@ -2,7 +2,8 @@
 use mathlib.Core.Path.{_∙_}
 use native.Mathlib.Omega.{arith}
 use borrow.Author.Needs.{needs}
-use Rattle.kinds.proofs.KindLoops.{size-le, shown-none, shown-one}
+use Rattle.order.proofs.Sets.{size-le}
+use Rattle.kinds.proofs.KindLoops.{shown-none, shown-one}
 use Rattle.kinds.proofs.shown.put_overload.Statement.{statement}
 use Rattle.kinds.proofs.shown.put_overload.Tie as tie
 

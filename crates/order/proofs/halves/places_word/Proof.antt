@@ -1,5 +1,4 @@
 -- `halves::places_word` meets its contract. The invariant: both halves have the places passed.
-use denote.Ref.{now}
 use mathlib.Core.Path.{_≡_, refl, sym, ap, _∙_}
 use mathlib.Core.List.{List}
 use Prim.Native.Nat.{ℕ, _+_, _*_, _%_, _^_, _≤_, _-_}

@@ -3,7 +3,6 @@
 use denote.Ref.{now}
 use mathlib.Core.Path.{_≡_}
 use borrow.Author.Needs.{needs}
-use Rattle.words.specs.Bits.{minus}
 use Rattle.words.specs.model.Loops.{each}
 use Rattle.order.specs.Stored.{elements, numberOf}
 use Rattle.order.proofs.Stored.{number-of}
