@@ -13,8 +13,8 @@ pageLine page l = take 41 (drop (41 * l) page)
 abbrev pub columns : ℕ → ℕ → List ℕ → List ℕ
 columns a b line = take (b + 1 - a) (drop (a - 1) line)
 
--- columns that show a number: blanks (32), and then its digits (48 to 57),
--- right-aligned, with no zero before others
+-- columns that show a number: blanks (32), and then its digits (48 to 57), right-aligned,
+-- with no zero before others
 pub record Shows (column : List ℕ) (x : ℕ) : Type 0 where
   pub blanks : ℕ
   pub digits : List ℕ
@@ -24,8 +24,8 @@ pub record Shows (column : List ℕ) (x : ℕ) : Type 0 where
   pub lead : 1 < length digits → 48 < getD digits 0 0
   pub value : valueOf digits ≡ x
 
--- "from (3 columns), to (3), units (8), the receiver's start (10), right-aligned, one
--- blank between, then blanks"
+-- "from (3 columns), to (3), units (8), the receiver's start (10), right-aligned,
+-- one blank between, then blanks"
 pub record ShowsRecord (line : List ℕ) (from to units start : ℕ) : Type 0 where
   pub from-shown : Shows (columns 1 3 line) from
   pub to-shown : Shows (columns 5 7 line) to

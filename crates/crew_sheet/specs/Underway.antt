@@ -13,4 +13,8 @@ onto at bytes out = more (text at out) bytes .out
 
 -- a page under way, with its head
 abbrev pub headed : Page → ℕ → ℕ → Page
-headed p kind page = record { out = at-last (p .out) (onto (p .at) (headLine kind page) (now (p .out))); at = p .at + lineBytes }
+headed p kind page =
+    record {
+      out = at-last (p .out) (onto (p .at) (headLine kind page) (now (p .out)));
+      at = p .at + lineBytes;
+    }

@@ -4,8 +4,8 @@ use Prim.Native.Nat.{ℕ, _+_, _<_}
 use lib.Dec.{ltb}
 use Rattle.flow_math.specs.Kept.{Kept}
 
--- BROKEN: "start of i plus its duration greater than the start of j", with waits plus the
--- wait too; and the test of it
+-- BROKEN: "start of i plus its duration greater than the start of j",
+-- with waits plus the wait too; and the test of it
 abbrev pub Broken : (ℕ → ℕ) → (ℕ → ℕ → ℕ) → ℕ → ℕ → Type 0
 Broken s w i j = s j < s i + w i j
 

@@ -1,5 +1,5 @@
--- The paper's resource flow (section 2.1), of one kind: node 0 is the start, node i + 1 the
--- element i, node n + 1 the end.
+-- The paper's resource flow (section 2.1), of one kind: node 0 is the start,
+-- node i + 1 the element i, node n + 1 the end.
 use mathlib.Core.Path.{_≡_}
 use mathlib.Core.Bool.{Bool, true, cond}
 use Prim.Native.Nat.{ℕ, zero, suc, _-_, _<_}
@@ -26,4 +26,5 @@ abbrev pub nodeFlow : ℕ → (ℕ → ℕ) → (ℕ → ℕ → ℕ) → ℕ �
 nodeFlow n d f x a zero zero = 0
 nodeFlow n d f x a zero (suc j) = cond (ltb j n) (d j - col n f j) (cond (eqb j n) (a - x) 0)
 nodeFlow n d f x a (suc i) zero = 0
-nodeFlow n d f x a (suc i) (suc j) = cond (ltb i n) (cond (ltb j n) (f i j) (cond (eqb j n) (d i - row n f i) 0)) 0
+nodeFlow n d f x a (suc i) (suc j) =
+    cond (ltb i n) (cond (ltb j n) (f i j) (cond (eqb j n) (d i - row n f i) 0)) 0

@@ -28,8 +28,8 @@ rank n b i = sum n (λ k. cond (b k i) 1 0)
 unfoldable pub early : ℕ → (ℕ → ℕ → Bool) → (ℕ → Bool) → ℕ → Bool
 early n b S i = some n (λ t. S t && b i t)
 
--- the turn of i: those before a member of S come first, by rank, then all of S
--- together, then the others, by rank
+-- the turn of i: those before a member of S come first, by rank,
+-- then all of S together, then the others, by rank
 unfoldable pub turn : ℕ → (ℕ → ℕ → Bool) → (ℕ → Bool) → ℕ → ℕ
 turn n b S i = cond (early n b S i) (rank n b i) (cond (S i) n (suc n + rank n b i))
 

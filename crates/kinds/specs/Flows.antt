@@ -1,5 +1,5 @@
--- The flow of a kind, from node to node and as records: node 0 is the start, node i + 1 the
--- element i, node m + 1 the end.
+-- The flow of a kind, from node to node and as records: node 0 is the start,
+-- node i + 1 the element i, node m + 1 the end.
 use mathlib.Core.Bool.{Bool, cond, _&&_}
 use mathlib.Core.List.{List, []}
 use Prim.Native.Nat.{ℕ, zero, suc, _-_, _≤_, _<_, _^_}
@@ -24,7 +24,8 @@ units m demand flow spare = nodeFlow m (asked demand) (handed flow) 0 spare
 -- those of kind k, as the solver hands over, where so many are available
 abbrev pub kindUnits : Order → List ℕ → ℕ → ℕ → ℕ → ℕ → ℕ → ℕ
 kindUnits o demand k available m =
-    units m (demandsFor demand k) (flowOf m o (demandsFor demand k)) (available - quoteOf m o (demandsFor demand k) .need)
+    units m (demandsFor demand k) (flowOf m o (demandsFor demand k))
+    (available - quoteOf m o (demandsFor demand k) .need)
 
 -- no element hands over or takes over more than its demand, and demands are of 32 bits
 pub record Bounded (m : ℕ) (d : ℕ → ℕ) (f : ℕ → ℕ → ℕ) : Type 0 where

@@ -47,7 +47,8 @@ noOverload n = record { kind = n; need = 0; set = noSet }
 -- that kind, with what is quoted for it
 unfoldable pub lowestOverload : ℕ → Order → List ℕ → List ℕ → ℕ → Overload
 lowestOverload m o demand available n =
-    let shown = overloadOf (lowestKind m o demand available n) (quoteFor m o demand (lowestKind m o demand available n)) in
+    let shown = overloadOf (lowestKind m o demand available n)
+    (quoteFor m o demand (lowestKind m o demand available n)) in
     cond (ltb (lowestKind m o demand available n) n) shown (noOverload n)
 
 -- ---- how it is shown
@@ -57,4 +58,7 @@ unfoldable pub shownCount : Overload → ℕ → ℕ
 shownCount v n = cond (ltb (v .kind) n) 1 0
 
 unfoldable pub shownBytes : Overload → ℕ → List ℕ
-shownBytes v n = cond (ltb (v .kind) n) (overloadRecord (v .kind + 1) (sizeOf (v .set)) (v .need) (numberOf (v .set))) []
+shownBytes v n =
+    cond (ltb (v .kind) n)
+    (overloadRecord (v .kind + 1) (sizeOf (v .set)) (v .need) (numberOf (v .set)))
+    []

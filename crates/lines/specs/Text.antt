@@ -43,4 +43,6 @@ text at out = record { at = at; out = out }
 
 -- with some bytes more
 abbrev pub more : Text → List ℕ → Text
-more t bytes = text (t .at + length bytes) (take (t .at) (t .out) ++ bytes ++ drop (t .at + length bytes) (t .out))
+more t bytes =
+    text (t .at + length bytes)
+    (take (t .at) (t .out) ++ bytes ++ drop (t .at + length bytes) (t .out))

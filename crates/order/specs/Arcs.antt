@@ -1,5 +1,5 @@
--- Arcs and orders as they are given: arcs with one more, arcs of a test, arcs of a
--- list, and an order as a test.
+-- Arcs and orders as they are given: arcs with one more, arcs of a test, arcs of a list,
+-- and an order as a test.
 use mathlib.Core.Path.{_≡_}
 use mathlib.Core.Bool.{Bool, true}
 use mathlib.Core.List.{List, List·Memᴰ}

@@ -10,8 +10,8 @@ pub data Before (A : ℕ → ℕ → Type 0) : ℕ → ℕ → Type 0 where
   more : {i j k : ℕ} → A i j → Before A j k → Before A i k
 
 -- "The job order uses job arcs, the plan order all arcs."
--- With the job arcs J and the extra arcs X the job order is `Before J`, and the plan
--- order `Before (Joined J X)`.
+-- With the job arcs J and the extra arcs X the job order is `Before J`,
+-- and the plan order `Before (Joined J X)`.
 abbrev pub Joined : (ℕ → ℕ → Type 0) → (ℕ → ℕ → Type 0) → ℕ → ℕ → Type 0
 Joined A B i j = A i j ⊎ B i j
 

@@ -62,8 +62,8 @@ Direct rows = Drawn elements (after rows)
 unfoldable pub orderIn : List ℕ → Order
 orderIn rows = orderOf (arcsIn elements rows elements)
 
--- an order so extended: by each arc that it does not hold yet (`extended-by` of
--- proofs/Orders.antt says what order that is)
+-- an order so extended: by each arc that it does not hold yet
+-- (`extended-by` of proofs/Orders.antt says what order that is)
 unfoldable pub extendedBy : Order → List ℕ → Order
 extendedBy o arcs = record { rows = growBy elements arcs elements (o .rows) }
 

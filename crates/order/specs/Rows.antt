@@ -1,5 +1,5 @@
--- An order of n elements as a table of n sets: the members of row i are the elements
--- that i is before. For any n.
+-- An order of n elements as a table of n sets: the members of row i are
+-- the elements that i is before. For any n.
 use mathlib.Core.Path.{_≡_}
 use mathlib.Core.Bool.{Bool, true, false, cond, _||_}
 use mathlib.Core.List.{List, [], _∷_}
@@ -18,8 +18,8 @@ use Rattle.order.specs.Stored.{cells, row, rowTable, RowsFit}
 abbrev pub after : List ℕ → ℕ → ℕ → Bool
 after rows i j = bit (row rows i) j
 
--- THE STATED MEANING, on which all else rests: n rows of n digits say which element
--- is before which by the arcs A
+-- THE STATED MEANING, on which all else rests: n rows of n digits say
+-- which element is before which by the arcs A
 pub record Represents (n : ℕ) (rows : List ℕ) (A : ℕ → ℕ → Type 0) : Type 0 where
   pub long : length rows ≡ cells n
   pub fit : RowsFit n rows
@@ -49,7 +49,8 @@ rowsOf n (a ∷ arcs) = grow n (rowsOf n arcs) (a .from) (a .to)
 -- the arcs from i to the members of w below k, put before other arcs
 unfoldable pub arcsFrom : ℕ → ℕ → ℕ → List Arc → List Arc
 arcsFrom i w zero arcs = arcs
-arcsFrom i w (suc k) arcs = elim (bit w k) [ true ↦ arc i k ∷ arcsFrom i w k arcs | false ↦ arcsFrom i w k arcs ]
+arcsFrom i w (suc k) arcs =
+    elim (bit w k) [ true ↦ arc i k ∷ arcsFrom i w k arcs | false ↦ arcsFrom i w k arcs ]
 
 -- the arcs that the first k of n rows draw: from i to each member of row i
 unfoldable pub arcsIn : ℕ → List ℕ → ℕ → List Arc

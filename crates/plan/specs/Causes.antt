@@ -1,5 +1,5 @@
--- The causes of a refusal, 1 to 4, 12 and 13, each with its place, and the answer: the
--- first of them, or readable.
+-- The causes of a refusal, 1 to 4, 12 and 13, each with its place, and the answer:
+-- the first of them, or readable.
 use mathlib.Core.Bool.{Bool, true, false, not, cond, _&&_}
 use mathlib.Core.List.{List}
 use Prim.Native.Nat.{ℕ, _%_}
@@ -10,12 +10,15 @@ use Rattle.records.specs.Bytes.{byte}
 use Rattle.plan.specs.declared.Answer.{Answer}
 use Rattle.plan.specs.declared.Answer.the-variants.{Readable, Refused}
 use Rattle.plan.specs.declared.Cause.{Cause}
-use Rattle.plan.specs.declared.Cause.the-variants.{Length, RecordType, Field, MilestoneDemand, Spare, RepeatedArc}
-use Rattle.plan.specs.Records.{recordAt, recordCount, activityCount, activityFields, activityTimed, activitySpare, crewFields, crewSpare, arcFields, arcSpare, arcRepeats, dueType, demandsOf}
+use Rattle.plan.specs.declared.Cause.the-variants.{Length, RecordType, Field}
+use Rattle.plan.specs.declared.Cause.the-variants.{MilestoneDemand, Spare, RepeatedArc}
+use Rattle.plan.specs.Records.{recordAt, recordCount, activityCount, activityFields, activityTimed}
+use Rattle.plan.specs.Records.{activitySpare, crewFields, crewSpare, arcFields, arcSpare, arcRepeats}
+use Rattle.plan.specs.Records.{dueType, demandsOf}
 
--- "records in file order, 2, 3, 4 within each", 12 "in each record after 3 and before 4" (02, change 2), and
--- 13 "in each record after 4" (02, change 3): the rules of a record are tested in turn. Where none before it
--- was broken, a broken rule gives its cause.
+-- "records in file order, 2, 3, 4 within each", 12 "in each record after 3 and before 4" (02, change 2),
+-- and 13 "in each record after 4" (02, change 3): the rules of a record are tested in turn. Where none
+-- before it was broken, a broken rule gives its cause.
 unfoldable pub rule : Answer → Bool → Cause → Answer
 rule Readable true cause = Readable
 rule Readable false cause = Refused cause
@@ -39,8 +42,8 @@ crewCause place demand r =
     let fields = rule typed (crewFields demand r) (Field place) in
     rule fields (crewSpare r) (Spare place)
 
--- a record after that, which has to be an arc of the type that is due: the rules that
--- it keeps or breaks by itself
+-- a record after that, which has to be an arc of the type that is due:
+-- the rules that it keeps or breaks by itself
 unfoldable pub arcCause : ℕ → ℕ → ℕ → List ℕ → Answer
 arcCause type place m r =
     let typed = rule Readable (eqb (byte r 0) type) (RecordType place) in
@@ -52,7 +55,8 @@ unfoldable pub causeAt : List ℕ → ℕ → Answer
 causeAt s p =
     let activity = activityCause p (recordAt s p) in
     let crew = crewCause p (demandsOf s) (recordAt s p) in
-    let arc = rule (arcCause (dueType s p) p (activityCount s) (recordAt s p)) (not (arcRepeats s p)) (RepeatedArc p) in
+    let arc = rule (arcCause (dueType s p) p (activityCount s) (recordAt s p))
+    (not (arcRepeats s p)) (RepeatedArc p) in
     cond (ltb p (activityCount s)) activity (cond (eqb p (activityCount s)) crew arc)
 
 -- the first refusal among f 0, .., f (n - 1)

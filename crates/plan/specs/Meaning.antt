@@ -11,7 +11,8 @@ use Prim.Native.Nat.{ℕ, zero, suc, _+_, _<_, max}
 use lib.Dec.{eqb}
 use Rattle.order.specs.Before.{Joined}
 use Rattle.records.specs.Bytes.{byte}
-use Rattle.plan.specs.Records.{recordAt, recordCount, typeAt, activityCount, durationIn, demandIn, availableIn, waitIn}
+use Rattle.plan.specs.Records.{recordAt, recordCount, typeAt, activityCount}
+use Rattle.plan.specs.Records.{durationIn, demandIn, availableIn, waitIn}
 use Rattle.plan.specs.Causes.{isReadable, answerOf}
 
 -- "It is readable when it meets none of causes 1 to 4", nor 12 and 13 of document 02
@@ -76,7 +77,9 @@ FileArc s = Joined (JobArc s) (ExtraArc s)
 
 -- the record at place p is of a type and names the arc from element i to element j
 abbrev pub namesAt : List ℕ → ℕ → ℕ → ℕ → ℕ → Bool
-namesAt s type i j p = eqb (typeAt s p) type && (eqb (byte (recordAt s p) 1) (i + 1) && eqb (byte (recordAt s p) 2) (j + 1))
+namesAt s type i j p =
+    eqb (typeAt s p) type
+    && (eqb (byte (recordAt s p) 1) (i + 1) && eqb (byte (recordAt s p) 2) (j + 1))
 
 -- the wait that the first n records give the arc of a type from i to j: that of the last that names it, and 0
 -- where none does. (In a readable file one at most does, by 13: `wait-of` of proofs/Waits.antt.)

@@ -2,7 +2,8 @@
 -- document 02, changes 2 and 3).
 use Prim.Native.Nat.{ℕ}
 use Rattle.plan.specs.declared.Cause.{Cause}
-use Rattle.plan.specs.declared.Cause.the-variants.{Length, RecordType, Field, MilestoneDemand, Spare, RepeatedArc}
+use Rattle.plan.specs.declared.Cause.the-variants.{Length, RecordType, Field}
+use Rattle.plan.specs.declared.Cause.the-variants.{MilestoneDemand, Spare, RepeatedArc}
 use Rattle.plan.specs.declared.Told.{Told}
 
 -- "record's place, from 0"

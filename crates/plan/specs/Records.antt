@@ -36,8 +36,8 @@ activityCount s = leading 1 (recordCount s) s
 abbrev pub activities : ℕ
 activities = 64
 
--- "Type 1, activity: byte 1 its number; 2–3 duration, ..; 4–19 eight demands of two bytes, kinds 1 to 8, each
--- 0 to 65,535" (a duration of 0 is the matter of `activityTimed`)
+-- "Type 1, activity: byte 1 its number; 2–3 duration, ..; 4–19 eight demands of two bytes, kinds 1 to 8,
+-- each 0 to 65,535" (a duration of 0 is the matter of `activityTimed`)
 unfoldable pub activityFields : ℕ → List ℕ → Bool
 activityFields place r = ltb place activities && eqb (byte r 1) (place + 1)
 
@@ -58,7 +58,9 @@ activityTimed r = ltb 0 (durationIn r) || not (demandsSome r)
 
 -- the demands of all activities as one list: that of element i for kind k + 1 stands at elements * k + i
 unfoldable pub demandsOf : List ℕ → List ℕ
-demandsOf s = table (8 * elements) (λ x. cond (ltb (x % elements) (activityCount s)) (demandIn (recordAt s (x % elements)) (x / elements)) 0)
+demandsOf s =
+    table (8 * elements)
+    (λ x. cond (ltb (x % elements) (activityCount s)) (demandIn (recordAt s (x % elements)) (x / elements)) 0)
 
 -- "Bytes with no field are spare and zero."
 abbrev pub activitySpare : List ℕ → Bool
@@ -68,7 +70,9 @@ activitySpare r = zeros (slice 20 24 r)
 -- "Demands beyond K are zero; this is checked at the crew record": the demands are those of `demandsOf`
 unfoldable pub crewFields : List ℕ → List ℕ → Bool
 crewFields demand r =
-    ltb 0 (byte r 1) && (leb (byte r 1) 8 && (zeros (slice (4 + 2 * byte r 1) 20 r) && zeros (slice (elements * byte r 1) (8 * elements) demand)))
+    ltb 0 (byte r 1) && (leb (byte r 1) 8
+    && (zeros (slice (4 + 2 * byte r 1) 20 r)
+    && zeros (slice (elements * byte r 1) (8 * elements) demand)))
 
 abbrev pub availableIn : List ℕ → ℕ → ℕ
 availableIn r k = field r (4 + 2 * k) 2
@@ -76,8 +80,8 @@ availableIn r k = field r (4 + 2 * k) 2
 abbrev pub crewSpare : List ℕ → Bool
 crewSpare r = zeros (slice 2 4 r) && zeros (slice 20 24 r)
 
--- "Type 3, job arc: byte 1 from, byte 2 to. Type 4, extra arc: the same fields." "Arc
--- ends are 1 to m and differ."
+-- "Type 3, job arc: byte 1 from, byte 2 to. Type 4, extra arc: the same fields."
+-- "Arc ends are 1 to m and differ."
 abbrev pub isEnd : ℕ → ℕ → Bool
 isEnd m i = ltb 0 i && leb i m
 

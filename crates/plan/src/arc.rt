@@ -84,11 +84,14 @@ pub fn store_arc(r: &[u8], rows: &mut Rows)
     order::put_row(rows, i, arcs);
 }
 
-// Reads a record that has to be an arc of a type, in the state of the rows so far: it is looked at, by itself and then for its pair among theirs, and its arc is stored.
+// Reads a record that has to be an arc of a type, in the state of the rows so far: it is looked at, by itself and then
+// for its pair among theirs, and its arc is stored.
 fn read_arc(m: usize, r: &[u8], of: u8, place: usize, rows: &mut Rows) -> Answer
     requires { ⌜ (24 ≤ length (now r)) × (m ≤ elements) ⌝ }
-    ensures { λ a. ⌜ a ≡ rule (arcCause of place m (now (r .entry))) (not (hasArc (now (rows .entry)) (now (r .entry)))) (RepeatedArc place) ⌝ }
-    ensures { λ a. ⌜ now (rows .exit) ≡ cond (isReadable a) (arcsAfter of (now (r .entry)) (now (rows .entry))) (now (rows .entry)) ⌝ }
+    ensures { λ a. ⌜ a ≡ rule (arcCause of place m (now (r .entry)))
+        (not (hasArc (now (rows .entry)) (now (r .entry)))) (RepeatedArc place) ⌝ }
+    ensures { λ a. ⌜ now (rows .exit)
+        ≡ cond (isReadable a) (arcsAfter of (now (r .entry)) (now (rows .entry))) (now (rows .entry)) ⌝ }
 {
     let own = arc_cause(m, r, of, place);
     if !is_readable(own) {
@@ -101,11 +104,14 @@ fn read_arc(m: usize, r: &[u8], of: u8, place: usize, rows: &mut Rows) -> Answer
     Answer::Readable
 }
 
-// Reads the first n records of t, which have to be arcs of a type; the first of them is at a place of the file. The rows are empty before them.
+// Reads the first n records of t, which have to be arcs of a type; the first of them is at a place of the file. The
+// rows are empty before them.
 pub fn read_arcs(m: usize, t: &[u8], of: u8, n: usize, place: usize, rows: &mut Rows) -> Answer
-    requires { ⌜ (24 * n ≤ length (now t)) × (place + n ≤ 2048) × (m ≤ elements) × (now rows ≡ replicate (cells elements) 0) ⌝ }
+    requires { ⌜ (24 * n ≤ length (now t)) × (place + n ≤ 2048) × (m ≤ elements)
+        × (now rows ≡ replicate (cells elements) 0) ⌝ }
     ensures { λ a. ⌜ a ≡ arcsCause of place m (now (t .entry)) n ⌝ }
-    ensures { λ _. ⌜ now (rows .exit) ≡ upto (putArc of (now (t .entry))) (arcsFine of place m (now (t .entry)) n) (now (rows .entry)) ⌝ }
+    ensures { λ _. ⌜ now (rows .exit)
+        ≡ upto (putArc of (now (t .entry))) (arcsFine of place m (now (t .entry)) n) (now (rows .entry)) ⌝ }
 {
     let mut i: usize = 0;
     while i < n {

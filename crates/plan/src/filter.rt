@@ -23,7 +23,8 @@ use order::Rows;
 // The arc of a record, where it is an extra arc with wait 0.
 fn store_if_free(r: &[u8], rows: &mut Rows)
     requires { ⌜ ArcRecord (now r) ⌝ }
-    ensures { λ _. ⌜ now (rows .exit) ≡ cond (isFree (now (r .entry))) (withArc (now (r .entry)) (now (rows .entry))) (now (rows .entry)) ⌝ }
+    ensures { λ _. ⌜ now (rows .exit)
+        ≡ cond (isFree (now (r .entry))) (withArc (now (r .entry)) (now (rows .entry))) (now (rows .entry)) ⌝ }
 {
     if r[0] != 4 {
         return;
@@ -82,7 +83,8 @@ fn record_bytes(r: &[u8]) -> [u8; 24]
     b
 }
 
-// Writes a record to the start of the lent bytes. (By way of an array, which overlaps with neither: so the copy is two moves, and not one for each byte.)
+// Writes a record to the start of the lent bytes. (By way of an array, which overlaps with neither: so the copy is two
+// moves, and not one for each byte.)
 fn write_record(r: &[u8], out: &mut [u8])
     requires { ⌜ (24 ≤ length (now r)) × (24 ≤ length (now out)) ⌝ }
     ensures { λ _. ⌜ now (out .exit) ≡ startingWith (take 24 (now (r .entry))) (now (out .entry)) ⌝ }
@@ -99,7 +101,8 @@ fn write_record(r: &[u8], out: &mut [u8])
 pub fn write_staying(s: &[u8], extra: &Rows, out: &mut [u8]) -> usize
     requires { ⌜ Readable (now s) × (length (now s) ≤ length (now out)) ⌝ }
     ensures { λ n. ⌜ n ≡ count (recordCount (now (s .entry))) (staysBy (now (extra .entry)) (now (s .entry))) ⌝ }
-    ensures { λ _. ⌜ now (out .exit) ≡ startingWith (filtered (staysBy (now (extra .entry)) (now (s .entry))) (now (s .entry))) (now (out .entry)) ⌝ }
+    ensures { λ _. ⌜ now (out .exit) ≡ startingWith
+        (filtered (staysBy (now (extra .entry)) (now (s .entry))) (now (s .entry))) (now (out .entry)) ⌝ }
 {
     let all = s.len() / 24;
     let mut n: usize = 0;

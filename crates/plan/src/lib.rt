@@ -25,8 +25,8 @@ pub use wait::store_waits;
 // How many activities a file may have. (The format's own limit: there may be more elements.)
 pub const ACTIVITIES: usize = 64;
 
-// What a readable file says. Element i is activity i + 1; the demand of element i for kind k + 1 stands at ELEMENTS * k + i; a member j of row i
-// of `job` is a job arc from i to j, and of `extra` an extra arc.
+// What a readable file says. Element i is activity i + 1; the demand of element i for kind k + 1 stands at
+// ELEMENTS * k + i; a member j of row i of `job` is a job arc from i to j, and of `extra` an extra arc.
 pub struct Plan {
     pub count: usize,
     pub kinds: usize,
@@ -47,7 +47,8 @@ pub enum Cause {
     RepeatedArc(usize),
 }
 
-// What a cause tells: its number in document 01, how many values are returned with it (0 or 1), and the place of the record, which is the value.
+// What a cause tells: its number in document 01, how many values are returned with it (0 or 1), and the place of the
+// record, which is the value.
 pub struct Told {
     pub number: u64,
     pub values: usize,

@@ -30,11 +30,14 @@ someMisworked durations worked = some (length worked) (λ i. misworked (getD dur
 
 -- "lists not m long, or a worked duration 0", by the rule above; the plan's durations are given
 unfoldable pub badLists : ℕ → List ℕ → List ℕ → List ℕ → Bool
-badLists m durations starts worked = not (eqb (length starts) m) || (not (eqb (length worked) m) || someMisworked durations worked)
+badLists m durations starts worked =
+    not (eqb (length starts) m) || (not (eqb (length worked) m) || someMisworked durations worked)
 
 -- "Crew check: 10.": the causes of the opening, then 10, which returns m
 unfoldable pub crewCheckFault : List ℕ → List ℕ → List ℕ → Fault
-crewCheckFault s starts worked = orCause (faultOf s) (badLists (planIn s .count) (planIn s .duration) starts worked) (Lists (planIn s .count))
+crewCheckFault s starts worked =
+    orCause (faultOf s) (badLists (planIn s .count) (planIn s .duration) starts worked)
+    (Lists (planIn s .count))
 
 -- the work of the crew, by the plan's demands and availabilities
 abbrev pub crewWork : List ℕ → List ℕ → List ℕ → Work

@@ -10,8 +10,8 @@ use Rattle.words.specs.Sums.{sum}
 use Rattle.plan.specs.Records.{activityCount}
 use Rattle.plan.specs.Meaning.{JobArc, FileArc, fileDemand, fileAvailable}
 
--- ---- need: "Two activities are ordered when one is before the other in the plan
--- order" (01, Need and overload)
+-- ---- need: "Two activities are ordered when one is before the other in the plan order"
+-- (01, Need and overload)
 
 -- "a set is unrelated when no two of its members are"
 abbrev pub Unrelated : List ℕ → (ℕ → Bool) → Type 0

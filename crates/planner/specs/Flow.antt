@@ -45,7 +45,9 @@ flowFault s kind n = kindFault s kind n (flowLength (planIn s .count))
 -- promises/proofs/FileFlows.antt. From node u to node v, where node 0 is the start and m + 1 the end, pass
 unfoldable pub flowUnits : Plan → ℕ → ℕ → ℕ → ℕ
 flowUnits q k u v =
-    nodeFlow (q .count) (demandFor q k) (handed (flowOf (q .count) (orderFor q) (demandsFor (q .demand) k))) (needFor q k) (availableFor q k) u v
+    nodeFlow (q .count) (demandFor q k)
+    (handed (flowOf (q .count) (orderFor q) (demandsFor (q .demand) k)))
+    (needFor q k) (availableFor q k) u v
 
 -- the added mark of a pair of nodes, by the job order. (In the file's own terms it is `Added` of File:
 -- `mark-added` of proofs/MarkLaws.antt.)

@@ -1,5 +1,5 @@
--- The need of a kind and overload (01, "Need and overload"), of a plan. Kind k stands
--- for kind k + 1 of the file.
+-- The need of a kind and overload (01, "Need and overload"), of a plan.
+-- Kind k stands for kind k + 1 of the file.
 use mathlib.Core.Bool.{Bool}
 use Prim.Native.Nat.{ℕ, _+_}
 use lib.Dec.{ltb}
@@ -23,8 +23,8 @@ demandFor q k i = getD (demandsFor (q .demand) k) i 0
 abbrev pub availableFor : Plan → ℕ → ℕ
 availableFor q k = getD (q .available) k 0
 
--- "The need of a kind is the greatest sum of its demands over any unrelated set": of the
--- activities 1 to m, by the plan order
+-- "The need of a kind is the greatest sum of its demands over any unrelated set":
+-- of the activities 1 to m, by the plan order
 unfoldable pub needFor : Plan → ℕ → ℕ
 needFor q k = needOf (q .count) (isBefore (orderFor q)) (demandFor q k)
 

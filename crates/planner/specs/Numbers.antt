@@ -8,12 +8,14 @@ use Rattle.words.specs.Members.{count}
 use Rattle.order.specs.Stored.{elements, numberOf, noSet}
 use Rattle.plan.specs.Numbers.{toldBy}
 use Rattle.planner.specs.declared.Cause.{Cause}
-use Rattle.planner.specs.declared.Cause.the-variants.{Unreadable, JobCircle, PlanCircle, Overloaded, NoKind, Short, Lists, NoPage}
+use Rattle.planner.specs.declared.Cause.the-variants.{Unreadable, JobCircle, PlanCircle, Overloaded}
+use Rattle.planner.specs.declared.Cause.the-variants.{NoKind, Short, Lists, NoPage}
 use Rattle.planner.specs.declared.Refusal.{Refusal}
 
 -- no set: so many of the two values
 abbrev pub plain : ℕ → ℕ → ℕ → ℕ → Refusal
-plain number values first second = record { number = number; values = values; first = first; second = second; set = noSet }
+plain number values first second =
+    record { number = number; values = values; first = first; second = second; set = noSet }
 
 -- THE TABLE OF CAUSES, of which 1 to 4, 12 and 13 are the reader's (`toldBy`); 11 is of document 02, change 1
 abbrev pub refusalOf : Cause → Refusal
@@ -26,7 +28,11 @@ refusalOf (Short n) = plain 9 1 n 0
 refusalOf (Lists m) = plain 10 1 m 0
 refusalOf (NoPage n) = plain 11 1 n 0
 
--- as a list. (7 returns "kind, need, set, size": the set is the number that it means, and its
--- "size is the count of ones")
+-- as a list. (7 returns "kind, need, set, size": the set is the number that it means,
+-- and its "size is the count of ones")
 abbrev pub numbersOf : Cause → List ℕ
-numbersOf c = let r = refusalOf c in r .number ∷ take (r .values) (r .first ∷ r .second ∷ numberOf (r .set) ∷ count elements (bit (numberOf (r .set))) ∷ [])
+numbersOf c =
+    let r = refusalOf c in
+    r .number
+    ∷ take (r .values)
+    (r .first ∷ r .second ∷ numberOf (r .set) ∷ count elements (bit (numberOf (r .set))) ∷ [])

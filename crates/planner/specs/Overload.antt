@@ -24,7 +24,8 @@ overCount q = cond (isOverloaded q) 1 0
 
 unfoldable pub overBytes : Plan → List ℕ
 overBytes q =
-    let bytes = overloadRecord (overKind q + 1) (sizeOf (shownSet q (overKind q))) (needFor q (overKind q)) (numberOf (shownSet q (overKind q))) in
+    let bytes = overloadRecord (overKind q + 1) (sizeOf (shownSet q (overKind q)))
+    (needFor q (overKind q)) (numberOf (shownSet q (overKind q))) in
     cond (isOverloaded q) bytes []
 
 -- THE ANSWER

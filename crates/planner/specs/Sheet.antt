@@ -1,5 +1,5 @@
--- Sheet (document 02, change 1): what it answers, and what the lent bytes then
--- hold. Quotations are from there.
+-- Sheet (document 02, change 1): what it answers, and what the lent bytes then hold.
+-- Quotations are from there.
 use mathlib.Core.Bool.{Bool, not}
 use mathlib.Core.List.{List}
 use Prim.Native.Nat.{ℕ, _-_}
@@ -19,8 +19,8 @@ use Rattle.planner.specs.declared.Output.{Output}
 abbrev pub isPage : ℕ → ℕ → Bool
 isPage = isKind
 
--- "11, page not 1 to the page count, returned with that count": of a sheet of n
--- records, where no cause came before
+-- "11, page not 1 to the page count, returned with that count":
+-- of a sheet of n records, where no cause came before
 abbrev pub pageFault : ℕ → ℕ → Fault
 pageFault n page = orCause Fine (not (isPage page (pagesOf n))) (NoPage (pagesOf n))
 

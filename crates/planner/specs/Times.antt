@@ -23,15 +23,15 @@ KeepsArcs s x w = Keeps (FileArc s) x (arcWeight s w)
 abbrev pub NoWaits : List ℕ → Type 0
 NoWaits s = (i j : ℕ) → fileWait s i j ≡ 0
 
--- "durations of one or more except for milestones, which keep 0" (02, change 2): the
--- durations in which a crew can work
+-- "durations of one or more except for milestones, which keep 0" (02, change 2):
+-- the durations in which a crew can work
 pub record Workable (s : List ℕ) (w : ℕ → ℕ) : Type 0 where
   pub milestones : (i : ℕ) → i < activityCount s → Milestone s i → w i ≡ 0
   pub others : (i : ℕ) → i < activityCount s → (Milestone s i → ⊥) → 1 ≤ w i
 
--- "A crew in demand 3 is one start and one duration .. for each activity, in any whole
--- numbers", the durations as above. "The quote must now hold for crews that keep arcs together
--- with their waits" (02, change 5)
+-- "A crew in demand 3 is one start and one duration .. for each activity, in any whole numbers",
+-- the durations as above. "The quote must now hold for crews that keep arcs together with their waits"
+-- (02, change 5)
 pub record FileCrew (s : List ℕ) (x w : ℕ → ℕ) : Type 0 where
   pub works : Workable s w
   pub keeps : KeepsArcs s x w

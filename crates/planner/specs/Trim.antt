@@ -1,5 +1,5 @@
--- Trim (document 02, change 7): what it answers, and what the lent bytes then
--- hold. Quotations are from there.
+-- Trim (document 02, change 7): what it answers, and what the lent bytes then hold.
+-- Quotations are from there.
 use mathlib.Core.Bool.{Bool, cond, _&&_}
 use mathlib.Core.List.{List}
 use Prim.Native.Nat.{ℕ, zero, suc, _*_, _/_, _%_}

@@ -42,7 +42,8 @@ pub enum Cause {
     NoPage(usize),
 }
 
-// What a refusal tells: document 01's number of its cause, and how many of the values after it are returned: two plain ones, a set, and the set's size.
+// What a refusal tells: document 01's number of its cause, and how many of the values after it are returned: two plain
+// ones, a set, and the set's size.
 pub struct Refusal {
     pub number: u64,
     pub values: usize,
@@ -63,8 +64,8 @@ pub enum Decision {
     Refused(Cause),
 }
 
-// What the operations that write answer: so many numbers or records are written, or nothing is. (Overload writes one record, or none where the plan is
-// accepted; Sheet writes a page, and answers how many there are.)
+// What the operations that write answer: so many numbers or records are written, or nothing is. (Overload writes one
+// record, or none where the plan is accepted; Sheet writes a page, and answers how many there are.)
 pub enum Output {
     Written(usize),
     Refused(Cause),

@@ -15,7 +15,8 @@ pub struct Read {
     pub fault: Fault,
 }
 
-// A plan with its direct arcs (job and extra together, as rows), its job order and its plan order, and the fault with 5 and 6 in their turn.
+// A plan with its direct arcs (job and extra together, as rows), its job order and its plan order, and the fault
+// with 5 and 6 in their turn.
 pub struct Opened {
     pub plan: plan::Plan,
     pub rows: order::Rows,
@@ -84,8 +85,9 @@ pub fn open_plan(s: &[u8]) -> Opened
     ordered(q, fault)
 }
 
-// How much of each kind is available, for the report: all else that it says is what operations write. (By way of `open_plan`, which all operations call: a second
-// caller of `plan::read` would make that a function of its own, and every operation would pay for the copy of a plan.)
+// How much of each kind is available, for the report: all else that it says is what operations write. (By way of
+// `open_plan`, which all operations call: a second caller of `plan::read` would make that a function of its own, and
+// every operation would pay for the copy of a plan.)
 pub fn available(s: &[u8]) -> [u32; 8]
     ensures { λ r. ⌜ r ≡ planIn (now (s .entry)) .available ⌝ }
 {

@@ -2,8 +2,8 @@
 -- `added-keep` of proofs/AddedMarksHold.antt. When a pair is added is `Added` of planner's File, by
 -- what comes before what by the job arcs. Here it is said of every record that Flow writes; and then
 -- what the marked pairs are in the paper, where A is the job order, X are the extra arcs, f is the flow
--- shown, of all kinds, and T(E) is what comes before what by E. Quotations are from document 02, change
--- 6, where no other is named.
+-- shown, of all kinds, and T(E) is what comes before what by E. Quotations are from document 02,
+-- change 6, where no other is named.
 use mathlib.Core.Path.{_≡_}
 use mathlib.Core.List.{List}
 use mathlib.Core.Logic.{_↔_}
@@ -45,16 +45,18 @@ abbrev pub Marked : Planner → List ℕ → ℕ → ℕ → Type 0
 Marked P s i j = Writes P s (i + 1) (j + 1) 1
 
 pub record FullOrder (P : Planner) (s : List ℕ) : Type 0 where
-  -- the job order together with the marked pairs lies within the plan order: "A ∪ C(f)
-  -- ⊆ T(A ∪ X)" (000, theorem 2)
+  -- the job order together with the marked pairs lies within the plan order:
+  -- "A ∪ C(f) ⊆ T(A ∪ X)" (000, theorem 2)
   pub within : (i j : ℕ) → Joined (Before (JobArc s)) (Marked P s) i j → Before (FileArc s) i j
   -- so "G(N, A ∪ C(f)) is acyclic", by which the paper calls a flow feasible (000, 2.1)
   pub feasible : Acyclic (Joined (Before (JobArc s)) (Marked P s))
   -- and the handovers between activities that are not marked lie within the job order: C(f) is all that
   -- carries flow and is not in A
-  pub unmarked : (i j : ℕ) → i < activityCount s → j < activityCount s → Writes P s (i + 1) (j + 1) 0 → Before (JobArc s) i j
+  pub unmarked : (i j : ℕ) → i < activityCount s → j < activityCount s
+      → Writes P s (i + 1) (j + 1) 0 → Before (JobArc s) i j
 
 -- ---- the sentence
 
 abbrev pub AddedSentence : Planner → Type 0
-AddedSentence P = (s : List ℕ) → AreBytes s → Readable s → Acyclic (FileArc s) → AddedMarks P s × FullOrder P s
+AddedSentence P =
+    (s : List ℕ) → AreBytes s → Readable s → Acyclic (FileArc s) → AddedMarks P s × FullOrder P s

@@ -26,7 +26,9 @@ waitBytes type i j low high = type ∷ i ∷ j ∷ 0 ∷ low ∷ high ∷ replic
 
 -- the activities and the crew of the plans A to E; plan C has no arcs
 abbrev pub planC : List ℕ
-planC = activityBytes 1 1 2 ++ (activityBytes 2 2 2 ++ (activityBytes 3 3 2 ++ (activityBytes 4 1 2 ++ crewBytes 4)))
+planC =
+    activityBytes 1 1 2
+    ++ (activityBytes 2 2 2 ++ (activityBytes 3 3 2 ++ (activityBytes 4 1 2 ++ crewBytes 4)))
 
 -- extra arcs: plan A has 1 to 2 and 2 to 4, plan B 1 to 2, 1 to 3 and 1 to 4, plan D 1 to 3, 1 to 4, 2 to 3
 -- and 2 to 4, plan E 1 to 2 and 2 to 1
@@ -57,7 +59,8 @@ planG demand = activityBytes 1 0 demand ++ crewBytes 4
 -- plan D by a milestone, its activity 3: extra arcs 1 to 3 and 2 to 3, 3 to 4 and 3 to 5
 abbrev pub planH : List ℕ
 planH =
-    activityBytes 1 1 2 ++ (activityBytes 2 2 2 ++ (activityBytes 3 0 0 ++ (activityBytes 4 3 2 ++ (activityBytes 5 1 2 ++ (crewBytes 4
+    activityBytes 1 1 2 ++ (activityBytes 2 2 2 ++ (activityBytes 3 0 0
+    ++ (activityBytes 4 3 2 ++ (activityBytes 5 1 2 ++ (crewBytes 4
     ++ (arcBytes 4 1 3 ++ (arcBytes 4 2 3 ++ (arcBytes 4 3 4 ++ arcBytes 4 3 5))))))))
 
 -- plan A with its first arc as a job arc too
@@ -119,7 +122,11 @@ handoverBytes from to units mark = 33 ∷ 1 ∷ from ∷ to ∷ units ∷ 0 ∷ 
 abbrev pub flowA : List ℕ
 flowA =
     handoverBytes 0 1 2 0
-    ++ (handoverBytes 0 3 2 0 ++ (handoverBytes 1 2 2 1 ++ (handoverBytes 2 4 2 1 ++ (handoverBytes 3 5 2 0 ++ (handoverBytes 4 5 2 0 ++ replicate 216 9)))))
+    ++ (handoverBytes 0 3 2 0
+    ++ (handoverBytes 1 2 2 1
+    ++ (handoverBytes 2 4 2 1
+    ++ (handoverBytes 3 5 2 0
+    ++ (handoverBytes 4 5 2 0 ++ replicate 216 9)))))
 
 abbrev pub flowI : ℕ → List ℕ
 flowI mark = handoverBytes 0 1 2 0 ++ (handoverBytes 1 3 2 mark ++ (handoverBytes 3 4 2 0 ++ replicate 168 9))
@@ -128,14 +135,15 @@ pub record Cases (P : Planner) : Type 0 where
   -- "*A accepted, need 4."
   pub a-accepted : verdictNumbers (P .verdict planA) ≡ 0 ∷ 4 ∷ 1 ∷ []
   pub a-need : P .needs .left planA (9 ∷ 9 ∷ []) ≡ 4 ∷ 9 ∷ []
-  -- "*B, A with extra arcs 1→2, 1→3, 1→4: `refused 7 1 6 2 3 4`": the set of the activities
-  -- 2, 3 and 4 is the number 14
+  -- "*B, A with extra arcs 1→2, 1→3, 1→4: `refused 7 1 6 2 3 4`":
+  -- the set of the activities 2, 3 and 4 is the number 14
   pub b-overloaded : verdictNumbers (P .verdict planB) ≡ 7 ∷ 1 ∷ 6 ∷ 14 ∷ 3 ∷ []
   pub b-need : P .needs .left planB (9 ∷ []) ≡ 6 ∷ []
   -- "*C, A with none: need 8, set all four."
   pub c-overloaded : verdictNumbers (P .verdict planC) ≡ 7 ∷ 1 ∷ 8 ∷ 15 ∷ 4 ∷ []
   pub c-need : P .needs .left planC (9 ∷ []) ≡ 8 ∷ []
-  pub c-record : P .overload .left planC (replicate 25 9) ≡ 32 ∷ 1 ∷ 4 ∷ 0 ∷ 8 ∷ 0 ∷ 0 ∷ 0 ∷ 15 ∷ replicate 15 0 ++ 9 ∷ []
+  pub c-record : P .overload .left planC (replicate 25 9)
+      ≡ 32 ∷ 1 ∷ 4 ∷ 0 ∷ 8 ∷ 0 ∷ 0 ∷ 0 ∷ 15 ∷ replicate 15 0 ++ 9 ∷ []
   -- "*D, A with 1→3, 1→4, 2→3, 2→4: need 4."
   pub d-accepted : verdictNumbers (P .verdict planD) ≡ 0 ∷ 4 ∷ 1 ∷ []
   pub d-need : P .needs .left planD (9 ∷ []) ≡ 4 ∷ []
@@ -153,30 +161,36 @@ pub record Cases (P : Planner) : Type 0 where
   pub a-short : outputNumbers (P .starts .answer planA 4) ≡ 9 ∷ 5 ∷ []
   -- "Crew check: *A with its durations, starts 0, 1, 0, 3 fits; *starts 0, 1, 0, 2 breaks 2→4."; and cause 10
   pub a-fits : crewCheckNumbers (P .crew-check planA (0 ∷ 1 ∷ 0 ∷ 3 ∷ []) (1 ∷ 2 ∷ 3 ∷ 1 ∷ [])) ≡ 0 ∷ []
-  pub a-breaks : crewCheckNumbers (P .crew-check planA (0 ∷ 1 ∷ 0 ∷ 2 ∷ []) (1 ∷ 2 ∷ 3 ∷ 1 ∷ [])) ≡ 254 ∷ 2 ∷ 4 ∷ []
+  pub a-breaks :
+      crewCheckNumbers (P .crew-check planA (0 ∷ 1 ∷ 0 ∷ 2 ∷ []) (1 ∷ 2 ∷ 3 ∷ 1 ∷ [])) ≡ 254 ∷ 2 ∷ 4 ∷ []
   pub a-idle : crewCheckNumbers (P .crew-check planA (0 ∷ 1 ∷ 0 ∷ 2 ∷ []) (1 ∷ 2 ∷ 0 ∷ 1 ∷ [])) ≡ 10 ∷ 4 ∷ []
-  -- "*C, all starts 0, durations 1: period 1, kind 1. *C, starts 0, 0, 1, 1: durations 1 fit;
-  -- *durations 2, 2, 1, 1: period 2."
-  pub c-at-once : crewCheckNumbers (P .crew-check planC (0 ∷ 0 ∷ 0 ∷ 0 ∷ []) (1 ∷ 1 ∷ 1 ∷ 1 ∷ [])) ≡ 255 ∷ 1 ∷ 1 ∷ []
+  -- "*C, all starts 0, durations 1: period 1, kind 1.
+  -- *C, starts 0, 0, 1, 1: durations 1 fit; *durations 2, 2, 1, 1: period 2."
+  pub c-at-once :
+      crewCheckNumbers (P .crew-check planC (0 ∷ 0 ∷ 0 ∷ 0 ∷ []) (1 ∷ 1 ∷ 1 ∷ 1 ∷ [])) ≡ 255 ∷ 1 ∷ 1 ∷ []
   pub c-two-by-two : crewCheckNumbers (P .crew-check planC (0 ∷ 0 ∷ 1 ∷ 1 ∷ []) (1 ∷ 1 ∷ 1 ∷ 1 ∷ [])) ≡ 0 ∷ []
-  pub c-longer : crewCheckNumbers (P .crew-check planC (0 ∷ 0 ∷ 1 ∷ 1 ∷ []) (2 ∷ 2 ∷ 1 ∷ 1 ∷ [])) ≡ 255 ∷ 2 ∷ 1 ∷ []
+  pub c-longer :
+      crewCheckNumbers (P .crew-check planC (0 ∷ 0 ∷ 1 ∷ 1 ∷ []) (2 ∷ 2 ∷ 1 ∷ 1 ∷ [])) ≡ 255 ∷ 2 ∷ 1 ∷ []
   -- "one timetable by list durations: C passes .. with starts 0, 0, 2, 1" (01, False turns),
   -- and its need is 8, as above
   pub c-false-turn : crewCheckNumbers (P .crew-check planC (0 ∷ 0 ∷ 2 ∷ 1 ∷ []) (1 ∷ 2 ∷ 3 ∷ 1 ∷ [])) ≡ 0 ∷ []
-  -- "Document 01's case of a duration 0 is now read without demands and refused as
-  -- 12 with one." (02, change 2)
+  -- "Document 01's case of a duration 0 is now read without demands
+  -- and refused as 12 with one." (02, change 2)
   pub g-read : verdictNumbers (P .verdict (planG 0)) ≡ 0 ∷ 1 ∷ 1 ∷ []
   pub g-refused : verdictNumbers (P .verdict (planG 1)) ≡ 12 ∷ 0 ∷ []
-  -- a milestone "is never at work and still passes order on": H is accepted as D is, and
-  -- 4 and 5 start when 2 is done
+  -- a milestone "is never at work and still passes order on": H is accepted as D is,
+  -- and 4 and 5 start when 2 is done
   pub h-accepted : verdictNumbers (P .verdict planH) ≡ 0 ∷ 5 ∷ 1 ∷ []
   pub h-need : P .needs .left planH (9 ∷ []) ≡ 4 ∷ []
   pub h-starts : P .starts .left planH (9 ∷ 9 ∷ 9 ∷ 9 ∷ 9 ∷ 9 ∷ 9 ∷ []) ≡ 0 ∷ 0 ∷ 2 ∷ 2 ∷ 2 ∷ 5 ∷ 9 ∷ []
-  -- "its worked duration is 0 too": worked 0 it fits, and worked 1 gives 10, as does a
-  -- worked 0 on another activity
-  pub h-fits : crewCheckNumbers (P .crew-check planH (0 ∷ 0 ∷ 2 ∷ 2 ∷ 2 ∷ []) (1 ∷ 2 ∷ 0 ∷ 3 ∷ 1 ∷ [])) ≡ 0 ∷ []
-  pub h-worked : crewCheckNumbers (P .crew-check planH (0 ∷ 0 ∷ 2 ∷ 3 ∷ 3 ∷ []) (1 ∷ 2 ∷ 1 ∷ 3 ∷ 1 ∷ [])) ≡ 10 ∷ 5 ∷ []
-  pub h-idle : crewCheckNumbers (P .crew-check planH (0 ∷ 0 ∷ 2 ∷ 2 ∷ 2 ∷ []) (1 ∷ 0 ∷ 0 ∷ 3 ∷ 1 ∷ [])) ≡ 10 ∷ 5 ∷ []
+  -- "its worked duration is 0 too": worked 0 it fits, and worked 1 gives 10,
+  -- as does a worked 0 on another activity
+  pub h-fits :
+      crewCheckNumbers (P .crew-check planH (0 ∷ 0 ∷ 2 ∷ 2 ∷ 2 ∷ []) (1 ∷ 2 ∷ 0 ∷ 3 ∷ 1 ∷ [])) ≡ 0 ∷ []
+  pub h-worked :
+      crewCheckNumbers (P .crew-check planH (0 ∷ 0 ∷ 2 ∷ 3 ∷ 3 ∷ []) (1 ∷ 2 ∷ 1 ∷ 3 ∷ 1 ∷ [])) ≡ 10 ∷ 5 ∷ []
+  pub h-idle :
+      crewCheckNumbers (P .crew-check planH (0 ∷ 0 ∷ 2 ∷ 2 ∷ 2 ∷ []) (1 ∷ 0 ∷ 0 ∷ 3 ∷ 1 ∷ [])) ≡ 10 ∷ 5 ∷ []
   -- "A pair repeated within the same type is now refused. The same pair as a job arc and an extra arc is
   -- still fine." (02, change 3)
   pub a-both : verdictNumbers (P .verdict planABoth) ≡ 0 ∷ 4 ∷ 1 ∷ []
@@ -193,11 +207,14 @@ pub record Cases (P : Planner) : Type 0 where
   pub w-need : P .needs .left planAWait (9 ∷ []) ≡ 4 ∷ []
   pub w-starts : P .starts .left planAWait (9 ∷ 9 ∷ 9 ∷ 9 ∷ 9 ∷ 9 ∷ []) ≡ 0 ∷ 4 ∷ 0 ∷ 6 ∷ 7 ∷ 9 ∷ []
   pub w-fits : crewCheckNumbers (P .crew-check planAWait (0 ∷ 4 ∷ 0 ∷ 6 ∷ []) (1 ∷ 2 ∷ 3 ∷ 1 ∷ [])) ≡ 0 ∷ []
-  pub w-breaks : crewCheckNumbers (P .crew-check planAWait (0 ∷ 3 ∷ 0 ∷ 6 ∷ []) (1 ∷ 2 ∷ 3 ∷ 1 ∷ [])) ≡ 254 ∷ 1 ∷ 2 ∷ []
+  pub w-breaks :
+      crewCheckNumbers (P .crew-check planAWait (0 ∷ 3 ∷ 0 ∷ 6 ∷ []) (1 ∷ 2 ∷ 3 ∷ 1 ∷ [])) ≡ 254 ∷ 1 ∷ 2 ∷ []
   -- "Where a job arc and an extra arc share a pair, both waits bind."
   pub w-job-starts : P .starts .left planAJobWaits (9 ∷ 9 ∷ 9 ∷ 9 ∷ 9 ∷ []) ≡ 0 ∷ 257 ∷ 0 ∷ 259 ∷ 260 ∷ []
   pub w-extra-starts : P .starts .left planAExtraWaits (9 ∷ 9 ∷ 9 ∷ 9 ∷ 9 ∷ []) ≡ 0 ∷ 257 ∷ 0 ∷ 259 ∷ 260 ∷ []
-  pub w-extra-breaks : crewCheckNumbers (P .crew-check planAExtraWaits (0 ∷ 256 ∷ 0 ∷ 259 ∷ []) (1 ∷ 2 ∷ 3 ∷ 1 ∷ [])) ≡ 254 ∷ 1 ∷ 2 ∷ []
+  pub w-extra-breaks :
+      crewCheckNumbers (P .crew-check planAExtraWaits (0 ∷ 256 ∷ 0 ∷ 259 ∷ []) (1 ∷ 2 ∷ 3 ∷ 1 ∷ []))
+      ≡ 254 ∷ 1 ∷ 2 ∷ []
   -- "so 4 covers the other spare bytes only"; and another wait makes no other pair, so that 13 is given
   pub w-spare : verdictNumbers (P .verdict planAWaitSpare) ≡ 4 ∷ 7 ∷ []
   pub w-pasted : verdictNumbers (P .verdict planAWaitPasted) ≡ 13 ∷ 7 ∷ []
@@ -215,9 +232,11 @@ pub record TrimCases (T : Writing) : Type 0 where
   -- of D 1 to 3 goes, being the first; then 1 to 4 and 2 to 3 have to stay, and 2 to 4 goes too: 7 records
   -- are left, and the 48 bytes behind them are as they were
   pub d-count : outputNumbers (T .answer planD 216) ≡ 0 ∷ 7 ∷ []
-  pub d-left : T .left planD (replicate 216 9) ≡ planC ++ (arcBytes 4 1 4 ++ (arcBytes 4 2 3 ++ replicate 48 9))
+  pub d-left :
+      T .left planD (replicate 216 9) ≡ planC ++ (arcBytes 4 1 4 ++ (arcBytes 4 2 3 ++ replicate 48 9))
   -- A with its first arc as a job arc too: the extra arc goes
-  pub both-left : T .left planABoth (replicate 192 9) ≡ planC ++ (arcBytes 3 1 2 ++ (arcBytes 4 2 4 ++ replicate 24 9))
+  pub both-left :
+      T .left planABoth (replicate 192 9) ≡ planC ++ (arcBytes 3 1 2 ++ (arcBytes 4 2 4 ++ replicate 24 9))
   -- "an arc with a longer wait always remains": the same, with a wait on the extra arc
   pub wait-left : T .left planAJobWaits (replicate 192 9) ≡ planAJobWaits
   -- "9 comes after the circles and needs the given file's length; 7 comes last.": B is overloaded, and its 7

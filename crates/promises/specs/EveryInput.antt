@@ -1,6 +1,6 @@
--- DEMAND 1 of document 00, about a planner P: "every input gets a result or a numbered refusal of document
--- 01, and a refusal leaves every lent byte and number as before." It holds of ours: `every-input` of
--- proofs/EveryInputHolds.antt, for every list of numbers, bytes or not.
+-- DEMAND 1 of document 00, about a planner P: "every input gets a result or a numbered refusal of
+-- document 01, and a refusal leaves every lent byte and number as before." It holds of ours:
+-- `every-input` of proofs/EveryInputHolds.antt, for every list of numbers, bytes or not.
 use mathlib.Core.Path.{_≡_}
 use mathlib.Core.List.{List, [], _∷_, _++_}
 use mathlib.Core.Logic.{_⊎_}
@@ -32,7 +32,9 @@ opening = reading ++ 5 ∷ 6 ∷ []
 -- bytes and however much is lent
 abbrev pub AnswersBy : List ℕ → Writing → Type 0
 AnswersBy numbers W =
-    (s : List ℕ) (n : ℕ) → ((r : ℕ) × (W .answer s n ≡ Written r)) ⊎ ((c : Cause) × (W .answer s n ≡ Refused c) × OneOf numbers (causeNumber c))
+    (s : List ℕ) (n : ℕ)
+    → ((r : ℕ) × (W .answer s n ≡ Written r))
+    ⊎ ((c : Cause) × (W .answer s n ≡ Refused c) × OneOf numbers (causeNumber c))
 
 -- "a refusal leaves every lent byte and number as before"
 abbrev pub KeepsLent : Writing → Type 0
@@ -52,7 +54,8 @@ pub record EveryInput (P : Planner) : Type 0 where
   -- "Crew check: 10."
   pub crew-check : (s starts worked : List ℕ)
       → ((x : Checked) × (P .crew-check s starts worked ≡ crew.Found x))
-      ⊎ ((c : Cause) × (P .crew-check s starts worked ≡ crew.Refused c) × OneOf (opening ++ 10 ∷ []) (causeNumber c))
+      ⊎ ((c : Cause) × (P .crew-check s starts worked ≡ crew.Refused c)
+      × OneOf (opening ++ 10 ∷ []) (causeNumber c))
   -- "Left as it was | all lent memory" (Verdict and Crew check are lent nothing that they could change)
   pub needs-kept : KeepsLent (P .needs)
   pub starts-kept : KeepsLent (P .starts)

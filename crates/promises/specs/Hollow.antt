@@ -31,11 +31,19 @@ use Rattle.promises.specs.PriceList.{quotedNeed, PriceListSentence}
 -- ours, but for Verdict, Needs and Flow
 abbrev pub oursBut : (List ℕ → Decision) → Writing → (ℕ → Writing) → Planner
 oursBut verdict needs flow =
-    record { verdict = verdict; needs = needs; starts = ours .starts; overload = ours .overload; flow = flow; crew-check = ours .crew-check }
+    record {
+      verdict = verdict;
+      needs = needs;
+      starts = ours .starts;
+      overload = ours .overload;
+      flow = flow;
+      crew-check = ours .crew-check;
+    }
 
 -- the verdict on a plan that opens by a test of its bytes: 7, whatever it shows, or accepted
 abbrev pub verdictBy : (List ℕ → Bool) → (List ℕ → Cause) → List ℕ → Decision
-verdictBy test seven s = verdictOf (orCause (faultOf s) (test s) (seven s)) (planIn s .count) (planIn s .kinds)
+verdictBy test seven s =
+    verdictOf (orCause (faultOf s) (test s) (seven s)) (planIn s .count) (planIn s .kinds)
 
 -- "Refusing everything as overloaded"
 abbrev pub refusesAll : (List ℕ → Cause) → Planner
@@ -43,12 +51,14 @@ refusesAll seven = oursBut (verdictBy (λ s. true) seven) (ours .needs) (ours .f
 
 -- "or accepting everything"
 abbrev pub acceptsAll : Planner
-acceptsAll = oursBut (λ s. verdictOf (faultOf s) (planIn s .count) (planIn s .kinds)) (ours .needs) (ours .flow)
+acceptsAll =
+    oursBut (λ s. verdictOf (faultOf s) (planIn s .count) (planIn s .kinds)) (ours .needs) (ours .flow)
 
 -- "An empty flow": no record is written
 abbrev pub emptyFlow : Planner
 emptyFlow =
-    oursBut (ours .verdict) (ours .needs) (λ kind. record { answer = λ s n. outputOf (flowFault s kind n) 0; left = λ s out. out })
+    oursBut (ours .verdict) (ours .needs)
+    (λ kind. record { answer = λ s n. outputOf (flowFault s kind n) 0; left = λ s out. out })
 
 -- "Reporting the availability as the need"
 abbrev pub availableAsNeed : Planner
@@ -56,7 +66,8 @@ availableAsNeed =
     oursBut (ours .verdict)
     (record {
       answer = ours .needs .answer;
-      left = λ s out. lentAfter (needsFault s (length out)) (table (planIn s .kinds) (availableFor (planIn s))) out;
+      left = λ s out.
+          lentAfter (needsFault s (length out)) (table (planIn s .kinds) (availableFor (planIn s))) out;
     })
     (ours .flow)
 
@@ -70,7 +81,8 @@ sevenUnweighed test seven = oursBut (verdictBy (λ s. test (unordered s)) seven)
 
 -- such a test is: a single demand exceeds what is available
 unfoldable pub oneDemand : List ℕ → Bool
-oneDemand s = some (fileKinds s) (λ k. some (activityCount s) (λ i. ltb (fileAvailable s k) (fileDemand s k i)))
+oneDemand s =
+    some (fileKinds s) (λ k. some (activityCount s) (λ i. ltb (fileAvailable s k) (fileDemand s k i)))
 
 -- ---- the same five as properties, of planners that may do anything else
 
@@ -81,18 +93,23 @@ abbrev pub RefusesAll : Planner → Type 0
 RefusesAll P = (s : List ℕ) → Refuses P s
 
 abbrev pub AcceptsAll : Planner → Type 0
-AcceptsAll P = (s : List ℕ) → Readable s → Acyclic (FileArc s) → (m : ℕ) × (n : ℕ) × (P .verdict s ≡ verdict.Accepted m n)
+AcceptsAll P =
+    (s : List ℕ) → Readable s → Acyclic (FileArc s)
+    → (m : ℕ) × (n : ℕ) × (P .verdict s ≡ verdict.Accepted m n)
 
 abbrev pub EmptyFlows : Planner → Type 0
 EmptyFlows P = (s : List ℕ) (kind n r : ℕ) → P .flow kind .answer s n ≡ Written r → r ≡ 0
 
 abbrev pub NeedIsAvailable : Planner → Type 0
-NeedIsAvailable P = (s : List ℕ) → Readable s → Acyclic (FileArc s) → (k : ℕ) → k < fileKinds s → quotedNeed P s k ≡ fileAvailable s k
+NeedIsAvailable P =
+    (s : List ℕ) → Readable s → Acyclic (FileArc s)
+    → (k : ℕ) → k < fileKinds s → quotedNeed P s k ≡ fileAvailable s k
 
 -- plans with the same activities and crew are refused alike
 abbrev pub Unweighed : Planner → Type 0
 Unweighed P =
-    (s t : List ℕ) → Readable s → Acyclic (FileArc s) → Readable t → Acyclic (FileArc t) → unordered s ≡ unordered t → Refuses P s → Refuses P t
+    (s t : List ℕ) → Readable s → Acyclic (FileArc s) → Readable t → Acyclic (FileArc t)
+    → unordered s ≡ unordered t → Refuses P s → Refuses P t
 
 -- "Five hollow planners fail."
 pub record HollowFail : Type 0 where
@@ -112,5 +129,6 @@ pub record HollowPlannersFail : Type 0 where
   pub accepts-all : PriceListSentence acceptsAll → ⊥
   pub empty-flow : PriceListSentence emptyFlow → ⊥
   pub available-as-need : PriceListSentence availableAsNeed → ⊥
-  pub seven-unweighed : (test : List ℕ → Bool) (seven : List ℕ → Cause) → PriceListSentence (sevenUnweighed test seven) → ⊥
+  pub seven-unweighed : (test : List ℕ → Bool) (seven : List ℕ → Cause)
+      → PriceListSentence (sevenUnweighed test seven) → ⊥
   pub seven-of-one-demand : (seven : List ℕ → Cause) → PriceListSentence (sevenUnweighed oneDemand seven) → ⊥

@@ -31,9 +31,11 @@ pub record Milestones (P : Planner) (s : List ℕ) (i : ℕ) : Type 0 where
   -- ""Hall handed back" takes no time and nobody."
   pub nobody : (k : ℕ) → k < 8 → fileDemand s k i ≡ 0
   -- and nobody is handed over to it or by it: in the flow of any kind, as its n records say
-  pub takes-over : (k : ℕ) → k < fileKinds s → (out : List ℕ) (n : ℕ) → P .flow (k + 1) .answer s (length out) ≡ Written n
+  pub takes-over : (k : ℕ) → k < fileKinds s
+      → (out : List ℕ) (n : ℕ) → P .flow (k + 1) .answer s (length out) ≡ Written n
       → (u : ℕ) → u < activityCount s + 2 → unitsRead n (P .flow (k + 1) .left s out) u (i + 1) ≡ 0
-  pub hands-over : (k : ℕ) → k < fileKinds s → (out : List ℕ) (n : ℕ) → P .flow (k + 1) .answer s (length out) ≡ Written n
+  pub hands-over : (k : ℕ) → k < fileKinds s
+      → (out : List ℕ) (n : ℕ) → P .flow (k + 1) .answer s (length out) ≡ Written n
       → (v : ℕ) → v < activityCount s + 2 → unitsRead n (P .flow (k + 1) .left s out) (i + 1) v ≡ 0
   -- "A milestone is never at work": in no period of any crew
   pub never : (x w : ℕ → ℕ) → FileCrew s x w → (t : ℕ) → active x w t i ≡ false
@@ -44,14 +46,18 @@ pub record Milestones (P : Planner) (s : List ℕ) (i : ℕ) : Type 0 where
   pub starts : (out : List ℕ) → activityCount s + 1 ≤ length out → (h j : ℕ) → FileArc s h i → FileArc s i j
       → getD (P .starts .left s out) h 0 + fileDuration s h ≤ getD (P .starts .left s out) j 0
   -- "10 is .. given .. for a worked duration above 0 on a milestone"
-  pub ten : (starts worked : List ℕ) → 0 < getD worked i 0 → crewCheckNumbers (P .crew-check s starts worked) ≡ 10 ∷ activityCount s ∷ []
+  pub ten : (starts worked : List ℕ) → 0 < getD worked i 0
+      → crewCheckNumbers (P .crew-check s starts worked) ≡ 10 ∷ activityCount s ∷ []
 
 -- and of an activity i that is none, with demands or without
 pub record NoMilestone (P : Planner) (s : List ℕ) (i : ℕ) : Type 0 where
   -- "Number 10 is still given for a worked 0 on any other activity"
-  pub ten : (starts worked : List ℕ) → getD worked i 0 ≡ 0 → crewCheckNumbers (P .crew-check s starts worked) ≡ 10 ∷ activityCount s ∷ []
+  pub ten : (starts worked : List ℕ) → getD worked i 0 ≡ 0
+      → crewCheckNumbers (P .crew-check s starts worked) ≡ 10 ∷ activityCount s ∷ []
 
 pub record MilestoneSentence (P : Planner) : Type 0 where
   pub refused : (s : List ℕ) → Twelve P s
-  pub milestones : (s : List ℕ) → AreBytes s → Readable s → Acyclic (FileArc s) → (i : ℕ) → i < activityCount s → Milestone s i → Milestones P s i
-  pub others : (s : List ℕ) → AreBytes s → Readable s → Acyclic (FileArc s) → (i : ℕ) → i < activityCount s → (Milestone s i → ⊥) → NoMilestone P s i
+  pub milestones : (s : List ℕ) → AreBytes s → Readable s → Acyclic (FileArc s)
+      → (i : ℕ) → i < activityCount s → Milestone s i → Milestones P s i
+  pub others : (s : List ℕ) → AreBytes s → Readable s → Acyclic (FileArc s)
+      → (i : ℕ) → i < activityCount s → (Milestone s i → ⊥) → NoMilestone P s i

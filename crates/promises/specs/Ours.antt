@@ -30,7 +30,8 @@ ours =
 
 -- its Sheet (document 02, change 1)
 abbrev pub ourSheet : SheetOperation
-ourSheet kind page = record { answer = λ s n. sheetAnswer s kind page n; left = λ s out. sheetOut s kind page out }
+ourSheet kind page =
+    record { answer = λ s n. sheetAnswer s kind page n; left = λ s out. sheetOut s kind page out }
 
 -- its Trim (change 7)
 abbrev pub ourTrim : Writing

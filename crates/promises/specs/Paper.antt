@@ -55,7 +55,8 @@ SomeGives P s numbers =
     ⊎ (((n : ℕ) × (outputNumbers (P .starts .answer s n) ≡ numbers))
     ⊎ (((n : ℕ) × (outputNumbers (P .overload .answer s n) ≡ numbers))
     ⊎ (((kind : ℕ) × (n : ℕ) × (outputNumbers (P .flow kind .answer s n) ≡ numbers))
-    ⊎ ((starts : List ℕ) × (worked : List ℕ) × (crewCheckNumbers (P .crew-check s starts worked) ≡ numbers))))))
+    ⊎ ((starts : List ℕ) × (worked : List ℕ)
+    × (crewCheckNumbers (P .crew-check s starts worked) ≡ numbers))))))
 
 -- "lowest activity before itself there", where a circle is: activity i + 1
 pub record Circles (P : Planner) (s : List ℕ) : Type 0 where
@@ -80,17 +81,20 @@ paperRule w i j = w i
 -- ---- earliest starts, as Starts writes them to what it is lent: number i is the start of activity i + 1,
 -- and number m that of the end
 
--- "Earliest starts are the least that keep all arcs, and the end still follows the
--- last finish." (02, change 5)
+-- "Earliest starts are the least that keep all arcs,
+-- and the end still follows the last finish." (02, change 5)
 pub record EarliestStarts (P : Planner) (s : List ℕ) (rule : Rule) (out : List ℕ) : Type 0 where
   -- "Starts: m+1 numbers, activities 1 to m and then the end."
   pub answers : P .starts .answer s (length out) ≡ Written (activityCount s + 1)
   -- "the end starts at the largest finish of all, or at 0."
-  pub end : LargestOr0 (FinishOf (λ i. i < activityCount s) (at (P .starts .left s out)) (fileDuration s)) (getD (P .starts .left s out) (activityCount s) 0)
+  pub end : LargestOr0 (FinishOf (λ i. i < activityCount s) (at (P .starts .left s out)) (fileDuration s))
+      (getD (P .starts .left s out) (activityCount s) 0)
   -- "Every schedule that keeps the arcs with the file's durations starts each no earlier.": nor the end, and
   -- the starts themselves are such a schedule
-  pub least : (x : ℕ → ℕ) → Keeps (FileArc s) x (rule (fileDuration s)) → (i : ℕ) → i < activityCount s → getD (P .starts .left s out) i 0 ≤ x i
-  pub end-least : (x : ℕ → ℕ) → Keeps (FileArc s) x (rule (fileDuration s)) → (last : ℕ) → ((i : ℕ) → i < activityCount s → x i + fileDuration s i ≤ last)
+  pub least : (x : ℕ → ℕ) → Keeps (FileArc s) x (rule (fileDuration s))
+      → (i : ℕ) → i < activityCount s → getD (P .starts .left s out) i 0 ≤ x i
+  pub end-least : (x : ℕ → ℕ) → Keeps (FileArc s) x (rule (fileDuration s))
+      → (last : ℕ) → ((i : ℕ) → i < activityCount s → x i + fileDuration s i ≤ last)
       → getD (P .starts .left s out) (activityCount s) 0 ≤ last
   pub keep : Keeps (FileArc s) (at (P .starts .left s out)) (rule (fileDuration s))
   -- "Numbers go to the front of the lent 32-bit slice, ..; the rest is unchanged"
@@ -126,20 +130,24 @@ pub record FirstOverload (s starts worked : List ℕ) (t k : ℕ) : Type 0 where
 
 pub record CrewCheck (P : Planner) (s : List ℕ) (rule : Rule) (starts worked : List ℕ) : Type 0 where
   -- "lists not m long, or a worked duration 0 | 10 | m"; a milestone's is 0, and 10 is given where it is not
-  pub ten : (crewCheckNumbers (P .crew-check s starts worked) ≡ 10 ∷ activityCount s ∷ []) ↔ (RightLists s starts worked → ⊥)
+  pub ten : (crewCheckNumbers (P .crew-check s starts worked) ≡ 10 ∷ activityCount s ∷ [])
+      ↔ (RightLists s starts worked → ⊥)
   -- "fits": exactly when every arc is kept, and no period of any kind is over
-  pub fits : RightLists s starts worked → (P .crew-check s starts worked ≡ Found Fits) ↔ (Keeps (FileArc s) (at starts) (rule (at worked)) × NeverOver s starts worked)
+  pub fits : RightLists s starts worked
+      → (P .crew-check s starts worked ≡ Found Fits)
+      ↔ (Keeps (FileArc s) (at starts) (rule (at worked)) × NeverOver s starts worked)
   -- "find the first arc i to j, by from and then to, with start of i plus its duration greater than the start
   -- of j.": by the rule, that is
   pub broken : RightLists s starts worked → (i j : ℕ)
-      → (P .crew-check s starts worked ≡ Found (Broken (i + 1) (j + 1))) ↔ FirstBroken (FileArc s) (at starts) (rule (at worked)) i j
+      → (P .crew-check s starts worked ≡ Found (Broken (i + 1) (j + 1)))
+      ↔ FirstBroken (FileArc s) (at starts) (rule (at worked)) i j
   -- "If none, find the first period, then lowest kind, whose occupied sum exceeds the availability."
   pub overload : RightLists s starts worked → (t k : ℕ)
-      → (P .crew-check s starts worked ≡ Found (Overload t (k + 1))) ↔ (Keeps (FileArc s) (at starts) (rule (at worked)) × FirstOverload s starts worked t k)
+      → (P .crew-check s starts worked ≡ Found (Overload t (k + 1)))
+      ↔ (Keeps (FileArc s) (at starts) (rule (at worked)) × FirstOverload s starts worked t k)
 
--- ---- the load of a period: "its steps shall follow the text of section 1 of source document 000: started by
--- t−1, then finished no sooner than t, then added kind by kind"
--- (02, change 4)
+-- ---- the load of a period: "its steps shall follow the text of section 1 of source document 000: started
+-- by t−1, then finished no sooner than t, then added kind by kind" (02, change 4)
 
 -- THE STEPS of a planner: a test of a start and a time; one of a start, a worked duration and a period; and
 -- the load that is so added, by a plan, starts, worked durations and a period, a number for each kind. No
@@ -151,28 +159,37 @@ pub record LoadSteps : Type 0 where
 
 -- activity i + 1 passes both tests in period t, the one by t − 1 and then the one by t
 abbrev pub passes : LoadSteps → List ℕ → List ℕ → ℕ → ℕ → Bool
-passes L starts worked t i = L .started-by (at starts i) (t - 1) && L .finished-no-sooner (at starts i) (at worked i) t
+passes L starts worked t i =
+    L .started-by (at starts i) (t - 1) && L .finished-no-sooner (at starts i) (at worked i) t
 
 pub record PeriodLoad (L : LoadSteps) (s starts worked : List ℕ) (t : ℕ) : Type 0 where
   -- "A(s, t) = {i ∈ N : s_i ≤ (t − 1)
-  pub started : (i : ℕ) → i < activityCount s → (L .started-by (at starts i) (t - 1) ≡ true) ↔ (at starts i ≤ t - 1)
+  pub started : (i : ℕ) → i < activityCount s
+      → (L .started-by (at starts i) (t - 1) ≡ true) ↔ (at starts i ≤ t - 1)
   -- ∧ s_i + d_i ≥ t}, the activities that are active during period t" (000, section 1)
-  pub finished : (i : ℕ) → i < activityCount s → (L .finished-no-sooner (at starts i) (at worked i) t ≡ true) ↔ (t ≤ at starts i + at worked i)
+  pub finished : (i : ℕ) → i < activityCount s
+      → (L .finished-no-sooner (at starts i) (at worked i) t ≡ true) ↔ (t ≤ at starts i + at worked i)
   -- "an activity passes both tests exactly when it is at work,
-  pub at-work : (i : ℕ) → i < activityCount s → passes L starts worked t i ≡ active (at starts) (at worked) t i
+  pub at-work : (i : ℕ) → i < activityCount s
+      → passes L starts worked t i ≡ active (at starts) (at worked) t i
   -- and the load so added
-  pub added : (k : ℕ) → k < fileKinds s → at (L .load s starts worked t) k ≡ sum (activityCount s) (λ i. cond (passes L starts worked t i) (fileDemand s k i) 0)
+  pub added : (k : ℕ) → k < fileKinds s
+      → at (L .load s starts worked t) k
+      ≡ sum (activityCount s) (λ i. cond (passes L starts worked t i) (fileDemand s k i) 0)
   -- is the paper's sum for every period and kind": what is occupied, by which the crew check answers
   -- (`IsOver`) and of which demand 3 speaks
-  pub paper-sum : (k : ℕ) → k < fileKinds s → at (L .load s starts worked t) k ≡ crewOccupies s k (at starts) (at worked) t
-  -- "Sums never wrap.": neither the load, nor start plus duration, which are
-  -- 32-bit, in the 64 bits of the code
+  pub paper-sum : (k : ℕ) → k < fileKinds s
+      → at (L .load s starts worked t) k ≡ crewOccupies s k (at starts) (at worked) t
+  -- "Sums never wrap.": neither the load, nor start plus duration, which are 32-bit,
+  -- in the 64 bits of the code
   pub load-fits : (k : ℕ) → k < fileKinds s → at (L .load s starts worked t) k < 2 ^ 64
   pub finish-fits : (i : ℕ) → at starts i < 2 ^ 32 → at worked i < 2 ^ 32 → at starts i + at worked i < 2 ^ 64
 
 -- "for all starts and durations the crew check takes", in every period t = 1, 2, ..
 abbrev pub LoadSentence : LoadSteps → Type 0
-LoadSentence L = (s : List ℕ) → AreBytes s → Readable s → (starts worked : List ℕ) → RightLists s starts worked → (t : ℕ) → 1 ≤ t → PeriodLoad L s starts worked t
+LoadSentence L =
+    (s : List ℕ) → AreBytes s → Readable s → (starts worked : List ℕ) → RightLists s starts worked
+    → (t : ℕ) → 1 ≤ t → PeriodLoad L s starts worked t
 
 -- ---- the sentence
 
@@ -181,13 +198,15 @@ pub record PaperTimes (P : Planner) (s : List ℕ) : Type 0 where
   pub starts : (out : List ℕ) → activityCount s + 1 ≤ length out → EarliestStarts P s paperRule out
   -- "An activity starts at the largest finish (start plus duration) of those before it, or at 0"
   pub largest : (out : List ℕ) → activityCount s + 1 ≤ length out → (j : ℕ) → j < activityCount s
-      → LargestOr0 (FinishOf (λ i. Before (FileArc s) i j) (at (P .starts .left s out)) (fileDuration s)) (getD (P .starts .left s out) j 0)
+      → LargestOr0 (FinishOf (λ i. Before (FileArc s) i j) (at (P .starts .left s out)) (fileDuration s))
+      (getD (P .starts .left s out) j 0)
   pub crews : (starts worked : List ℕ) → CrewCheck P s paperRule starts worked
 
 pub record Paper (P : Planner) (s : List ℕ) : Type 0 where
   -- "For kind k, a flow gives each pair (i, j) a whole number of units (000, equations 1 and 2).": the
   -- records that Flow writes, read back
-  pub flows : (k : ℕ) (out : List ℕ) (n : ℕ) → P .flow (k + 1) .answer s (length out) ≡ Written n → FileFlow s k (unitsRead n (P .flow (k + 1) .left s out))
+  pub flows : (k : ℕ) (out : List ℕ) (n : ℕ) → P .flow (k + 1) .answer s (length out) ≡ Written n
+      → FileFlow s k (unitsRead n (P .flow (k + 1) .left s out))
   pub starts : (out : List ℕ) → activityCount s + 1 ≤ length out → EarliestStarts P s (arcWeight s) out
   pub crews : (starts worked : List ℕ) → CrewCheck P s (arcWeight s) starts worked
   -- "Demand 2 holds them and the crew check to the paper where every wait is 0." (02, change 5)

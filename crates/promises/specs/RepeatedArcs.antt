@@ -19,7 +19,9 @@ pub record ArcsOnce (P : Planner) (s : List ℕ) : Type 0 where
   -- the same type is now refused.": where two records of one type of arc (3 or above) name one pair, every
   -- operation gives one of the reader's numbers, 13 or what is found before it. So of a plan that is read, an
   -- arc is gone with its record
-  pub once : (type i j : ℕ) → 3 ≤ type → (a b : Names s (recordCount s) type i j) → a .place < b .place → (n : ℕ) × (values : List ℕ) × OneOf reading n × EveryGives P s (n ∷ values)
+  pub once : (type i j : ℕ) → 3 ≤ type
+      → (a b : Names s (recordCount s) type i j) → a .place < b .place
+      → (n : ℕ) × (values : List ℕ) × OneOf reading n × EveryGives P s (n ∷ values)
 
 abbrev pub ArcsOnceSentence : Planner → Type 0
 ArcsOnceSentence P = (s : List ℕ) → ArcsOnce P s

@@ -8,7 +8,8 @@ use mathlib.Core.Logic.{_↔_}
 use Prim.Native.Nat.{ℕ, _<_}
 use lib.ListN.{length}
 use Rattle.plan.specs.Records.{activityCount}
-use Rattle.plan.specs.Meaning.{Readable, fileDuration, fileDemand, fileKinds, fileAvailable, JobArc, ExtraArc, fileWait}
+use Rattle.plan.specs.Meaning.{Readable, fileDuration, fileDemand, fileKinds, fileAvailable}
+use Rattle.plan.specs.Meaning.{JobArc, ExtraArc, fileWait}
 use Rattle.promises.specs.Planner.{Planner, Writing}
 
 -- the same activities, crew and job arcs
@@ -32,12 +33,15 @@ pub record SamePlan (s t : List ℕ) : Type 0 where
 abbrev pub SameWaits : List ℕ → List ℕ → Type 0
 SameWaits s t = (i j : ℕ) → fileWait s i j ≡ fileWait t i j
 
--- an operation that writes, whatever it is lent, answers the same of both files, and
--- leaves the same, byte for byte
+-- an operation that writes, whatever it is lent, answers the same of both files,
+-- and leaves the same, byte for byte
 abbrev pub WritesAlike : Writing → List ℕ → List ℕ → Type 0
-WritesAlike O s t = (out : List ℕ) → (O .answer s (length out) ≡ O .answer t (length out)) × (O .left s out ≡ O .left t out)
+WritesAlike O s t =
+    (out : List ℕ)
+    → (O .answer s (length out) ≡ O .answer t (length out)) × (O .left s out ≡ O .left t out)
 
 -- "Which such flow is free, but plans with the same .. get equal flows.": whichever kind is asked for, Flow
 -- answers and leaves the same
 abbrev pub EqualFlows : Planner → Type 0
-EqualFlows P = (s t : List ℕ) → Readable s → Readable t → SamePlan s t → (kind : ℕ) → WritesAlike (P .flow kind) s t
+EqualFlows P =
+    (s t : List ℕ) → Readable s → Readable t → SamePlan s t → (kind : ℕ) → WritesAlike (P .flow kind) s t

@@ -1,9 +1,9 @@
--- CHANGE 7 of document 02, "Trim the extra arcs", about a planner P and its operation T: `TrimSentence P
--- T`. Ours keeps it: `trim-keeps` of proofs/TrimHolds.antt. What is written is said by its bytes, which are
--- records of the given file in their order (`Selected` of plan's Filtered), by what a file of these bytes
--- says (plan's Meaning), and by what Verdict says of it and of other files. That every choice of arcs can
--- be left out of a readable file, is plan's law of a filtered file (proofs/Filtered.antt). Quotations are
--- from document 02, change 7.
+-- CHANGE 7 of document 02, "Trim the extra arcs", about a planner P and its operation T:
+-- `TrimSentence P T`. Ours keeps it: `trim-keeps` of proofs/TrimHolds.antt. What is written is said by its
+-- bytes, which are records of the given file in their order (`Selected` of plan's Filtered), by what a file
+-- of these bytes says (plan's Meaning), and by what Verdict says of it and of other files. That every choice
+-- of arcs can be left out of a readable file, is plan's law of a filtered file (proofs/Filtered.antt).
+-- Quotations are from document 02, change 7.
 use mathlib.Core.Path.{_≡_}
 use mathlib.Core.List.{List, [], _∷_, _++_}
 use mathlib.Core.Logic.{_⊎_, _↔_}
@@ -68,18 +68,25 @@ pub record Trimmed (P : Planner) (s t : List ℕ) : Type 0 where
   pub leaves : LeavesOut s t
   -- "Each arc with wait 0 is taken out if the plan then left is still accepted": and only then. (There is a
   -- file that says that plan, and whichever does, decides.)
-  pub then-left : (i j : ℕ) → ExtraArc s i j → extraWait s i j ≡ 0 → (u : List ℕ) × AreBytes u × Readable u × ThenLeft s t i j u
-  pub goes : (i j : ℕ) → ExtraArc s i j → extraWait s i j ≡ 0 → (u : List ℕ) → AreBytes u → Readable u → ThenLeft s t i j u → Accepts P u → ExtraArc t i j → ⊥
-  pub stays : (i j : ℕ) → ExtraArc s i j → extraWait s i j ≡ 0 → (u : List ℕ) → AreBytes u → Readable u → ThenLeft s t i j u → Overloads P u → ExtraArc t i j
+  pub then-left : (i j : ℕ) → ExtraArc s i j → extraWait s i j ≡ 0
+      → (u : List ℕ) × AreBytes u × Readable u × ThenLeft s t i j u
+  pub goes : (i j : ℕ) → ExtraArc s i j → extraWait s i j ≡ 0
+      → (u : List ℕ) → AreBytes u → Readable u → ThenLeft s t i j u
+      → Accepts P u → ExtraArc t i j → ⊥
+  pub stays : (i j : ℕ) → ExtraArc s i j → extraWait s i j ≡ 0
+      → (u : List ℕ) → AreBytes u → Readable u → ThenLeft s t i j u
+      → Overloads P u → ExtraArc t i j
   -- "Wanted of it: it is accepted,
   pub accepted : Accepts P t
   -- and no plan made from it by leaving out one or more extra arcs of wait 0 is accepted." (And each of these
   -- arcs can be left out by itself.)
-  pub one-less : (i j : ℕ) → ExtraArc t i j → extraWait t i j ≡ 0 → (u : List ℕ) × AreBytes u × Readable u × LeavesOut t u × Gone t u i j
-  pub least : (u : List ℕ) → AreBytes u → Readable u → LeavesOut t u → (i j : ℕ) → Gone t u i j → Overloads P u
+  pub one-less : (i j : ℕ) → ExtraArc t i j → extraWait t i j ≡ 0
+      → (u : List ℕ) × AreBytes u × Readable u × LeavesOut t u × Gone t u i j
+  pub least : (u : List ℕ) → AreBytes u → Readable u → LeavesOut t u
+      → (i j : ℕ) → Gone t u i j → Overloads P u
 
--- what is written: "to the front of the lent bytes", "its record count is returned and the
--- bytes after it are unchanged"
+-- what is written: "to the front of the lent bytes",
+-- "its record count is returned and the bytes after it are unchanged"
 pub record Trims (P : Planner) (T : Writing) (s out : List ℕ) : Type 0 where
   pub count : ℕ
   pub answers : T .answer s (length out) ≡ Written count
@@ -88,7 +95,10 @@ pub record Trims (P : Planner) (T : Writing) (s out : List ℕ) : Type 0 where
   pub rest : drop (24 * count) (T .left s out) ≡ drop (24 * count) out
   pub room : length (T .left s out) ≡ length out
   -- so trimming it again changes nothing
-  pub again : (more : List ℕ) → let t = take (24 * count) (T .left s out) in length t ≤ length more → (T .answer t (length more) ≡ Written count) × (T .left t more ≡ t ++ drop (length t) more)
+  pub again : (more : List ℕ)
+      → let t = take (24 * count) (T .left s out) in
+      length t ≤ length more
+      → (T .answer t (length more) ≡ Written count) × (T .left t more ≡ t ++ drop (length t) more)
 
 -- ---- the sentence
 
@@ -98,10 +108,14 @@ pub record TrimSentence (P : Planner) (T : Writing) : Type 0 where
   pub one : AnswersBy (opening ++ 9 ∷ 7 ∷ []) T
   pub kept : KeepsLent T
   -- the numbers of the opening it gives exactly where Verdict gives them, with the same values
-  pub opens : (s : List ℕ) (n : ℕ) (c : Cause) → OneOf opening (causeNumber c) → (P .verdict s ≡ verdict.Refused c) ↔ (T .answer s n ≡ Refused c)
-  -- "9 comes after the circles and needs the given file's length; 7 comes last.", and is
-  -- Verdict's, with the same set
-  pub short : (s : List ℕ) → Readable s → Acyclic (FileArc s) → (n : ℕ) → n < length s → outputNumbers (T .answer s n) ≡ 9 ∷ length s ∷ []
-  pub overloaded : (s : List ℕ) → Readable s → Acyclic (FileArc s) → (n : ℕ) → length s ≤ n → (c : Cause) → P .verdict s ≡ verdict.Refused c → T .answer s n ≡ Refused c
+  pub opens : (s : List ℕ) (n : ℕ) (c : Cause) → OneOf opening (causeNumber c)
+      → (P .verdict s ≡ verdict.Refused c) ↔ (T .answer s n ≡ Refused c)
+  -- "9 comes after the circles and needs the given file's length; 7 comes last.",
+  -- and is Verdict's, with the same set
+  pub short : (s : List ℕ) → Readable s → Acyclic (FileArc s) → (n : ℕ) → n < length s
+      → outputNumbers (T .answer s n) ≡ 9 ∷ length s ∷ []
+  pub overloaded : (s : List ℕ) → Readable s → Acyclic (FileArc s) → (n : ℕ) → length s ≤ n
+      → (c : Cause) → P .verdict s ≡ verdict.Refused c → T .answer s n ≡ Refused c
   -- "Trim takes an accepted plan"
-  pub trims : (s : List ℕ) → AreBytes s → Accepts P s → (out : List ℕ) → length s ≤ length out → Trims P T s out
+  pub trims : (s : List ℕ) → AreBytes s → Accepts P s
+      → (out : List ℕ) → length s ≤ length out → Trims P T s out

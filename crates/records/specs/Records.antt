@@ -11,13 +11,13 @@ unfoldable pub bytes : ℕ → ℕ → List ℕ
 bytes zero x = []
 bytes (suc n) x = x % 256 ∷ bytes n (x / 256)
 
--- "Flow record: byte 0 is 33, 1 kind, 2 from, 3 to, 4–7 units, 8 the added mark." "Bytes with
--- no field are spare and zero."
+-- "Flow record: byte 0 is 33, 1 kind, 2 from, 3 to, 4–7 units, 8 the added mark."
+-- "Bytes with no field are spare and zero."
 unfoldable pub flowRecord : ℕ → ℕ → ℕ → ℕ → ℕ → List ℕ
 flowRecord kind from to units mark = 33 ∷ kind ∷ from ∷ to ∷ bytes 4 units ++ mark ∷ replicate 15 0
 
--- of flow records one after another, what record i says, read back from the bytes: its ends,
--- its units and its added mark
+-- of flow records one after another, what record i says, read back from the bytes:
+-- its ends, its units and its added mark
 abbrev pub fromOf : List ℕ → ℕ → ℕ
 fromOf flow i = byte flow (24 * i + 2)
 
@@ -30,8 +30,8 @@ unitsOf flow i = field flow (24 * i + 4) 4
 abbrev pub addedOf : List ℕ → ℕ → ℕ
 addedOf flow i = byte flow (24 * i + 8)
 
--- "Overload record: byte 0 is 32, 1 kind, 2 size, 4–7 need, 8–15 the set." "Bytes with
--- no field are spare and zero."
+-- "Overload record: byte 0 is 32, 1 kind, 2 size, 4–7 need, 8–15 the set."
+-- "Bytes with no field are spare and zero."
 unfoldable pub overloadRecord : ℕ → ℕ → ℕ → ℕ → List ℕ
 overloadRecord kind size need set = 32 ∷ kind ∷ size ∷ 0 ∷ bytes 4 need ++ bytes 8 set ++ replicate 8 0
 

@@ -35,14 +35,18 @@ refusedWord = 114 ∷ 101 ∷ 102 ∷ 117 ∷ 115 ∷ 101 ∷ 100 ∷ []
 -- ---- an accepted plan of m activities and n kinds, with its needs, availabilities and starts
 
 unfoldable pub needLines : ℕ → List ℕ → List ℕ → List ℕ
-needLines n needs available = joined (λ k. lineOf needWord ((k + 1) ∷ getD needs k 0 ∷ getD available k 0 ∷ [])) n
+needLines n needs available =
+    joined (λ k. lineOf needWord ((k + 1) ∷ getD needs k 0 ∷ getD available k 0 ∷ [])) n
 
 unfoldable pub startLines : ℕ → List ℕ → List ℕ
 startLines m starts = joined (λ i. lineOf startWord ((i + 1) ∷ getD starts i 0 ∷ [])) m
 
 unfoldable pub headLines : ℕ → ℕ → List ℕ → List ℕ → List ℕ → List ℕ
 headLines m n needs available starts =
-    lineOf planWord (m ∷ n ∷ []) ++ needLines n needs available ++ startLines m starts ++ lineOf endWord (getD starts m 0 ∷ [])
+    lineOf planWord (m ∷ n ∷ [])
+    ++ needLines n needs available
+    ++ startLines m starts
+    ++ lineOf endWord (getD starts m 0 ∷ [])
 
 -- so many bytes have room for these lines
 abbrev pub headRoom : ℕ
@@ -55,14 +59,16 @@ flowNumbers r = byte r 1 ∷ byte r 2 ∷ byte r 3 ∷ field r 4 4 ∷ byte r 8 
 unfoldable pub flowLines : ℕ → List ℕ → List ℕ
 flowLines n records = joined (λ i. lineOf flowWord (flowNumbers (drop (24 * i) records))) n
 
--- ---- "A refused plan prints one line: `refused`, the number, then nothing (1), place (2–4), activity (5,
--- 6), or kind, need and members ascending (7).
+-- ---- "A refused plan prints one line: `refused`, the number, then nothing (1), place (2–4),
+-- activity (5, 6), or kind, need and members ascending (7).
 -- A number added later is followed by what it returns."
 
 -- whatever the cause: its number, its plain values, and the members of its set, as activities. (Where it
 -- shows no set, there are no members: `plain-numbers` of proofs/RefusalLine.antt.)
 abbrev pub refusalNumbers : Refusal → List ℕ
-refusalNumbers r = r .number ∷ (take (r .values) (r .first ∷ r .second ∷ []) ++ map suc (members elements (numberOf (r .set))))
+refusalNumbers r =
+    r .number
+    ∷ (take (r .values) (r .first ∷ r .second ∷ []) ++ map suc (members elements (numberOf (r .set))))
 
 abbrev pub refusedNumbers : Cause → List ℕ
 refusedNumbers c = refusalNumbers (refusalOf c)

@@ -32,7 +32,8 @@ textRoom = headRoom + 8 * flowRoom + 78
 -- an accepted plan: its first lines, then those of each kind's flow
 unfoldable pub planLines : List ℕ → List ℕ
 planLines s =
-    headLines (planIn s .count) (planIn s .kinds) (needNumbers s) (planIn s .available) (startNumbers s) ++ joined (kindLines (planIn s)) (planIn s .kinds)
+    headLines (planIn s .count) (planIn s .kinds) (needNumbers s) (planIn s .available) (startNumbers s)
+    ++ joined (kindLines (planIn s)) (planIn s .kinds)
 
 -- the report of a file's bytes, by what Verdict answers
 abbrev pub reportBy : Decision → List ℕ → List ℕ

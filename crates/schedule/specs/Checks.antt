@@ -12,9 +12,8 @@ use Rattle.schedule.specs.Starts.{endOf}
 use Rattle.schedule.specs.declared.Checked.{Checked}
 use Rattle.schedule.specs.declared.Checked.the-variants.{Fits, Broken, Overload}
 
--- ---- "find the first arc i to j, by from and then to, with start of i plus its duration
--- greater than the start of j",
--- where "start plus duration plus wait" counts (02, change 5)
+-- ---- "find the first arc i to j, by from and then to, with start of i plus its duration greater than
+-- the start of j", where "start plus duration plus wait" counts (02, change 5)
 
 -- the arc from i to j is there, and is broken
 abbrev pub breaks : Network → Schedule → ℕ → ℕ → Bool
@@ -81,8 +80,8 @@ checkOf g c =
     (Broken (brokenFrom g (c .start) + 1) (brokenTo g (c .start) (brokenFrom g (c .start)) + 1))
     (cond (ltb 0 (firstPeriod c)) (Overload (firstPeriod c) (lowestKind c (firstPeriod c) + 1)) Fits)
 
--- ---- what the answers mean, without any search (proofs/Answers.antt shows it); the first broken
--- arc is flow_math's FirstBroken
+-- ---- what the answers mean, without any search (proofs/Answers.antt shows it);
+-- the first broken arc is flow_math's FirstBroken
 
 -- in no period at all is more of a kind occupied than there is
 abbrev pub Enough : Work → Type 0

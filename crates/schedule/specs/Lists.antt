@@ -9,8 +9,8 @@ use lib.ListN.{getD}
 abbrev pub at : List ℕ → ℕ → ℕ
 at xs i = getD xs i 0
 
--- "the largest .. of those .., or .. 0": x is the largest of the numbers that P
--- picks, or 0 where it picks none
+-- "the largest .. of those .., or .. 0":
+-- x is the largest of the numbers that P picks, or 0 where it picks none
 pub record LargestOr0 (P : ℕ → Type 0) (x : ℕ) : Type 0 where
   pub upper : (y : ℕ) → P y → y ≤ x
   pub reached : (x ≡ 0) ⊎ P x

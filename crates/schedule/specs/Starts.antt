@@ -9,8 +9,8 @@ use Rattle.schedule.specs.Network.{Network, Schedule}
 unfoldable pub asked : Network → Schedule → ℕ → ℕ
 asked g s j = maximum (g .elements) (λ i. let x = s i + g .weight i j in cond (g .arc i j) x 0)
 
--- the starts after r rounds: all 0 at first, and in each round what the arcs ask by
--- the starts of the round before
+-- the starts after r rounds: all 0 at first,
+-- and in each round what the arcs ask by the starts of the round before
 unfoldable pub rounds : ℕ → Network → Schedule
 rounds zero g j = zero
 rounds (suc r) g j = asked g (rounds r g) j

@@ -48,4 +48,5 @@ pub record Sound (n : ℕ) (b : ℕ → ℕ → Bool) (d : ℕ → ℕ) (x : ℕ
 -- the promise of `quote`, for every plan
 abbrev pub SoundQuote : ℕ → Order → List ℕ → Type 0
 SoundQuote m o demand =
-    Sound elements (isBefore o) (asked demand) (quoteOf m o demand .need) (member (quoteOf m o demand .set)) (handed (flowOf m o demand))
+    Sound elements (isBefore o) (asked demand)
+    (quoteOf m o demand .need) (member (quoteOf m o demand .set)) (handed (flowOf m o demand))

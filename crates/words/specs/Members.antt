@@ -13,8 +13,8 @@ unfoldable pub count : ℕ → (ℕ → Bool) → ℕ
 count zero p = 0
 count (suc n) p = tally (p 0) + count n (λ i. p (suc i))
 
--- the first i below n that has p i; n where none has (`elim`, so that antt
--- computes no further than the first)
+-- the first i below n that has p i; n where none has
+-- (`elim`, so that antt computes no further than the first)
 unfoldable pub first : ℕ → (ℕ → Bool) → ℕ
 first zero p = 0
 first (suc n) p = elim (p 0) [ true ↦ 0 | false ↦ suc (first n (λ i. p (suc i))) ]

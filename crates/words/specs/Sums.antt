@@ -1,5 +1,5 @@
--- The sum and the largest of finitely many numbers. The last is outside, so that
--- nearly every law is one line.
+-- The sum and the largest of finitely many numbers. The last is outside,
+-- so that nearly every law is one line.
 use Prim.Native.Nat.{ℕ, zero, suc, _+_, max}
 
 -- f 0 + f 1 + .. + f (n - 1)

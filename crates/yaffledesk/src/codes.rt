@@ -1,7 +1,8 @@
 // Answers as numbers.
 ghost use mathlib.Core.Path.{_≡_};
 ghost use Prim.Native.Nat.{_<_, _%_, _^_};
-ghost use Rattle.yaffledesk.specs.Codes.{packed, refusalCode, causeCode, verdictCode, outputCode, foundCode, crewCheckCode, causeWord, shownWord};
+ghost use Rattle.yaffledesk.specs.Codes.{packed, refusalCode, causeCode, verdictCode, outputCode, foundCode};
+ghost use Rattle.yaffledesk.specs.Codes.{crewCheckCode, causeWord, shownWord};
 use planner::Cause;
 use planner::CrewChecked;
 use planner::Decision;

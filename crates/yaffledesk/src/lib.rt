@@ -74,7 +74,8 @@ pub extern "C" fn yaffledesk_sheet(plan: &[u8], kind: u64, page: u64, out: &mut 
     output_code(planner::sheet(plan, kind as usize, page as usize, out))
 }
 
-// The plan without the extra arcs of wait 0 that it can do without: how many records it has, where they are written to the front of `out`.
+// The plan without the extra arcs of wait 0 that it can do without: how many records it has, where they are written to
+// the front of `out`.
 #[no_mangle]
 pub extern "C" fn yaffledesk_trim(plan: &[u8], out: &mut [u8]) -> u64
     ensures { λ r. ⌜ r ≡ outputCode (trimAnswer (now (plan .entry)) (length (now (out .entry)))) ⌝ }
@@ -92,10 +93,12 @@ pub extern "C" fn yaffledesk_overload(plan: &[u8], out: &mut [u8]) -> u64
     output_code(planner::overload(plan, out))
 }
 
-// Crew check: 0 where the crew fits; 254 for a broken arc, with from + 256 * to; 255 for an overload, with kind + 256 * period.
+// Crew check: 0 where the crew fits; 254 for a broken arc, with from + 256 * to; 255 for an overload, with
+// kind + 256 * period.
 #[no_mangle]
 pub extern "C" fn yaffledesk_crew_check(plan: &[u8], starts: &[u32], durations: &[u32]) -> u64
-    ensures { λ r. ⌜ r ≡ crewCheckCode (crewCheckAnswer (now (plan .entry)) (now (starts .entry)) (now (durations .entry))) ⌝ }
+    ensures { λ r. ⌜ r
+        ≡ crewCheckCode (crewCheckAnswer (now (plan .entry)) (now (starts .entry)) (now (durations .entry))) ⌝ }
 {
     crew_check_code(planner::crew_check(plan, starts, durations))
 }

@@ -6,7 +6,8 @@ use planner::Cause;
 use planner::Output;
 use report_lines::REPORT_BYTES;
 
-// The report of a plan's bytes, to the front of the lent bytes. Room for the longest report is asked for first: how long this one is shows only when it is written.
+// The report of a plan's bytes, to the front of the lent bytes. Room for the longest report is asked for first: how
+// long this one is shows only when it is written.
 pub fn write_report(plan: &[u8], out: &mut [u8]) -> Output
     ensures { λ r. ⌜ r ≡ reportAnswer (now (plan .entry)) (length (now (out .entry))) ⌝ }
     ensures { λ _. ⌜ now (out .exit) ≡ reportOut (now (plan .entry)) (now (out .entry)) ⌝ }

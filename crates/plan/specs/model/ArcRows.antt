@@ -13,7 +13,8 @@ use Rattle.plan.specs.Records.{recordAt, recordCount, typeAt, waitIn}
 
 -- a record whose arc can be looked up and stored: its ends are elements, counted from 1
 abbrev pub ArcRecord : List ℕ → Type 0
-ArcRecord r = (24 ≤ length r) × (1 ≤ byte r 1) × (byte r 1 ≤ elements) × (1 ≤ byte r 2) × (byte r 2 ≤ elements)
+ArcRecord r =
+    (24 ≤ length r) × (1 ≤ byte r 1) × (byte r 1 ≤ elements) × (1 ≤ byte r 2) × (byte r 2 ≤ elements)
 
 -- arcs as a table of sets: a record puts (to - 1) into the set in row (from - 1)
 unfoldable pub withArc : List ℕ → List ℕ → List ℕ

@@ -35,7 +35,8 @@ putArc type t i rows = arcsAfter type (recordAt t i) rows
 -- the cause of record i of t, whose first record is at a place of the file, as an arc of a type among m
 -- activities; the earlier records are those of t
 abbrev pub arcIn : ℕ → ℕ → ℕ → List ℕ → ℕ → Answer
-arcIn type place m t i = rule (arcCause type (place + i) m (recordAt t i)) (not (arcRepeats t i)) (RepeatedArc (place + i))
+arcIn type place m t i =
+    rule (arcCause type (place + i) m (recordAt t i)) (not (arcRepeats t i)) (RepeatedArc (place + i))
 
 -- the first cause among its first n records
 abbrev pub arcsCause : ℕ → ℕ → ℕ → List ℕ → ℕ → Answer
@@ -84,4 +85,7 @@ unfoldable pub fileOf : ℕ → List ℕ → Reading
 fileOf n s =
     let m = leading 1 n s in
     unlessRefused (firstRefusal m (λ i. activityCause i (recordAt s i)))
-    (restOf m (upto (putDuration s) m (replicate elements 0)) (upto (putDemands s) m (replicate (8 * elements) 0)) (n - m) (drop (24 * m) s))
+    (restOf m
+    (upto (putDuration s) m (replicate elements 0))
+    (upto (putDemands s) m (replicate (8 * elements) 0))
+    (n - m) (drop (24 * m) s))

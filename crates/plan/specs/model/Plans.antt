@@ -17,7 +17,9 @@ durationsOf s = table elements (λ i. cond (ltb i (activityCount s)) (fileDurati
 -- the demand of element i for kind k + 1 stands at elements * k + i. (`demandsOf` of Records, which the crew
 -- record is checked by, goes by the activity records.)
 unfoldable pub demandTable : List ℕ → List ℕ
-demandTable s = table (8 * elements) (λ x. cond (ltb (x % elements) (activityCount s)) (fileDemand s (x / elements) (x % elements)) 0)
+demandTable s =
+    table (8 * elements)
+    (λ x. cond (ltb (x % elements) (activityCount s)) (fileDemand s (x / elements) (x % elements)) 0)
 
 unfoldable pub availableOf : List ℕ → List ℕ
 availableOf s = table 8 (fileAvailable s)

@@ -1,5 +1,5 @@
--- What a plan's tables hold of a readable file, field by field, in the words of Meaning. The
--- laws are in `proofs/Said.antt`.
+-- What a plan's tables hold of a readable file, field by field, in the words of Meaning.
+-- The laws are in `proofs/Said.antt`.
 use mathlib.Core.Path.{_≡_}
 use mathlib.Core.List.{List}
 use mathlib.Core.Logic.{_↔_}

@@ -8,7 +8,8 @@ use Rattle.plan.specs.declared.Plan.{Plan}
 use Rattle.kinds.specs.Needs.{lowestOverload}
 use Rattle.kinds.specs.declared.Overload.{Overload}
 use Rattle.planner.specs.Faults.{orCause, orShort}
-use Rattle.planner.specs.Open.{planIn, rowsFor, rowsOf, jobOrderFor, jobOrder, orderFor, planOrder, readFault, orCircles, faultOf}
+use Rattle.planner.specs.Open.{planIn, rowsFor, rowsOf, jobOrderFor, jobOrder, orderFor, planOrder}
+use Rattle.planner.specs.Open.{readFault, orCircles, faultOf}
 use Rattle.planner.specs.Flow.{isKind}
 use Rattle.planner.specs.declared.Cause.the-variants.{Overloaded, NoKind}
 use Rattle.planner.specs.declared.Fault.{Fault}
@@ -21,11 +22,19 @@ readPlan s = record { plan = planIn s; fault = readFault s }
 
 -- the orders of a plan are built, after a fault
 abbrev pub orderedOf : Plan → Fault → Opened
-orderedOf q f = record { plan = q; rows = rowsFor q; job = jobOrderFor q; order = orderFor q; fault = orCircles f (jobOrderFor q) (orderFor q) }
+orderedOf q f =
+    record {
+      plan = q;
+      rows = rowsFor q;
+      job = jobOrderFor q;
+      order = orderFor q;
+      fault = orCircles f (jobOrderFor q) (orderFor q);
+    }
 
 -- both
 abbrev pub openedOf : List ℕ → Opened
-openedOf s = record { plan = planIn s; rows = rowsOf s; job = jobOrder s; order = planOrder s; fault = faultOf s }
+openedOf s =
+    record { plan = planIn s; rows = rowsOf s; job = jobOrder s; order = planOrder s; fault = faultOf s }
 
 -- the overload that a search finds in a plan, by its order
 abbrev pub overloadIn : Order → Plan → Overload
@@ -39,4 +48,6 @@ orFound f v n = orCause f (ltb (v .kind) n) (Overloaded (v .kind + 1) (v .need) 
 -- 8, 9 and 7 in their turn, after a fault: the causes of an operation on one kind of a plan, by its
 -- order (`kindFault` of Flow)
 abbrev pub kindFaultIn : Fault → Order → Plan → ℕ → ℕ → ℕ → Fault
-kindFaultIn f o q kind lent needed = orFound (orShort (orCause f (not (isKind kind (q .kinds))) (NoKind (q .kinds))) lent needed) (overloadIn o q) (q .kinds)
+kindFaultIn f o q kind lent needed =
+    orFound (orShort (orCause f (not (isKind kind (q .kinds))) (NoKind (q .kinds))) lent needed)
+    (overloadIn o q) (q .kinds)

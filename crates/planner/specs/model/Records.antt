@@ -17,10 +17,15 @@ use Rattle.kinds.specs.model.Writing.{Room, Lent, lent, putFlow}
 abbrev pub FlowAsked : Order → Plan → ℕ → List ℕ → Type 0
 FlowAsked o q k out =
     (k < 8) × (q .count ≤ elements)
-    × Bounded (q .count) (asked (demandsFor (q .demand) k)) (handed (flowOf (q .count) o (demandsFor (q .demand) k)))
+    × Bounded (q .count) (asked (demandsFor (q .demand) k))
+    (handed (flowOf (q .count) o (demandsFor (q .demand) k)))
     × (quoteOf (q .count) o (demandsFor (q .demand) k) .need ≤ getD (q .available) k 0)
     × Room (pairsOf (kindUnits o (q .demand) k (getD (q .available) k 0) (q .count)) (q .count + 2)) out
 
 -- what it counts, and leaves
 abbrev pub flowPut : Order → Order → Plan → ℕ → List ℕ → Lent
-flowPut o job q k out = putFlow (k + 1) (kindUnits o (q .demand) k (getD (q .available) k 0) (q .count)) (markOf (isBefore job) (q .count)) (q .count) (lent 0 out)
+flowPut o job q k out =
+    putFlow (k + 1)
+    (kindUnits o (q .demand) k (getD (q .available) k 0) (q .count))
+    (markOf (isBefore job) (q .count))
+    (q .count) (lent 0 out)

@@ -22,7 +22,8 @@ othersOf job extra i j = unionOf (setOf (row job i)) (withoutElement (setOf (row
 
 -- the pair i, j follows from the other arcs: i leads there, or to what is before j
 unfoldable pub followsIn : List ℕ → List ℕ → List ℕ → ℕ → ℕ → Bool
-followsIn job extra afters i j = member (othersOf job extra i j) j || someBefore afters (othersOf job extra i j) j
+followsIn job extra afters i j =
+    member (othersOf job extra i j) j || someBefore afters (othersOf job extra i j) j
 
 -- of m activities and n kinds: no kind needs more than there is, by an order
 unfoldable pub fitsBy : ℕ → Order → List ℕ → List ℕ → ℕ → Bool
@@ -33,9 +34,13 @@ fitsBy m o demand available n = not (ltb (lowestOverload m o demand available n 
 unfoldable pub extraLeft : ℕ → List ℕ → List ℕ → List ℕ → ℕ → List ℕ → List ℕ → List ℕ → ℕ → ℕ → List ℕ
 extraLeft m job demand available n free afters extra i j =
     let less = withoutArc extra i j in
-    cond (after free i j && (followsIn job extra afters i j || fitsBy m (orderIn (joinedRows job less)) demand available n)) less extra
+    cond (after free i j
+    && (followsIn job extra afters i j || fitsBy m (orderIn (joinedRows job less)) demand available n))
+    less extra
 
 -- `afters` are those of the order of all arcs, which has no circle
 abbrev pub OrderHeld : List ℕ → List ℕ → List ℕ → Type 0
 OrderHeld job extra afters =
-    (length extra ≡ cells elements) × (afters ≡ afterRows (orderIn (joinedRows job extra))) × Acyclic (Direct (joinedRows job extra))
+    (length extra ≡ cells elements)
+    × (afters ≡ afterRows (orderIn (joinedRows job extra)))
+    × Acyclic (Direct (joinedRows job extra))

@@ -28,7 +28,8 @@ fn checked_of(fault: Fault, value: schedule::Checked) -> CrewChecked
     }
 }
 
-// Whether a worked duration does not fit the duration in the file: a milestone is worked in 0, any other activity in 1 or more.
+// Whether a worked duration does not fit the duration in the file: a milestone is worked in 0, any other activity
+// in 1 or more.
 fn misworked(duration: u32, worked: u32) -> bool
     ensures { λ r. ⌜ r ≡ misworked duration worked ⌝ }
 {
@@ -76,7 +77,9 @@ fn found_in(
     worked: &[u32],
 ) -> schedule::Checked
     requires { ⌜ Readable (now s) × Listed (now starts) (now worked) ⌝ }
-    ensures { λ r. ⌜ r ≡ checkOf (crewNet (now (rows .entry)) (arcWeight (now (s .entry)) (at (now (worked .entry)))) (now (starts .entry))) (workOf (q .demand) (q .available) (now (starts .entry)) (now (worked .entry))) ⌝ }
+    ensures { λ r. ⌜ r ≡ checkOf
+        (crewNet (now (rows .entry)) (arcWeight (now (s .entry)) (at (now (worked .entry)))) (now (starts .entry)))
+        (workOf (q .demand) (q .available) (now (starts .entry)) (now (worked .entry))) ⌝ }
 {
     let mut waits = [0u32; ELEMENTS * ELEMENTS];
     plan::store_waits(s, &mut waits);

@@ -40,7 +40,8 @@ fn flow_length(m: usize) -> usize
     24 * (m * (m - 1) / 2 + 2 * m + 1)
 }
 
-// 8, 9 and 7 in their turn, after a fault: the causes of an operation on one kind of a plan, of which `needed` bytes are needed.
+// 8, 9 and 7 in their turn, after a fault: the causes of an operation on one kind of a plan, of which `needed`
+// bytes are needed.
 pub fn kind_fault(
     fault: Fault,
     order: Order,
@@ -58,7 +59,8 @@ pub fn kind_fault(
     or_overloaded(roomy, order, q)
 }
 
-// Writes the records of a plan's flow of kind k + 1 to the front of the lent bytes, with the added marks by the job order. Gives their number.
+// Writes the records of a plan's flow of kind k + 1 to the front of the lent bytes, with the added marks by the job
+// order. Gives their number.
 pub fn write_records(out: &mut [u8], order: Order, job: Order, q: plan::Plan, k: usize) -> usize
     requires { ⌜ FlowAsked order q k (now out) ⌝ }
     ensures { λ r. ⌜ lent r (now (out .exit)) ≡ flowPut order job q k (now (out .entry)) ⌝ }

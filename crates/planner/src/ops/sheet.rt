@@ -40,7 +40,8 @@ fn is_page(page: usize, n: usize) -> bool
 
 // The starts of a plan's activities, and that of the end, as Starts writes them.
 fn starts_of(s: &[u8], rows: &Rows, q: plan::Plan) -> [u32; ELEMENTS + 1]
-    requires { ⌜ (q .count ≤ elements) × Readable (now s) × Acyclic (Direct (now rows)) × AllAtMost 65535 (q .duration) ⌝ }
+    requires { ⌜ (q .count ≤ elements) × Readable (now s) × Acyclic (Direct (now rows))
+        × AllAtMost 65535 (q .duration) ⌝ }
     ensures { λ r. ⌜ r ≡ startsIn (now (s .entry)) (now (rows .entry)) q ⌝ }
 {
     let m = q.count;
@@ -63,7 +64,8 @@ fn print_page(
 ) -> Output
     requires { ⌜ (pageBytes ≤ length (now out)) × (n ≤ mostLines) × (24 * n ≤ length (now records)) ⌝ }
     ensures { λ r. ⌜ r ≡ outputOf (pageFault n page) (pagesOf n) ⌝ }
-    ensures { λ _. ⌜ now (out .exit) ≡ lentAfter (pageFault n page) (sheetPage (now (records .entry)) (now (starts .entry)) n kind page) (now (out .entry)) ⌝ }
+    ensures { λ _. ⌜ now (out .exit) ≡ lentAfter (pageFault n page)
+        (sheetPage (now (records .entry)) (now (starts .entry)) n kind page) (now (out .entry)) ⌝ }
 {
     let pages = crew_sheet::pages(n);
     let fault = or_cause(Fault::Fine, !is_page(page, pages), Cause::NoPage(pages));

@@ -30,7 +30,8 @@ pub fn put_starts(out: &mut [u32], starts: &[u32; ELEMENTS], m: usize, end: u32)
     out[m] = end;
 }
 
-// The earliest starts of all elements, by arcs and durations that were opened, and by the file's waits, which are read here.
+// The earliest starts of all elements, by arcs and durations that were opened, and by the file's waits, which are
+// read here.
 pub fn first_starts(s: &[u8], rows: &Rows, durations: &[u32; ELEMENTS]) -> [u32; ELEMENTS]
     requires { ⌜ Readable (now s) × Acyclic (Direct (now rows)) × AllAtMost 65535 (now durations) ⌝ }
     ensures { λ r. ⌜ r ≡ startsOf (now (rows .entry)) (arcWeight (now (s .entry)) (at (now (durations .entry)))) ⌝ }

@@ -44,16 +44,18 @@ startsBy g done = table elements (λ i. cond (bit done i) (earliestOf g i) 0)
 
 -- each element of rank below r is done, by whatever rank rises along every arc
 abbrev pub RanksDone : List ℕ → (ℕ → ℕ → ℕ) → ℕ → ℕ → Type 0
-RanksDone rows weight done r = (R : Ranked (netOf rows weight)) (j : ℕ) → j < elements → R .rank j < r → bit done j ≡ true
+RanksDone rows weight done r =
+    (R : Ranked (netOf rows weight)) (j : ℕ) → j < elements → R .rank j < r → bit done j ≡ true
 
--- ---- the first period. What is occupied rises only after a start, so only the
--- periods that follow one are tried.
+-- ---- the first period. What is occupied rises only after a start,
+-- so only the periods that follow one are tried.
 
 -- `best` is 0 or an overloaded period, and no later than any overloaded period that follows the
 -- start of one of the first n
 pub record Best (c : Work) (n best : ℕ) : Type 0 where
   pub real : 0 < best → overloaded c best ≡ true
-  pub least : (i : ℕ) → i < n → overloaded c (suc (c .start i)) ≡ true → (0 < best) × (best ≤ suc (c .start i))
+  pub least : (i : ℕ) → i < n → overloaded c (suc (c .start i)) ≡ true
+      → (0 < best) × (best ≤ suc (c .start i))
 
 -- the sooner of the periods `best` and t, where t counts if it is over, and `best` if it is not 0
 abbrev pub soonerOf : Bool → ℕ → ℕ → ℕ

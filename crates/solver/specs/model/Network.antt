@@ -40,7 +40,10 @@ leaders k rows = nonzero k (λ i. setAt rows i)
 
 -- what i hands over to j becomes n
 abbrev pub move : Network → ℕ → ℕ → ℕ → Network
-move s i j n = network (set (s .flow) (cell i j) n) (putRow (s .givers) j (giver (setAt (s .givers) j) i n)) (s .left) (s .right)
+move s i j n =
+    network (set (s .flow) (cell i j) n)
+    (putRow (s .givers) j (giver (setAt (s .givers) j) i n))
+    (s .left) (s .right)
 
 abbrev pub toLeft : Network → ℕ → ℕ → Network
 toLeft s i n = network (s .flow) (s .givers) (set (s .left) i n) (s .right)
@@ -98,7 +101,8 @@ abbrev pub atRoot : List ℕ → Walk → Network
 atRoot rights w = joined (w .now) (source rights w) (w .at)
 
 abbrev pub back : List ℕ → List ℕ → Walk → Walk
-back lefts rights w = walk (shifted (w .now) (source rights w) (parent lefts rights w) (w .at)) (parent lefts rights w)
+back lefts rights w =
+    walk (shifted (w .now) (source rights w) (parent lefts rights w) (w .at)) (parent lefts rights w)
 
 abbrev pub augmented : ℕ → List ℕ → List ℕ → Walk → Network
 augmented n lefts rights w = run (rooted lefts rights) (atRoot rights) (λ x. x .now) (back lefts rights) n w

@@ -46,7 +46,8 @@ abbrev pub chosen : ℕ → Look → List ℕ → ℕ
 chosen m q demand = bitAnd (minus (q .left) (q .right)) (positive m demand)
 
 abbrev pub told : ℕ → List ℕ → Look → ℕ → Quoted
-told m left q wanted = record { need = amount m left; set = setOf (bitAnd (minus (q .left) (q .right)) wanted) }
+told m left q wanted =
+    record { need = amount m left; set = setOf (bitAnd (minus (q .left) (q .right)) wanted) }
 
 abbrev pub quoted : ℕ → List ℕ → Round → Quoted
 quoted m demand x = told m (x .now .left) (x .search) (positive m demand)

@@ -21,7 +21,14 @@ pub record Look : Type 0 where
   pub at : ℕ
 
 abbrev pub looked : Search → Look
-looked s = record { frontier = numberOf (s .frontier); next = numberOf (s .next); left = numberOf (s .left); right = numberOf (s .right); at = s .at }
+looked s =
+    record {
+      frontier = numberOf (s .frontier);
+      next = numberOf (s .next);
+      left = numberOf (s .left);
+      right = numberOf (s .right);
+      at = s .at;
+    }
 
 -- the lowest member of a word
 abbrev pub low : ℕ → ℕ
@@ -45,7 +52,8 @@ seen w parents = record { word = w; parents = parents }
 -- with those that give to the taker j
 abbrev pub visit : List ℕ → Seen → ℕ → Seen
 visit givers s j =
-    seen (bitOr (s .word) (minus (setAt givers j) (s .word))) (marks (s .parents) (minus (setAt givers j) (s .word)) j)
+    seen (bitOr (s .word) (minus (setAt givers j) (s .word)))
+    (marks (s .parents) (minus (setAt givers j) (s .word)) j)
 
 -- a search with the parents of the givers and those of the takers
 pub record Reached : Type 0 where
@@ -62,14 +70,27 @@ fresh rows s = minus (setAt rows (low (s .frontier))) (s .right)
 
 -- a turn that ends at a taker with slack, the lowest of those that it reached
 abbrev pub found : Look → ℕ → ℕ → Look
-found s new hit = record { frontier = 0; next = 0; left = s .left; right = bitOr (s .right) new; at = low hit }
+found s new hit =
+    record { frontier = 0; next = 0; left = s .left; right = bitOr (s .right) new; at = low hit }
 
 -- a turn that goes on, with the givers seen by then
 abbrev pub onward : Look → ℕ → ℕ → Look
 onward s new left =
     cond (eqb (rest (s .frontier)) 0)
-    (record { frontier = bitOr (s .next) (minus left (s .left)); next = 0; left = left; right = bitOr (s .right) new; at = elements })
-    (record { frontier = rest (s .frontier); next = bitOr (s .next) (minus left (s .left)); left = left; right = bitOr (s .right) new; at = elements })
+    (record {
+      frontier = bitOr (s .next) (minus left (s .left));
+      next = 0;
+      left = left;
+      right = bitOr (s .right) new;
+      at = elements;
+    })
+    (record {
+      frontier = rest (s .frontier);
+      next = bitOr (s .next) (minus left (s .left));
+      left = left;
+      right = bitOr (s .right) new;
+      at = elements;
+    })
 
 -- one turn, at the frontier's lowest giver
 unfoldable pub advance : List ℕ → List ℕ → ℕ → Reached → Reached
@@ -78,7 +99,9 @@ advance rows givers slack q =
     let new = fresh rows s in
     let rights = marks (q .rights) new (low (s .frontier)) in
     let w = each elements (visit givers) (seen (s .left) (q .lefts)) new in
-    cond (eqb (bitAnd new slack) 0) (reached (onward s new (w .word)) (w .parents) rights) (reached (found s new (bitAnd new slack)) (q .lefts) rights)
+    cond (eqb (bitAnd new slack) 0)
+    (reached (onward s new (w .word)) (w .parents) rights)
+    (reached (found s new (bitAnd new slack)) (q .lefts) rights)
 
 -- a search has ended where its frontier is empty
 abbrev pub ended : Reached → Bool

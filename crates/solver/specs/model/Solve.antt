@@ -39,8 +39,8 @@ ranking rows i b = rankedAt (setAt rows i) i b
 unfoldable pub ranked : ℕ → List ℕ → List ℕ
 ranked m rows = upto (ranking rows) m blankRows
 
--- an element hands over to all that it is before; then each word of the ranking that has
--- elements, lowest number first
+-- an element hands over to all that it is before; then each word of the ranking
+-- that has elements, lowest number first
 abbrev pub handOver : List ℕ → Network → ℕ → Network
 handOver rows s i = each elements (handing i) s (setAt rows i)
 
@@ -66,12 +66,16 @@ round s q = record { now = s; search = q }
 
 -- a search goes on from the elements with some after them
 abbrev pub sought : ℕ → List ℕ → Network → Reached
-sought m rows s = reach elements rows (s .givers) (positive m (s .right)) (reached (begun (leaders m rows) (positive m (s .left))) (blanks elements) (blanks 0))
+sought m rows s =
+    reach elements rows (s .givers) (positive m (s .right))
+    (reached (begun (leaders m rows) (positive m (s .left))) (blanks elements) (blanks 0))
 
 unfoldable pub rounded : ℕ → List ℕ → Network → Round
 rounded m rows s =
     let q = sought m rows s in
-    round (cond (ltb (q .search .at) elements) (augmented elements (q .lefts) (q .rights) (walk s (q .search .at))) s) (q .search)
+    round (cond (ltb (q .search .at) elements)
+    (augmented elements (q .lefts) (q .rights) (walk s (q .search .at))) s)
+    (q .search)
 
 -- a search that found nothing ends it
 abbrev pub settled : Round → Bool
