@@ -21,8 +21,9 @@ use order::Order;
 use order::Rows;
 use schedule::Checked;
 
-// The need of the order of arcs, from i to each member of row i, with a demand for each of the m first elements; the set that has it, and the handover.
-// The rows of `flow` from m on come in at 0; what stands in the others is taken back first.
+// The need of the order of arcs, from i to each member of row i, with a demand for each of the m first
+// elements; the set that has it, and the handover. The rows of `flow` from m on come in at 0; what stands in
+// the others is taken back first.
 #[no_mangle]
 pub extern "C" fn yaffledesk_quote(
     arcs: &Rows,
@@ -53,7 +54,8 @@ pub extern "C" fn yaffledesk_bench_ranks(rows: &Rows, m: usize, ranks: &mut Rows
     *ranks = r;
 }
 
-// The need of one kind, by the closed order and its ranking, and the set that has it. `flow` comes in at 0 and goes out so.
+// The need of one kind, by the closed order and its ranking, and the set that has it. `flow`
+// comes in at 0 and goes out so.
 #[no_mangle]
 pub extern "C" fn yaffledesk_bench_weigh(
     rows: &Rows,
@@ -123,7 +125,8 @@ pub extern "C" fn yaffledesk_bench_orders(job: &Rows, extra: &Rows, jobs: &mut R
     *all = p;
 }
 
-// The earliest starts over arcs without a circle, with durations and waits of at most 65,535. The wait on the arc from i to j stands at ELEMENTS * j + i.
+// The earliest starts over arcs without a circle, with durations and waits of at most 65,535. The wait on the arc from
+// i to j stands at ELEMENTS * j + i.
 #[no_mangle]
 pub extern "C" fn yaffledesk_bench_earliest(
     arcs: &Rows,
@@ -164,7 +167,8 @@ fn number(c: Checked) -> u64
     }
 }
 
-// A page of the sheet of n flow records, with the starts of their receivers, to the front of `out`. Gives the count of pages.
+// A page of the sheet of n flow records, with the starts of their receivers, to the front of
+// `out`. Gives the count of pages.
 #[no_mangle]
 pub extern "C" fn yaffledesk_bench_page(
     flow: &[u8],

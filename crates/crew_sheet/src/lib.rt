@@ -57,7 +57,8 @@ impl<'a> Page<'a> {
     }
 }
 
-// Writes a page of the sheet of n flow records to the front of the lent bytes. Gives the count of pages. (`mostLines` keeps every sum within a word.)
+// Writes a page of the sheet of n flow records to the front of the lent bytes. Gives the count of pages. (`mostLines`
+// keeps every sum within a word.)
 pub fn write_page(
     out: &mut [u8],
     flow: &[u8],

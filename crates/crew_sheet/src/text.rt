@@ -6,7 +6,8 @@ ghost use Rattle.lines.specs.Text.{text, more};
 ghost use Rattle.crew_sheet.specs.Sheet.{lineBytes, column, cell, rowLine, blankLine, headLine};
 ghost use Rattle.crew_sheet.specs.model.Figures.{figureOf};
 
-// The character at a place of a right-aligned number, of what is left of the number there and how many digits are to the right.
+// The character at a place of a right-aligned number, of what is left of the number there and how
+// many digits are to the right.
 fn figure(rest: u64, tail: usize) -> u8
     ensures { λ r. ⌜ r ≡ figureOf rest tail ⌝ }
 {

@@ -42,7 +42,8 @@ fn mark(job: &Rows, m: usize, from: usize, j: usize) -> u8
     1
 }
 
-// Writes the record of one pair, where its units are positive, behind the n records that are written. Gives the number of records then.
+// Writes the record of one pair, where its units are positive, behind the n records that are written. Gives
+// the number of records then.
 fn put_pair(
     out: &mut [u8],
     n: usize,
@@ -109,8 +110,8 @@ fn put_flow(
     count
 }
 
-// Writes the flow of kind k, of which `available` are available, to the front of the lent bytes, with the added marks by the job order. Gives the number
-// of records.
+// Writes the flow of kind k, of which `available` are available, to the front of the lent bytes, with the added marks
+// by the job order. Gives the number of records.
 pub fn write_flow(
     out: &mut [u8],
     order: Order,

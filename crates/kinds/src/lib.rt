@@ -11,8 +11,8 @@ pub use needs::lowest_overload;
 pub use needs::put_needs;
 pub use shown::put_overload;
 
-// The lowest kind that needs more than there is, with its need and a set of pairwise unrelated elements that has it. Where no kind does:
-// the number of kinds, no need and no elements.
+// The lowest kind that needs more than there is, with its need and a set of pairwise unrelated elements that has it.
+// Where no kind does: the number of kinds, no need and no elements.
 pub struct Overload {
     pub kind: usize,
     pub need: u32,

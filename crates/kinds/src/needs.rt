@@ -22,7 +22,8 @@ pub fn demands_for(demand: &[u32; 8 * ELEMENTS], k: usize) -> [u32; ELEMENTS]
     own
 }
 
-// Writes the needs of the first n kinds to the front of the lent numbers. (What depends on the order alone is found once for all kinds.)
+// Writes the needs of the first n kinds to the front of the lent numbers. (What depends on the order alone
+// is found once for all kinds.)
 pub fn put_needs(out: &mut [u32], order: Order, m: usize, demand: &[u32; 8 * ELEMENTS], n: usize)
     requires { ⌜ (m ≤ elements) × (n ≤ 8) × (n ≤ length (now out)) ⌝ }
     ensures { λ _. ⌜ now (out .exit) ≡ over n (needsFor m order (now (demand .entry)) n) (now (out .entry)) ⌝ }

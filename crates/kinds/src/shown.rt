@@ -7,8 +7,8 @@ ghost use Rattle.kinds.specs.Needs.{shownCount, shownBytes};
 use crate::Overload;
 use crate::flows::byte;
 
-// Writes the record of an overload of one of the first n kinds to the front of the lent bytes. Gives the number of records: 0 where the kind is
-// none of these.
+// Writes the record of an overload of one of the first n kinds to the front of the lent bytes. Gives the number of
+// records: 0 where the kind is none of these.
 pub fn put_overload(out: &mut [u8], over: Overload, n: usize) -> usize
     requires { ⌜ (24 ≤ length (now out)) × (n ≤ 8) ⌝ }
     ensures { λ r. ⌜ (r ≡ shownCount over n) × (now (out .exit) ≡ startingWith (shownBytes over n) (now (out .entry))) ⌝ }

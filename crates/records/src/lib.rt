@@ -51,8 +51,8 @@ pub fn write_overload(out: &mut [u8], kind: u8, size: u8, need: u32, members: u6
     put(out, 8, 8, members);
 }
 
-// Writes flow record number n of a run to the start of what the n records before it leave of the lent bytes. (A pair of nodes is two bytes, so there
-// are at most 65,536.)
+// Writes flow record number n of a run to the start of what the n records before it leave of the lent bytes. (A pair of
+// nodes is two bytes, so there are at most 65,536.)
 pub fn append_flow(out: &mut [u8], n: usize, kind: u8, from: u8, to: u8, units: u32, mark: u8)
     requires { ⌜ (n ≤ 65536) × (24 * n + 24 ≤ length (now out)) ⌝ }
     ensures { λ _. ⌜ now (out .exit) ≡ take (24 * n) (now (out .entry)) ++ flowRecord kind from to units mark ++ drop (24 * n + 24) (now (out .entry)) ⌝ }

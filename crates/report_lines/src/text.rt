@@ -28,8 +28,9 @@ fn flow_buffer() -> [u8; FLOW]
     [0; FLOW]
 }
 
-// Writes the lines of one kind's flow behind what is written, each of at most 32 bytes, and the last may ask for 78 more. The records of the
-// largest plan fit into the buffer; so Flow of an accepted plan refuses none of its kinds, and the second case does not happen.
+// Writes the lines of one kind's flow behind what is written, each of at most 32 bytes, and the last may ask for 78
+// more. The records of the largest plan fit into the buffer; so Flow of an accepted plan refuses none of its kinds, and
+// the second case does not happen.
 fn put_flow(out: &mut [u8], at: usize, s: &[u8], kind: usize) -> usize
     requires { ⌜ Accepts (now s) × (1 ≤ kind) × (kind ≤ planIn (now s) .kinds) × (at + flowRoom + 78 ≤ length (now out)) ⌝ }
     ensures { λ r. ⌜ text r (now (out .exit)) ≡ more (text at (now (out .entry))) (kindLines (planIn (now (s .entry))) (kind - 1)) ⌝ }
@@ -81,8 +82,8 @@ fn put_plan(out: &mut [u8], s: &[u8], m: usize, n: usize) -> usize
     put_flows(out, at, s, n)
 }
 
-// Writes the report of a file's bytes to the front of the lent bytes. Gives its length. (`textRoom`: its first lines, the flows of eight kinds, and the
-// last line may ask for 78 more.)
+// Writes the report of a file's bytes to the front of the lent bytes. Gives its length. (`textRoom`: its first lines,
+// the flows of eight kinds, and the last line may ask for 78 more.)
 pub fn report_text(out: &mut [u8], s: &[u8]) -> usize
     requires { ⌜ textRoom ≤ length (now out) ⌝ }
     ensures { λ r. ⌜ text r (now (out .exit)) ≡ more (text 0 (now (out .entry))) (reportOf (now (s .entry))) ⌝ }

@@ -17,8 +17,8 @@ use order::ELEMENTS;
 use order::Rows;
 use order::Set;
 
-// Whether the row of i has an arc to the element j, which starts before the finish of i plus the wait on the arc. The wait is read only where there is
-// an arc, so that a pair without one pays nothing for it.
+// Whether the row of i has an arc to the element j, which starts before the finish of i plus the wait on the arc. The
+// wait is read only where there is an arc, so that a pair without one pays nothing for it.
 fn breaks_at(
     row: Set,
     waits: &[u32; ELEMENTS * ELEMENTS],

@@ -7,8 +7,8 @@ pub use crew::crew_check;
 pub use early::earliest;
 pub use early::end_start;
 
-// What a crew check finds: nothing, a broken arc between two activities, or a period with the lowest kind that is exceeded in it.
-// Activities and kinds count from 1, as in the plan file.
+// What a crew check finds: nothing, a broken arc between two activities, or a period with the lowest kind that is
+// exceeded in it. Activities and kinds count from 1, as in the plan file.
 pub enum Checked {
     Fits,
     Broken { from: usize, to: usize },

@@ -16,8 +16,8 @@ mod moves;
 mod reach;
 mod rounds;
 
-// What a search carries from turn to turn: givers to go on from, now and next, the givers and takers seen, and the taker that it
-// ended at, or ELEMENTS.
+// What a search carries from turn to turn: givers to go on from, now and next, the givers and takers seen, and the
+// taker that it ended at, or ELEMENTS.
 struct Search {
     frontier: Set,
     next: Set,
@@ -26,8 +26,8 @@ struct Search {
     at: usize,
 }
 
-// What the rounds ask of an order and its ranking, for all kinds of a plan the same: the numbers for which the ranking has elements, and the elements that
-// have some after them.
+// What the rounds ask of an order and its ranking, for all kinds of a plan the same: the numbers for which the ranking
+// has elements, and the elements that have some after them.
 pub struct Leads {
     numbers: Set,
     able: Set,
@@ -39,7 +39,8 @@ pub struct Quoted {
     pub set: Set,
 }
 
-// Takes back what the m first elements hand over, where the others hand over nothing: so a table of units serves for one quote after another.
+// Takes back what the m first elements hand over, where the others hand over nothing: so a table of units serves
+// for one quote after another.
 pub fn clear(flow: &mut [u32; ELEMENTS * ELEMENTS], m: usize)
     requires { ⌜ (m ≤ elements) × Clean m (now flow) ⌝ }
     ensures { λ _. ⌜ now (flow .exit) ≡ unused ⌝ }
@@ -52,7 +53,8 @@ pub fn clear(flow: &mut [u32; ELEMENTS * ELEMENTS], m: usize)
     }
 }
 
-// The m first demands, in an array of the solver's own. (That an array behind a reference has its entries no proof can cite; of this one it can.)
+// The m first demands, in an array of the solver's own. (That an array behind a reference has its entries no proof
+// can cite; of this one it can.)
 fn copy(a: &[u32; ELEMENTS], m: usize) -> [u32; ELEMENTS]
     requires { ⌜ m ≤ elements ⌝ }
     ensures { λ r. ⌜ r ≡ copied m (now (a .entry)) ⌝ }
@@ -80,7 +82,8 @@ fn total(a: &[u32; ELEMENTS], m: usize) -> u32
     t
 }
 
-// What the last search tells: what is left is the need, and the elements `wanted` that it reached as givers and not as takers have it.
+// What the last search tells: what is left is the need, and the elements `wanted` that it reached as
+// givers and not as takers have it.
 fn told(s: Search, left: &[u32; ELEMENTS], wanted: Set, m: usize) -> Quoted
     requires { ⌜ m ≤ elements ⌝ }
     ensures { λ r. ⌜ r ≡ told m (now (left .entry)) (looked s) (numberOf wanted) ⌝ }
@@ -90,7 +93,8 @@ fn told(s: Search, left: &[u32; ELEMENTS], wanted: Set, m: usize) -> Quoted
     Quoted { need, set }
 }
 
-// The m first elements by the number of elements after them: what `quote_ranked` asks of an order, for all kinds of a plan the same.
+// The m first elements by the number of elements after them: what `quote_ranked` asks of an order, for
+// all kinds of a plan the same.
 pub fn ranks(rows: &Rows, m: usize) -> Rows
     requires { ⌜ m ≤ elements ⌝ }
     ensures { λ r. ⌜ r ≡ ranked m (now (rows .entry)) ⌝ }
@@ -108,8 +112,8 @@ pub fn leads_of(rows: &Rows, ranks: &Rows, m: usize) -> Leads
     Leads { numbers, able }
 }
 
-// The need of an order, given by its rows and its ranking, with a demand for each of its m first elements (the others are passed over), and, in `flow`
-// at i * ELEMENTS + j, what i hands over to j. `flow` comes in at 0.
+// The need of an order, given by its rows and its ranking, with a demand for each of its m first elements (the others
+// are passed over), and, in `flow` at i * ELEMENTS + j, what i hands over to j. `flow` comes in at 0.
 fn quote_ranked(
     rows: &Rows,
     ranks: &Rows,

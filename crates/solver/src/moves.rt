@@ -74,7 +74,8 @@ pub fn shift(
     right[k] = v;
 }
 
-// Slack moves from the right copy at which a search ended back to a root, whose parent is ELEMENTS, and becomes flow there.
+// Slack moves from the right copy at which a search ended back to a root, whose parent is
+// ELEMENTS, and becomes flow there.
 pub fn augment(
     flow: &mut [u32; ELEMENTS * ELEMENTS],
     givers: &mut Rows,

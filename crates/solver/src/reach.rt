@@ -89,7 +89,8 @@ pub fn turn(
     }
 }
 
-// A search from the roots, of which only those in `able` lead on, level by level: it ends at a right copy with slack, or where nothing new is reached.
+// A search from the roots, of which only those in `able` lead on, level by level: it ends at a right copy with slack,
+// or where nothing new is reached.
 pub fn seek(
     rows: &Rows,
     givers: &Rows,
