@@ -2,7 +2,8 @@
 ghost use mathlib.Core.Path.{_≡_};
 ghost use lib.Dec.{eqb};
 ghost use Prim.Native.Nat.{_%_, _^_, _≤_, _<_};
-ghost use Rattle.order.specs.Stored.{elements, bound, row, putRow, setOf, numberOf};
+ghost use lib.ListN.{length};
+ghost use Rattle.order.specs.Stored.{elements, bound, cells, row, putRow, setOf, numberOf, RowsFit};
 ghost use Rattle.order.specs.Sets.{member, emptySet, withElement, withoutElement, unionOf, meetOf, minusOf, sizeOf, lowestOf, withoutLowest};
 ghost use Rattle.order.specs.model.Warshall.{passed};
 ghost use Rattle.order.specs.model.Places.{positive};
@@ -11,7 +12,7 @@ pub use fewer::some_before;
 pub use fewer::without_arc;
 use halves::places_word;
 use transitive::add_row;
-pub use transitive::close;
+use transitive::close;
 use transitive::gain_all;
 
 mod fewer;
@@ -186,7 +187,7 @@ pub fn put_row(rows: &mut Rows, i: usize, s: Set)
 
 // Which element is before which: row i is the set of the elements that i is before.
 pub struct Order {
-    pub rows: Rows,
+    rows: Rows,
 }
 
 impl Order {
@@ -264,6 +265,17 @@ impl Order {
         let mut rows = arcs;
         close(&mut rows);
         Order { rows }
+    }
+
+    // The order of arcs that are given as rows, which are closed in place: each becomes the set of all that its element
+    // is before.
+    pub fn closing(arcs: &mut Rows) -> Self
+        requires { ⌜ (length (now arcs) ≡ cells elements) × RowsFit elements (now arcs) ⌝ }
+        ensures { λ r. ⌜ r ≡ orderIn (now (arcs .entry)) ⌝ }
+        ensures { λ _. ⌜ now (arcs .exit) ≡ afterRows (orderIn (now (arcs .entry))) ⌝ }
+    {
+        close(arcs);
+        Order { rows: *arcs }
     }
 }
 

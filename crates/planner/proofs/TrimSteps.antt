@@ -10,6 +10,7 @@ use Rattle.order.specs.Stored.{elements}
 use Rattle.order.specs.Rows.{after}
 use Rattle.order.specs.Sets.{member}
 use Rattle.order.specs.Orders.{afterRows, someBefore, orderIn, withoutArc, joinedRows}
+use Rattle.order.specs.declared.Order.{Order}
 use Rattle.order.proofs.Lacking.{follows-same, follows-members}
 use Rattle.kinds.specs.Needs.{lowestOverload}
 use Rattle.kinds.specs.declared.Overload.{Overload}
@@ -63,15 +64,13 @@ module _ (m : ℕ) (job demand available : List ℕ) (n : ℕ) (free afters extr
     pub left-follows : followsIn job extra afters i j ≡ true → less ≡ left
     left-follows e = left-gone (or-left (followsIn job extra afters i j) fits e)
 
-    -- what was weighed: `rows` are the arcs without it, `closed` those of their order, and `v` is what a search finds by that
-    module _ {rows closed : List ℕ} {v : Overload} (joins : rows ≡ joinedRows job less) (closes : closed ≡ afterRows (orderIn rows))
-        (weighs : v ≡ lowestOverload m (record { rows = closed }) demand available n) where
-      pub afters-are : closed ≡ afterRows (orderIn (joinedRows job less))
-      afters-are = closes ∙ ap (λ (x : List ℕ). afterRows (orderIn x)) joins
-
+    -- what was weighed: `rows` are the arcs without it, `o` is their order, and `v` is what a search finds by that
+    module _ {rows : List ℕ} {o : Order} {v : Overload} (joins : rows ≡ joinedRows job less) (closes : o ≡ orderIn rows)
+        (weighs : v ≡ lowestOverload m o demand available n) where
       over-is : ltb (v .kind) n ≡ ltb (lowestOverload m (orderIn (joinedRows job less)) demand available n .kind) n
-      unfolding afterRows
-      over-is = ap (λ (x : Overload). ltb (x .kind) n) (weighs ∙ ap (λ (x : List ℕ). lowestOverload m (record { rows = x }) demand available n) afters-are)
+      over-is =
+          ap (λ (x : Overload). ltb (x .kind) n)
+          (weighs ∙ ap (λ (x : Order). lowestOverload m x demand available n) (closes ∙ ap orderIn joins))
 
       pub left-fits : n ≤ v .kind → less ≡ left
       unfolding fitsBy

@@ -1,7 +1,7 @@
 -- The flows of the cases: what the solver hands over is computed once for each plan, and then the records.
 use mathlib.Core.Path.{_≡_, refl, ap, ap₂, _∙_}
 use mathlib.Core.Bool.{not}
-use mathlib.Core.List.{List, [], _∷_}
+use mathlib.Core.List.{List}
 use Prim.Native.Nat.{ℕ, _+_}
 use lib.ListN.{length, getD, replicate, set}
 use Rattle.words.specs.Bits.{digit, bit}
@@ -10,9 +10,9 @@ use Rattle.words.specs.Members.{first, count}
 use Rattle.words.specs.Listing.{members}
 use Rattle.words.specs.Sums.{sum, maximum}
 use Rattle.words.specs.Tables.{table}
-use Rattle.order.specs.Stored.{elements, row, putRow, rowTable, cells, numberOf, setOf}
+use Rattle.order.specs.Stored.{row, putRow, rowTable, cells, numberOf, setOf}
 use Rattle.order.specs.Rows.{grow, arcsFrom, arcsIn}
-use Rattle.order.specs.Orders.{extended, orderOf, orderIn, joinedRows, afterRows}
+use Rattle.order.specs.Orders.{emptyOrder, extended, orderOf, orderIn, joinedRows, afterRows}
 use Rattle.order.specs.declared.Order.{Order}
 use Rattle.order.specs.model.Places.{nonzero}
 use Rattle.records.specs.Records.{bytes, flowRecord, joined as allOf}
@@ -71,7 +71,7 @@ handedI = withTwo unused 0 2
 
 -- what 1 hands over in the plans I, by the one order that they have
 abbrev orderI : Order
-orderI = record { rows = rowTable elements (λ i. getD (6 ∷ 4 ∷ []) i 0) }
+orderI = extended (extended emptyOrder 1 2) 0 1
 
 record AllOrdered : Type 0 where
   job : orderFor inIJob ≡ orderI

@@ -61,8 +61,7 @@ fn consider(
     order::without_arc(&mut less, i, j);
     let jobs = *job;
     let mut closed = order::joined(jobs, less);
-    order::close(&mut closed);
-    let order = Order { rows: closed };
+    let order = Order::closing(&mut closed);
     let over = kinds::lowest_overload(order, m, demand, available, n);
     if over.kind < n {
         return;

@@ -13,7 +13,7 @@ use Rattle.order.specs.Orders.{afterRows, orderIn, joinedRows}
 use Rattle.order.specs.Stored.{cells}
 use Rattle.order.specs.Rows.{after}
 use Rattle.order.proofs.Stored.{number-of, words-fit}
-use Rattle.planner.proofs.TrimSteps.{follows-held, left-held, left-follows, left-fits, left-stays, afters-are}
+use Rattle.planner.proofs.TrimSteps.{follows-held, left-held, left-follows, left-fits, left-stays}
 use Rattle.planner.proofs.ops.trim.consider.Statement.{statement}
 use Rattle.planner.proofs.ops.trim.consider.Tie as tie
 
@@ -50,8 +50,8 @@ returns-2 c =
 returns-3 : tie.Need-returns-3
 returns-3 c =
     let over = c .before .before in
-    let close = over .before in
-    let joined = close .before .before in
+    let closing = over .before in
+    let joined = closing .before .before in
     let less = joined .before .before in
     let else2 = less .before .before .before in
     let f = else2 .before in
@@ -61,7 +61,8 @@ returns-3 c =
     let a = start .args in
     let may = sym (tested h) ∙ not-false _ (else .if1 .left) in (
       left-stays (a .m) (a .job .now) (a .demand .now) (a .available .now) (a .n) (a .free .now) (a .afters .now) (a .extra .now) (a .i) (a .j) may
-          (joined .joined .ensures ∙ ap (joinedRows (a .job .now)) (less .without-arc2 .ensures)) (close .close .ensures) (over .lowest-overload .ensures)
+          (joined .joined .ensures ∙ ap (joinedRows (a .job .now)) (less .without-arc2 .ensures))
+          (closing .closing .ensures .0) (over .lowest-overload .ensures)
           (sym (f .follows .ensures) ∙ else2 .if2 .left) (c .if3 .taken),
       start .pre .4 .1,
     )
@@ -69,8 +70,8 @@ returns-3 c =
 returns-4 : tie.Need-returns-4
 returns-4 c =
     let over = c .before .before in
-    let close = over .before in
-    let joined = close .before .before in
+    let closing = over .before in
+    let joined = closing .before .before in
     let less = joined .before .before in
     let else = less .before .before .before .before .before .before .before in
     let h = else .before in
@@ -78,16 +79,15 @@ returns-4 c =
     let may = sym (tested h) ∙ not-false _ (else .if1 .left) in
     let joins = joined .joined .ensures ∙ ap (joinedRows (a .job .now)) (less .without-arc2 .ensures) in (
       less .without-arc2 .ensures
-          ∙ left-fits (a .m) (a .job .now) (a .demand .now) (a .available .now) (a .n) (a .free .now) (a .afters .now) (a .extra .now) (a .i) (a .j) may joins (close .close .ensures)
+          ∙ left-fits (a .m) (a .job .now) (a .demand .now) (a .available .now) (a .n) (a .free .now) (a .afters .now)
+          (a .extra .now) (a .i) (a .j) may joins (closing .closing .ensures .0)
           (over .lowest-overload .ensures) (c .if3 .left),
-      afters-are (a .m) (a .job .now) (a .demand .now) (a .available .now) (a .n) (a .free .now) (a .afters .now) (a .extra .now) (a .i) (a .j) may joins (close .close .ensures)
-          (over .lowest-overload .ensures)
-          ∙ ap (λ (x : List ℕ). afterRows (orderIn (joinedRows (a .job .now) x))) (sym (less .without-arc2 .ensures)),
+      closing .closing .ensures .1 ∙ ap (λ (x : List ℕ). afterRows (orderIn x)) (joined .joined .ensures),
     )
 
-close-requires : tie.Need-close-requires
+closing-requires : tie.Need-closing-requires
 unfolding cells
-close-requires c κs =
+closing-requires c κs =
     let rows = c .before .joined .result in
     (search needs, words-fit rows (λ k. let f : Fits w64 (getD rows k 0) = search needs in f .fits))
 
@@ -95,4 +95,4 @@ pub consider-spec : {M : Type 1} → statement M
 consider-spec =
     tie.close
     (tie.spec (λ c κs. search needs) (λ c κs. search needs) returns (λ c κs. search needs) (λ c κs. search needs) returns-2 (λ c κs. search needs) (λ c κs. search needs)
-    close-requires (λ c κs. search needs) returns-3 returns-4)
+    closing-requires (λ c κs. search needs) returns-3 returns-4)
