@@ -4,10 +4,12 @@ ghost use lib.Dec.{eqb};
 ghost use Prim.Native.Nat.{_%_, _^_, _≤_, _<_};
 ghost use lib.ListN.{length};
 ghost use Rattle.order.specs.Stored.{elements, bound, cells, row, putRow, setOf, numberOf, RowsFit};
-ghost use Rattle.order.specs.Sets.{member, emptySet, withElement, withoutElement, unionOf, meetOf, minusOf, sizeOf, lowestOf, withoutLowest};
+ghost use Rattle.order.specs.Sets.{member, emptySet, withElement, withoutElement, unionOf, meetOf, minusOf};
+ghost use Rattle.order.specs.Sets.{sizeOf, lowestOf, withoutLowest};
 ghost use Rattle.order.specs.model.Warshall.{passed};
 ghost use Rattle.order.specs.model.Places.{positive};
-ghost use Rattle.order.specs.Orders.{emptyOrder, extended, extendedBy, isBefore, afterOf, afterRows, circleOf, orderIn, joinedRows};
+ghost use Rattle.order.specs.Orders.{emptyOrder, extended, extendedBy, isBefore, afterOf, afterRows, circleOf};
+ghost use Rattle.order.specs.Orders.{orderIn, joinedRows};
 pub use fewer::some_before;
 pub use fewer::without_arc;
 use halves::places_word;
@@ -50,7 +52,8 @@ impl Set {
         words::has(self.word, i)
     }
 
-    // Whether there is no member. (A loop over the members learns by its test, too, that the number of the set has a digit for each element.)
+    // Whether there is no member. (A loop over the members learns by its test, too, that the number of the set
+    // has a digit for each element.)
     pub fn is_empty(self) -> bool
         ensures { λ r. ⌜ (r ≡ eqb (numberOf self) 0) × (numberOf self < bound) ⌝ }
     {
@@ -112,8 +115,8 @@ impl Set {
         }
     }
 
-    // The set, with all of `gain` where it has the member k. (In place of a jump, a word of equal digits picks what is gained: this is what the
-    // loops over rows do at each row.)
+    // The set, with all of `gain` where it has the member k. (In place of a jump, a word of equal digits picks what is
+    // gained: this is what the loops over rows do at each row.)
     fn with_pass(self, k: usize, gain: Set) -> Set
         requires { ⌜ k < elements ⌝ }
         ensures { λ r. ⌜ numberOf r ≡ passed k (numberOf gain) (numberOf self) ⌝ }
@@ -198,7 +201,8 @@ impl Order {
         Order { rows: [0; CELLS] }
     }
 
-    // The order with one arc more: whatever is `from`, or before it, is now also before `to` and all that `to` is before.
+    // The order with one arc more: whatever is `from`, or before it, is now also before `to`
+    // and all that `to` is before.
     pub fn with_arc(self, from: usize, to: usize) -> Self
         requires { ⌜ (from < elements) × (to < elements) ⌝ }
         ensures { λ r. ⌜ r ≡ extended self from to ⌝ }
@@ -209,8 +213,9 @@ impl Order {
         Order { rows }
     }
 
-    // The order with further arcs, given as rows: each arc that it does not hold yet is added. (From the last row down: in a plan that is
-    // numbered along its order the row of an arc's end is then complete, and most of the arcs after it are held already.)
+    // The order with further arcs, given as rows: each arc that it does not hold yet is added. (From the last row
+    // down: in a plan that is numbered along its order the row of an arc's end is then complete, and most of the arcs
+    // after it are held already.)
     pub fn with_arcs(self, arcs: Rows) -> Self
         ensures { λ r. ⌜ r ≡ extendedBy self arcs ⌝ }
     {

@@ -67,8 +67,9 @@ fn pass_over(rows: &mut Rows, ends: Set, k: usize)
     }
 }
 
-// The rows of arcs become those of their order. (Warshall's closure: one element after the other becomes a way through. Most elements of a sparse plan lead nowhere, or nothing leads to them: those
-// are passed over. In place, so that no rows are copied.)
+// The rows of arcs become those of their order. (Warshall's closure: one element after the other becomes a way
+// through. Most elements of a sparse plan lead nowhere, or nothing leads to them: those are passed over. In place,
+// so that no rows are copied.)
 pub fn close(rows: &mut Rows)
     requires { ⌜ (length (now rows) ≡ cells elements) × RowsFit elements (now rows) ⌝ }
     ensures { λ _. ⌜ now (rows .exit) ≡ afterRows (orderIn (now (rows .entry))) ⌝ }
@@ -79,9 +80,9 @@ pub fn close(rows: &mut Rows)
     }
 }
 
-// The rows of an order become those of the order with the arcs from i to each member of `to` that it does not hold yet. (What an arc leads to is held
-// when it is added, and is passed over as a set. The rows stay as they are until all that i gains is found: what an arc would have added to them
-// is gained already.)
+// The rows of an order become those of the order with the arcs from i to each member of `to` that it does not hold yet.
+// (What an arc leads to is held when it is added, and is passed over as a set. The rows stay as they are until all that
+// i gains is found: what an arc would have added to them is gained already.)
 pub fn add_row(rows: &mut Rows, i: usize, to: Set)
     requires { ⌜ (i < elements) × (length (now rows) ≡ cells elements) × RowsFit elements (now rows) ⌝ }
     ensures { λ _. ⌜ now (rows .exit) ≡ growFrom elements (now (rows .entry)) i (numberOf to) ⌝ }

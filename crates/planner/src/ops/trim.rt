@@ -32,8 +32,9 @@ fn follows(job: &Rows, extra: &Rows, afters: &Rows, i: usize, j: usize) -> bool
     order::some_before(afters, others, j)
 }
 
-// Considers the pair i, j: an extra arc that may go, one of `free`, is taken out where the plan then left is still accepted. `afters` are the sets of what each element is before, by all arcs that are
-// left. (Where the pair follows from the others, nothing is weighed.)
+// Considers the pair i, j: an extra arc that may go, one of `free`, is taken out where the plan then left is still
+// accepted. `afters` are the sets of what each element is before, by all arcs that are left. (Where the pair follows
+// from the others, nothing is weighed.)
 fn consider(
     free: &Rows,
     job: &Rows,
@@ -46,8 +47,10 @@ fn consider(
     i: usize,
     j: usize,
 )
-    requires { ⌜ (i < elements) × (j < elements) × (m ≤ elements) × (n ≤ 8) × OrderHeld (now job) (now extra) (now afters) ⌝ }
-    ensures { λ _. ⌜ now (extra .exit) ≡ extraLeft m (now (job .entry)) (now (demand .entry)) (now (available .entry)) n (now (free .entry)) (now (afters .entry)) (now (extra .entry)) i j ⌝ }
+    requires { ⌜ (i < elements) × (j < elements) × (m ≤ elements) × (n ≤ 8)
+        × OrderHeld (now job) (now extra) (now afters) ⌝ }
+    ensures { λ _. ⌜ now (extra .exit) ≡ extraLeft m (now (job .entry)) (now (demand .entry)) (now (available .entry))
+        n (now (free .entry)) (now (afters .entry)) (now (extra .entry)) i j ⌝ }
     ensures { λ _. ⌜ now (afters .exit) ≡ afterRows (orderIn (joinedRows (now (job .entry)) (now (extra .exit)))) ⌝ }
 {
     if !order::row(free, i).has(j) {
@@ -70,7 +73,8 @@ fn consider(
     *afters = closed;
 }
 
-// The extra arcs that are left of a plan that is accepted, with its order: each arc that may go is considered, by from, then to.
+// The extra arcs that are left of a plan that is accepted, with its order: each arc that may go is
+// considered, by from, then to.
 fn extra_left(s: &[u8], q: plan::Plan, order: Order) -> Rows
     requires { ⌜ Opens (now s) × (q ≡ planIn (now s)) × (order ≡ planOrder (now s)) × (isAccepted q ≡ true) ⌝ }
     ensures { λ r. ⌜ r ≡ trimmedRows (now (s .entry)) ⌝ }
