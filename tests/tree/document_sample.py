@@ -47,8 +47,8 @@ def said(root, names):
     yield "dangling", documents.dangling(root, names)
     yield "long", documents.long(root)
     yield "unlisted", documents.unlisted(root)
-    resting = len(figures.prove.rests_on("words", root))
-    yield "counted", map(str, (figures.reached(root, ["PriceList"]), figures.edits(root), figures.crates(root), resting))
+    counts = figures.reached(root, ["PriceList"]), figures.edits(root), figures.crates(root)
+    yield "counted", map(str, (*counts, len(figures.prove.rests_on("words", root))))
     yield "figures", [next(figures.faults(root))]
     yield "widths", widths.faults(root, names, "1 .\n1 crates/words/proofs\n")
 

@@ -1,4 +1,4 @@
-"""What can be seen of the documents: how long they are, that their links lead somewhere, and what their indexes name."""
+"""What can be seen of documents: how long they are, that their links lead somewhere, and what their indexes name."""
 import re
 
 README_LINES, ENTRY_LINES = 120, 20

@@ -10,17 +10,20 @@ EDIT = "file: src/lib.rt\n\nrefuses: sample::{name}\nwrong: the number itself\no
 FACT = "{folder}/proofs/{name}/Proof.antt:9:13: error: `returns`: `omega`: the goal does not follow from what it read\n"
 UNFIT = "{folder}/proofs/{name}/Proof.antt:9:13: error: `returns`: record `Start` has no field `before`\n"
 BROKEN = "{folder}/proofs/{name}/Proof.antt:9:13: error: `returns`: record `Start`\n  has no field `before`\n"
-FOLLOWS = "{folder}/proofs/{name}/Proof.antt:12:5: error: `{name}-spec`: `returns` was not admitted, so this cannot be checked\n"
+FOLLOWS = (
+    "{folder}/proofs/{name}/Proof.antt:12:5: error: `{name}-spec`: `returns` was not admitted, so this cannot be checked\n"
+)
+LOW = "fn sample::low: not proved\nfn sample::high: not proved; it calls `sample::low`, which is not proved\n"
 
 # a name, the text that is replaced, the log, and what is said of each function that is not as it should be
 CASES = [
-    ("low", "x / 2", FACT + FOLLOWS + "fn sample::low: not proved\nfn sample::high: not proved; it calls `sample::low`, which is not proved\n", []),
+    ("low", "x / 2", FACT + FOLLOWS + LOW, []),
     ("low", "x / 2", "fn sample::low: no proof: `search` does not close `returns`\nfn sample::high: proved\n", []),
     ("low", "x / 2", "fn sample::low: proved\nfn sample::high: proved\n", ["low"]),
     ("low", "x / 2", UNFIT + FOLLOWS + "fn sample::low: not proved\nfn sample::high: proved\n", ["low"]),
     ("low", "x / 2", BROKEN + FOLLOWS + "fn sample::low: not proved\nfn sample::high: proved\n", ["low"]),
     ("low", "x / 2", FOLLOWS + "fn sample::low: not proved\nfn sample::high: proved\n", ["low"]),
-    ("high", "low(x) + 1", FACT + "fn sample::low: not proved\nfn sample::high: not proved; it calls `sample::low`, which is not proved\n", ["high", "low"]),
+    ("high", "low(x) + 1", FACT + LOW, ["high", "low"]),
     ("high", "x / 2", FACT + "fn sample::low: proved\nfn sample::high: not proved\n", ["high"]),
     ("none", "x / 2", "fn sample::low: proved\nfn sample::high: proved\n", ["none"]),
 ]
@@ -35,6 +38,7 @@ def mistaken():
         for name, old, log, wanted in CASES:
             (crate / "version.edit").write_text(EDIT.format(name=name, old=old))
             (crate / ".log").write_text(log.format(folder=crate, name=name))
-            said = [who.split("::")[-1] for who, fault in versions.faults(crate, crate / "version.edit", crate) if fault]
+            faults = versions.faults(crate, crate / "version.edit", crate)
+            said = [who.split("::")[-1] for who, fault in faults if fault]
             if said != wanted:
                 yield f"{name}, {log!r}: said of {said}, wanted of {wanted}"

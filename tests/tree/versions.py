@@ -2,9 +2,13 @@
 written."""
 import re
 
-# an error that only follows from another one; and one of a proof that no longer fits the code or the statement, whatever that says
+# an error that only follows from another one; and one of a proof that no longer fits the code or the statement,
+# whatever that says
 FOLLOWS = re.compile(r"was not admitted")
-UNFIT = re.compile(r"has no `Need-|has no field|that can be named from here|is not in scope|expected type `tie\.Need-|but this has type `tie\.Need-|has no argument|too many arguments")
+UNFIT = re.compile(
+    r"has no `Need-|has no field|that can be named from here|is not in scope|expected type `tie\.Need-"
+    r"|but this has type `tie\.Need-|has no argument|too many arguments"
+)
 ERROR = re.compile(r"^(?P<file>\S+\.antt):(?P<line>\d+):\d+: error: `(?P<law>[^`]+)`: (?P<said>.*)")
 STATUS = re.compile(r"^fn (?P<name>[\w:]+): (?P<said>.*)")
 CALLS = re.compile(r"it calls (?P<names>`.*`), which (?:is|are) not proved")
@@ -37,7 +41,7 @@ def replacements(edit):
             old = rest
         elif line.startswith("new:"):
             if not names or not wrong:
-                return found, f"the replacement of '{old}' has no 'refuses:' line, or no 'wrong:' line that says what the wrong answer is"
+                return found, f"the replacement of '{old}' has no 'refuses:' line, or no 'wrong:' line"
             found.append(Replacement(names, wrong, file, old, line.removeprefix("new:").removeprefix(" ")))
             names = wrong = old = None
     return found, None if found else "it has no replacement"
@@ -69,7 +73,8 @@ def field_at(lines):
 
 
 class Log:
-    """What the check of a wrong version said: the errors that are a law's own, by law and by field, and the state of each function."""
+    """What the check of a wrong version said: the errors that are a law's own, by law and by field, and the state of each
+    function."""
 
     def __init__(self, folder):
         self.own, self.unfit, self.states = {}, {}, {}
@@ -147,7 +152,8 @@ def faults(crate, edit, log_folder):
 
 
 def public(crate):
-    """The public functions of a library crate, by name: those of its root file, and those that it hands on from its modules."""
+    """The public functions of a library crate, by name: those of its root file, and those that it hands on from its
+    modules."""
     text = (crate / "src" / "lib.rt").read_text()
     holder, names = "", []
     for line in text.splitlines():
