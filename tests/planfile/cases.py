@@ -3,25 +3,18 @@ import importlib.machinery
 import importlib.util
 import pathlib
 import random
+import re
 import struct
 import subprocess
 import sys
 import tempfile
 import traceback
 
-TOOL = pathlib.Path("tools/planfile")
+import outputs
+from checks import TOOL, check, counts, run
+
 EXAMPLES = pathlib.Path("examples")
 SEED = 20261115
-passed = failed = 0
-
-
-def check(holds, what):
-    global passed, failed
-    if holds:
-        passed += 1
-    else:
-        failed += 1
-        print(f"FAIL: {what}")
 
 
 def load():
@@ -30,11 +23,6 @@ def load():
     module = importlib.util.module_from_spec(importlib.util.spec_from_loader("planfile", loader))
     loader.exec_module(module)
     return module
-
-
-def run(*words, given=b""):
-    done = subprocess.run([TOOL, *words], input=given, capture_output=True, timeout=60)
-    return done.returncode, done.stdout, done.stderr.decode()
 
 
 # Plans made here by struct, apart from the tool's own way of making bytes, each with its text.
@@ -257,18 +245,35 @@ def examples(folder):
         check(text.read_text().startswith("# "), f"{text} says what it shows")
 
 
+def named(folder):
+    """The tool calls itself what it is called, and says in which order a file's records stand."""
+    other = folder / "yaffledesk-planfile"
+    other.symlink_to(TOOL)
+    for tool in (TOOL, other):
+        for words in ([], ["pack"], ["show"]):
+            said = subprocess.run([tool, *words, "--help"], capture_output=True, text=True, timeout=60)
+            start = " ".join([f"usage: {tool.name}", *words, "[-h]"])
+            check(said.returncode == 0 and said.stdout.startswith(start), f"{tool.name} {words} --help begins {said}")
+        said = subprocess.run([tool, "pack"], input=b"\0", capture_output=True, timeout=60)
+        check(said.stderr.endswith(f"plan bytes are for '{tool.name} show'\n".encode()), f"{tool.name}: {said.stderr}")
+    order = "first the activities, numbered from 1,.* then the crew, .* then the job arcs; then the extra arcs"
+    check(re.search(order, " ".join(run("--help")[1].decode().split())), "--help says the file's order")
+
+
 def main():
     tool, chance = load(), random.Random(SEED)
     with tempfile.TemporaryDirectory() as name:
         folder = pathlib.Path(name)
-        for group, words in ((round_trips, (tool, chance)), (shown, (tool,)), (messages, (folder,)), (lengths, (folder,)), (examples, (folder,))):
+        groups = [(round_trips, (tool, chance)), (shown, (tool,)), (messages, (folder,)), (lengths, (folder,))]
+        groups += [(examples, (folder,)), (named, (folder,)), *outputs.groups(tool, folder)]
+        for group, words in groups:
             try:
                 group(*words)
             except Exception:  # the count must come last, whatever the tool does
                 traceback.print_exc(file=sys.stdout)
                 check(False, f"{group.__name__} comes to its end")
-    print(f"{passed} passed, {failed} failed")
-    return 1 if failed else 0
+    print(f"{counts[True]} passed, {counts[False]} failed")
+    return 1 if counts[False] else 0
 
 
 if __name__ == "__main__":
