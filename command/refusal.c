@@ -1,5 +1,9 @@
 #include "refusal.h"
 
+#include "utf8.h"
+
+#include <string.h>
+
 #define A_PLAN_FILE "a plan has 1 to 2,048 records of 24 bytes"
 
 enum { AFTER_NUMBERS = 20 }; // the bytes from here on are spare in records with eight demands or availabilities
@@ -37,6 +41,28 @@ static void say_type(struct text *out, const struct plan *plan, size_t place) {
         text_print(out, "%s stands before the crew record", type_names[type]);
     else
         text_print(out, "%s stands after %s", type_names[type], type_names[record_type(plan_record(plan, place - 1))]);
+}
+
+// How many bytes a text's character has: UTF-8, and no control but tab and the ends of lines. 0 where it is none.
+static size_t text_character(const uint8_t *at, size_t left) {
+    char character[5] = {0}; // utf8_character reads on until a byte that does not belong to it
+    uint32_t code;
+    memcpy(character, at, left < 4 ? left : 4);
+    size_t len = utf8_character(character, &code);
+    if (code == '\t' || code == '\n' || code == '\r') return len;
+    return code < ' ' || (code >= 0x7F && code < 0xA0) ? 0 : len;
+}
+
+// Whether all of a file that is read is text. Of one that is too long the last character may be cut off.
+static int is_text(const struct plan *plan) {
+    size_t at = 0, len;
+    while (at < plan->len && (len = text_character(plan->bytes + at, plan->len - at)) > 0) at += len;
+    if (at == plan->len) return at > 0;
+    return plan->len > YAFFLEDESK_MOST_PLAN_BYTES && plan->len - at < 4 && plan->bytes[at] >= 0xC2;
+}
+
+static void say_text(struct text *out, const struct plan *plan) {
+    if (is_text(plan)) text_put(out, "; it is text: yaffledesk-planfile pack makes a plan of a text");
 }
 
 static void say_activity_field(struct text *out, const uint8_t *record, size_t place) {
@@ -186,8 +212,8 @@ static void say_page(struct text *out, uint64_t page, uint64_t pages) {
 void refusal_say(struct text *out, uint64_t answer, const struct plan *plan, const struct asked *asked) {
     uint64_t rest = YAFFLEDESK_REST(answer);
     switch (YAFFLEDESK_NUMBER(answer)) {
-    case YAFFLEDESK_BAD_LENGTH: say_length(out, plan); break;
-    case YAFFLEDESK_BAD_TYPE: say_type(out, plan, rest); break;
+    case YAFFLEDESK_BAD_LENGTH: say_length(out, plan), say_text(out, plan); break;
+    case YAFFLEDESK_BAD_TYPE: say_type(out, plan, rest), say_text(out, plan); break;
     case YAFFLEDESK_BAD_FIELD: say_field(out, plan, rest); break;
     case YAFFLEDESK_MILESTONE_DEMAND: say_milestone_demand(out, plan, rest); break;
     case YAFFLEDESK_BAD_SPARE: say_spare(out, plan, rest); break;

@@ -49,6 +49,42 @@ all_refuse whole.plan "refused 2: record 1 (place 0): type 0 is unknown"
 gives 1 "" "yaffledesk: -: $too_long" starts - < <(head -c 50000000 /dev/zero 2>/dev/null)
 rm ./*.plan
 
+# A text in the place of a plan is said to be one, by every command: of a length that is a plan's, or of any other.
+hint="; it is text: yaffledesk-planfile pack makes a plan of a text"
+no_multiple() { # BYTES: what is said of a file of so many
+    echo "refused 1: the file has $1 bytes, which is no multiple of 24: a plan has 1 to 2,048 records of 24 bytes"
+}
+cp "$root/examples/a.txt" a.plan
+printf 'activity 1 duration 3 demands 2\ncrew 4\n#########' >whole.plan
+printf 'job 1 -> 2\t# \303\244, \342\202\254, \360\237\220\246\r\n' >utf8.plan
+printf '\357\273\277crew 4\r\n' >mark.plan
+printf '\n' >newline.plan
+yes 'job 1 -> 2' | head -c 49153 >long.plan
+{ yes 'job 1 -> 2' | head -c 49151 && printf '\360\237\220\246'; } >cut.plan # of the last character 2 bytes are read
+for name in a utf8 mark newline; do
+    all_refuse "$name.plan" "$(no_multiple "$(stat -c %s "$name.plan")")$hint"
+    listed "$name.plan" "$(no_multiple "$(stat -c %s "$name.plan")")$hint"
+done
+all_refuse whole.plan "refused 2: record 1 (place 0): type 97 is unknown$hint"
+listed whole.plan "refused 2: record 1 (place 0): type 97 is unknown$hint"
+for name in long cut; do all_refuse "$name.plan" "$too_long$hint"; done
+gives 1 "whole.plan,refused,2,record 1 (place 0): type 97 is unknown$hint,,,,,,,,,,,,,,,," "" list --csv whole.plan
+object='{"plan":"whole.plan","accepted":false,"number":2,"refusal":"record 1 (place 0): type 97 is unknown'
+gives 1 "$object$hint\",\"kinds\":[]}" "" list --json whole.plan
+gives 1 "" "yaffledesk: -: refused 2: record 1 (place 0): type 97 is unknown$hint" report - <whole.plan
+# What is not all text: a zero, an escape, a delete, bytes that are not of UTF-8, a character that is cut off.
+for bytes in '\0' '\033' '\177' '\200' '\302\205' '\300\200' '\303' '\360\237\220' '\355\240\200' '\377'; do
+    printf "crew 4\n$bytes" >no.plan
+    gives 1 "" "yaffledesk: no.plan: $(no_multiple "$(stat -c %s no.plan)")" starts no.plan
+    { yes 'crew 4' | head -c 48 && printf "$bytes" && yes 'crew 4'; } 2>/dev/null | head -c 72 >no.plan
+    gives 1 "" "yaffledesk: no.plan: refused 2: record 1 (place 0): type 99 is unknown" starts no.plan
+done
+# What the plan before left behind a shorter one is none of it: the second byte of its last character stands there.
+printf 'crew 4 \244\n' >before.plan && printf 'crew 4\303' >no.plan
+gives 1 "before.plan  refused 1   $(no_multiple 9 | cut -c 12-)
+no.plan      refused 1   $(no_multiple 7 | cut -c 12-)" "" list --width 11 before.plan no.plan
+rm ./*.plan
+
 # Kinds and pages that a plan has not. 8 comes before 7.
 for kind in 0 2 9 256 257 18446744073709551615; do
     for command in flow sheet; do
