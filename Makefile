@@ -3,21 +3,29 @@
 #                        where none is named
 # make test              the test command: proves every crate from nothing, tries the wrong versions, runs all tests
 # make check CRATE=plan  proves one crate and what it rests on; what has not changed since is not proved again
-# make install           puts the command, its manual page, the library, the header and a file for pkg-config
-#                        below PREFIX (/usr/local, if it is not given), or below it in DESTDIR
+# make install           puts the command, its manual page, planfile (as yaffledesk-planfile), the library, the header
+#                        and a file for pkg-config below PREFIX (/usr/local, if it is not given), or below it in DESTDIR
 # make uninstall         removes what make install put there
 # make help              prints this list
+# CFLAGS, CPPFLAGS and LDFLAGS are taken as they are given, and so is HARDENING, which may be empty.
 # What of Debian's is missing is installed first, where that may be (tests/tools).
 PLAN ?= examples/a.plan
 PREFIX ?= /usr/local
 CC := gcc
 CFLAGS ?= -O2
+HARDENING ?= -fstack-protector-strong $(FORTIFY) -fPIE -pie -Wl,-z,relro,-z,now
+# there is no such thing without optimisation, and whoever names it has chosen
+FORTIFY = $(if $(CHOSEN),,$(if $(OPTIMISED),-U_FORTIFY_SOURCE -D_FORTIFY_SOURCE=2))
+CHOSEN = $(findstring _FORTIFY_SOURCE,$(CPPFLAGS) $(CFLAGS))
+OPTIMISED = $(filter-out -O0,$(lastword $(filter -O%,$(CFLAGS))))
 # 1, and how many of the customers' change requests have landed
 VERSION := 1.7
 
 COMMAND := target/yaffledesk
 LIBRARY := target/staticlib/libyaffledesk.a
-PLACE = $(DESTDIR)$(PREFIX)
+# Recipes have these from the environment, so that every character in them is what it is. On make's command line $ is
+# written $$; a newline cannot be had there, nor a blank at the beginning.
+export PREFIX DESTDIR
 # what the tests in other languages call
 TESTING := git gcc g++ rustc flock unshare rsvg-convert parallel pkg-config man
 # so that the last line of `make test` is its count, from wherever it is called
@@ -35,22 +43,26 @@ $(LIBRARY): crates.txt $(shell find crates -type f)
 $(COMMAND): $(LIBRARY) $(wildcard command/*.c command/*.h) include/yaffledesk.h Makefile
 	@tests/tools $(CC)
 	@echo "building the command" >&2
-	@$(CC) -std=c11 -D_GNU_SOURCE -DYAFFLEDESK_VERSION='"$(VERSION)"' -Wall -Wextra -Werror -pedantic $(CFLAGS) \
-	    -pthread -Iinclude $(wildcard command/*.c) $(LIBRARY) -o $@
+	@$(CC) -std=c11 -D_GNU_SOURCE -DYAFFLEDESK_VERSION='"$(VERSION)"' -Wall -Wextra -pedantic $(HARDENING) \
+	    $(CPPFLAGS) $(CFLAGS) $(LDFLAGS) -pthread -Iinclude $(wildcard command/*.c) $(LIBRARY) -o $@
 	@echo "$@ is built; $@ --help says what it does" >&2
 
+# In pkg-config's file a \ stands before what it would take for more than it is: blanks, quotes, \, #, and { after $.
 install: $(COMMAND)
-	@install -D -m 755 $(COMMAND) "$(PLACE)/bin/yaffledesk"
-	@install -D -m 644 command/yaffledesk.1 "$(PLACE)/share/man/man1/yaffledesk.1"
-	@install -D -m 644 $(LIBRARY) "$(PLACE)/lib/libyaffledesk.a"
-	@install -D -m 644 include/yaffledesk.h "$(PLACE)/include/yaffledesk.h"
-	@sed 's|@PREFIX@|$(PREFIX)|; s|@VERSION@|$(VERSION)|' command/yaffledesk.pc.in | \
-	    install -D -m 644 /dev/stdin "$(PLACE)/lib/pkgconfig/yaffledesk.pc"
-	@echo "installed below $(PLACE)" >&2
+	@install -D -T -m 755 $(COMMAND) "$$DESTDIR$$PREFIX/bin/yaffledesk"
+	@install -D -T -m 755 tools/planfile "$$DESTDIR$$PREFIX/bin/yaffledesk-planfile"
+	@install -D -T -m 644 command/yaffledesk.1 "$$DESTDIR$$PREFIX/share/man/man1/yaffledesk.1"
+	@install -D -T -m 644 $(LIBRARY) "$$DESTDIR$$PREFIX/lib/libyaffledesk.a"
+	@install -D -T -m 644 include/yaffledesk.h "$$DESTDIR$$PREFIX/include/yaffledesk.h"
+	@install -D -T -m 644 /dev/null "$$DESTDIR$$PREFIX/lib/pkgconfig/yaffledesk.pc"
+	@prefix=$$(printf '%s\n' "$$PREFIX" | sed "s/[[:space:]\"'\`\\\\{#]/\\\\&/g") && { printf 'prefix=%s\n' "$$prefix" && \
+	    sed 's/@VERSION@/$(VERSION)/' command/yaffledesk.pc.in; } >"$$DESTDIR$$PREFIX/lib/pkgconfig/yaffledesk.pc"
+	@printf 'installed below %s\n' "$$DESTDIR$$PREFIX" >&2
 
 uninstall:
-	@rm -f "$(PLACE)/bin/yaffledesk" "$(PLACE)/share/man/man1/yaffledesk.1" "$(PLACE)/lib/libyaffledesk.a" \
-	    "$(PLACE)/include/yaffledesk.h" "$(PLACE)/lib/pkgconfig/yaffledesk.pc"
+	@rm -f "$$DESTDIR$$PREFIX/bin/yaffledesk" "$$DESTDIR$$PREFIX/bin/yaffledesk-planfile" \
+	    "$$DESTDIR$$PREFIX/share/man/man1/yaffledesk.1" "$$DESTDIR$$PREFIX/lib/libyaffledesk.a" \
+	    "$$DESTDIR$$PREFIX/include/yaffledesk.h" "$$DESTDIR$$PREFIX/lib/pkgconfig/yaffledesk.pc"
 
 run:
 	@test -r "$(PLAN)" || { echo "make run: cannot read the plan file $(PLAN)" >&2; exit 2; }

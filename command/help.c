@@ -15,6 +15,7 @@ const char help_text[] =
     "  draw PLAN -o FILE  a picture of the plan, as SVG\n"
     "\n"
     "Where a plan, or a crew, is named - it is read from standard input.\n"
+    "yaffledesk-planfile makes a plan of a text, and shows a plan as text: its --help has the form.\n"
     "\n"
     "Options of list:\n"
     "  --csv              fields with commas between them; --json: one object a line\n"
