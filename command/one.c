@@ -13,12 +13,16 @@ int one_read(struct plan *plan, const char *name) {
     return why == NULL;
 }
 
-int one_refused(const char *name, uint64_t answer, const struct plan *plan, const struct asked *asked) {
+int one_refused_at(const char *name, size_t line, uint64_t answer, const struct plan *plan, const struct asked *asked) {
     struct text why = {0};
     refusal_say(&why, answer, plan, asked);
-    complain(name, "refused %u: %.*s", YAFFLEDESK_NUMBER(answer), (int)why.len, why.bytes);
+    complain_at(name, line, "refused %u: %.*s", YAFFLEDESK_NUMBER(answer), (int)why.len, why.bytes);
     text_free(&why);
     return STATUS_REFUSED;
+}
+
+int one_refused(const char *name, uint64_t answer, const struct plan *plan, const struct asked *asked) {
+    return one_refused_at(name, 0, answer, plan, asked);
 }
 
 int one_run(const struct options *options, make *make, enum content content) {

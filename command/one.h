@@ -15,7 +15,10 @@ int one_run(const struct options *options, make *make, enum content content);
 // Reads the plan that is named; where it cannot be read, that is said.
 int one_read(struct plan *plan, const char *name);
 
-// Says that a plan is refused, and why.
+// Says that a plan is refused, and why. Gives the exit status.
 int one_refused(const char *name, uint64_t answer, const struct plan *plan, const struct asked *asked);
+
+// The same where a line of another file is at fault, or line 0, none, where it is the whole of it.
+int one_refused_at(const char *name, size_t line, uint64_t answer, const struct plan *plan, const struct asked *asked);
 
 #endif

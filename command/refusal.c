@@ -169,16 +169,23 @@ static void say_overloaded(struct text *out, uint64_t answer, const struct plan 
     text_put(out, YAFFLEDESK_OVERLOAD_SIZE(answer) == 1 ? " alone demands that many" : " may be at work at once");
 }
 
+unsigned refusal_misfit(const struct plan *plan, const struct crew *crew) {
+    if (crew->count != plan_crew(plan)) return 0;
+    for (unsigned i = 1; i <= crew->count; i++)
+        if ((plan_duration(plan, i) == 0) != (crew->durations[i - 1] == 0)) return i;
+    return 0;
+}
+
 // The lists are m long, or they are not; else a milestone is worked, or another activity is not.
 static void say_lists(struct text *out, const struct plan *plan, size_t activities, const struct crew *crew) {
-    if (crew->count != activities) {
+    unsigned i = refusal_misfit(plan, crew);
+    if (crew->count != activities)
         text_print(out, "activities in the crew's file: %zu, in the plan: %zu", crew->count, activities);
-        return;
-    }
-    unsigned i = 1;
-    while (i < activities && (plan_duration(plan, i) == 0) == (crew->durations[i - 1] == 0)) i++;
-    if (plan_duration(plan, i) == 0)
-        text_print(out, "activity %u is a milestone, which takes no time, and is worked for %u", i, (unsigned)crew->durations[i - 1]);
+    else if (i == 0) // what a later library may find
+        text_put(out, "starts or durations are outside their rule");
+    else if (plan_duration(plan, i) == 0)
+        text_print(out, "activity %u is a milestone, which takes no time, and is worked for %u", i,
+                   (unsigned)crew->durations[i - 1]);
     else
         text_print(out, "activity %u is worked for 0 periods, and only milestones take no time", i);
 }

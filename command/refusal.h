@@ -20,6 +20,10 @@ struct asked {
 // Says what an answer other than 0 means, in one sentence without its number, and without a newline.
 void refusal_say(struct text *out, uint64_t answer, const struct plan *plan, const struct asked *asked);
 
+// Of a plan for which the library's answer is 10: the first activity, from 1, whose worked duration does not fit it, a
+// milestone that is worked, or another that is not. 0 where the crew has not as many activities as the plan, or none.
+unsigned refusal_misfit(const struct plan *plan, const struct crew *crew);
+
 // A set's members with commas between them.
 void members_say(struct text *out, uint64_t set);
 

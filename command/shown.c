@@ -63,27 +63,40 @@ void shown_json(struct text *out, const char *name) {
     text_put(out, "\"");
 }
 
-static void complaint_list(struct text *out, const char *name, const char *format, va_list values) {
+// Line 0 is none.
+static void complaint_list(struct text *out, const char *name, size_t line, const char *format, va_list values) {
     text_put(out, "yaffledesk: ");
     shown_name(out, name);
+    if (line > 0) text_print(out, ":%zu", line);
     text_put(out, ": ");
     text_print_list(out, format, values);
     text_put(out, "\n");
 }
 
+static void complain_list(const char *name, size_t line, const char *format, va_list values) {
+    struct text said = {0};
+    complaint_list(&said, name, line, format, values);
+    fwrite(said.bytes, 1, said.len, stderr);
+    text_free(&said);
+}
+
 void complaint(struct text *out, const char *name, const char *format, ...) {
     va_list values;
     va_start(values, format);
-    complaint_list(out, name, format, values);
+    complaint_list(out, name, 0, format, values);
     va_end(values);
 }
 
 void complain(const char *name, const char *format, ...) {
-    struct text line = {0};
     va_list values;
     va_start(values, format);
-    complaint_list(&line, name, format, values);
+    complain_list(name, 0, format, values);
     va_end(values);
-    fwrite(line.bytes, 1, line.len, stderr);
-    text_free(&line);
+}
+
+void complain_at(const char *name, size_t line, const char *format, ...) {
+    va_list values;
+    va_start(values, format);
+    complain_list(name, line, format, values);
+    va_end(values);
 }

@@ -19,4 +19,7 @@ void shown_json(struct text *out, const char *name);
 __attribute__((format(printf, 3, 4))) void complaint(struct text *out, const char *name, const char *format, ...);
 __attribute__((format(printf, 2, 3))) void complain(const char *name, const char *format, ...);
 
+// The same of one of its lines, counted from 1, as "yaffledesk: NAME:LINE: WHAT", on standard error; line 0 is none.
+__attribute__((format(printf, 3, 4))) void complain_at(const char *name, size_t line, const char *format, ...);
+
 #endif

@@ -17,10 +17,10 @@ not() {
     gives 1 "does not fit $2" "" crew "$1" crew.txt
 }
 
-# lists PLAN SAID LINES: 10.
+# lists PLAN PLACE SAID LINES: 10, which is said of the crew's file, and where PLACE is a colon and a line, of that.
 lists() {
-    crew "$3"
-    gives 1 "" "yaffledesk: $1: refused 10: $2" crew "$1" crew.txt
+    crew "$4"
+    gives 1 "" "yaffledesk: crew.txt$2: refused 10: $3" crew "$1" crew.txt
 }
 
 # faulty SAID LINES: a file that is no crew's. SAID has a line for each faulty one.
@@ -67,15 +67,27 @@ gives 1 "" "" crew examples/c.plan -o said <(printf '%s 0 1\n' 1 2 3 4)
 holds said "does not fit (255): in period 1 more of kind 1 are at work than the 4 that are available"
 count $? "that a crew does not fit, in a file"
 
-lists examples/a.plan "activities in the crew's file: 3, in the plan: 4" '1 0 1\n2 1 2\n3 0 3\n'
-lists examples/a.plan "activities in the crew's file: 5, in the plan: 4" '1 0 1\n2 1 2\n3 0 3\n4 3 1\n5 9 9\n'
-lists examples/a.plan "activities in the crew's file: 0, in the plan: 4" ''
-lists examples/a.plan "activities in the crew's file: 64, in the plan: 4" "$(printf '%d 0 1\\n' {1..64})"
-lists reports/no_activity.plan "activities in the crew's file: 1, in the plan: 0" '1 0 1\n'
-lists examples/a.plan "activity 3 is worked for 0 periods, and only milestones take no time" '1 0 1\n2 1 2\n3 0 0\n4 3 0\n'
-lists examples/a.plan "activity 4 is worked for 0 periods, and only milestones take no time" '1 0 1\n2 1 2\n3 0 1\n4 2 0\n'
-lists reports/milestone.plan "activity 2 is a milestone, which takes no time, and is worked for 5" '1 0 7\n2 7 5\n'
-lists reports/milestone.plan "activity 1 is worked for 0 periods, and only milestones take no time" '1 0 0\n2 7 5\n'
+here="activities in the crew's file:"
+lists examples/a.plan "" "$here 3, in the plan: 4" '1 0 1\n2 1 2\n3 0 3\n'
+lists examples/a.plan "" "$here 5, in the plan: 4" '1 0 1\n2 1 2\n3 0 3\n4 3 1\n5 9 9\n'
+lists examples/a.plan "" "$here 5, in the plan: 4" '1 0 1\n2 1 0\n3 0 3\n4 3 1\n5 9 9\n'
+lists examples/a.plan "" "$here 0, in the plan: 4" ''
+lists examples/a.plan "" "$here 64, in the plan: 4" "$(printf '%d 0 1\\n' {1..64})"
+lists reports/no_activity.plan "" "$here 1, in the plan: 0" '1 0 1\n'
+idle="is worked for 0 periods, and only milestones take no time"
+lists examples/a.plan :3 "activity 3 $idle" '1 0 1\n2 1 2\n3 0 0\n4 3 0\n'
+lists examples/a.plan :4 "activity 4 $idle" '1 0 1\n2 1 2\n3 0 1\n4 2 0\n'
+lists examples/a.plan :5 "activity 1 $idle" '4 3 1\n# in another order\n3 0 3\n2 1 2\n1 0 0\n'
+lists reports/milestone.plan :2 "activity 2 is a milestone, which takes no time, and is worked for 5" '1 0 7\n2 7 5\n'
+lists reports/milestone.plan :3 "activity 2 is a milestone, which takes no time, and is worked for 4294967295" \
+    '\n1 0 7\n2 7 4294967295\n'
+lists reports/milestone.plan :2 "activity 1 $idle" '2 7 5\n1 0 0\n'
+crew '1 0 1\n2 1 2\n3 0 3\n4 3 0\n'
+gives 1 "" "yaffledesk: -:4: refused 10: activity 4 $idle" crew examples/a.plan - <crew.txt
+gives 1 "" "yaffledesk: -: refused 10: $here 4, in the plan: 0" crew reports/no_activity.plan - <crew.txt
+# where the plan itself is refused, that is said under its own name
+gives 1 "" "yaffledesk: examples/e.plan: refused 6: job arcs and extra arcs lead activity 1 back to itself" \
+    crew examples/e.plan crew.txt
 
 # Faulty lines: each is named, and no answer is given.
 three="a line is three numbers, an activity, its start and its duration, the last two at most 4,294,967,295"
@@ -89,8 +101,8 @@ faulty "1: $three" '\xef\xbb1 0 1\n2 1 2\n'
 faulty $'5: activities are 1 to 64\n6: activities are 1 to 64\n7: activities are 1 to 64' '1 0 1\n2 1 2\n3 0 3\n4 3 1\n65 0 1\n0 0 1\n4294967297 0 1\n'
 faulty $'3: this activity has a line already\n5: this activity has a line already' '1 0 1\n2 1 2\n1 0 1\n3 0 3\n2 9 9\n4 3 1\n'
 faulty "1: $three"$'\n'"3: $three"$'\n4: activities are 1 to 64' 'a\n1 0 1\nb\n77 0 1\n4 3 1\n'
-faulty " activity 4 has a line and activity 3 has none" '1 0 1\n2 1 2\n4 3 1\n'
-faulty " activity 2 has a line and activity 1 has none" '2 1 2\n3 0 3\n4 3 1\n'
+faulty "3: activity 4 has a line and activity 3 has none" '1 0 1\n2 1 2\n4 3 1\n'
+faulty "4: activity 2 has a line and activity 1 has none" '4 3 1\n5 1 1\n3 0 3\n2 1 2\n'
 try crew examples/a.plan examples/a.plan
 [ "$status" -eq 2 ] && holds "$scratch/out" "" && grep -q "^yaffledesk: examples/a.plan:1: $three\$" "$scratch/err"
 told "a plan in place of a crew's file"
@@ -111,3 +123,69 @@ try crew examples/a.plan other.txt
 [ "$status" -eq 2 ] && holds "$scratch/out" "" && [ "$(wc -l <"$scratch/err")" -eq 21 ] && [ "$(tail -n 1 "$scratch/err")" = "yaffledesk: other.txt: 45 faulty lines in all" ]
 told "a file of 45 faulty lines"
 rm other.txt
+
+# Lines and texts have bounds. A line: 500 bytes before its comment and its end; a comment can be longer.
+# filled COUNT BYTE: so many of this byte.
+filled() {
+    head -c "$1" /dev/zero | tr '\0' "$2"
+}
+long="a line has at most 500 bytes before its comment"
+rest='2 1 2\n3 0 3\n4 3 1\n'
+for end in '' '\r' '#' '# first' "\r#$(filled 9000 x)" "#$(filled 500000 ' ')"; do
+    fits examples/a.plan "1$(filled 495 ' ')0 1 $end\n$rest"
+    faulty "1: $long" "1$(filled 496 ' ')0 1 $end\n$rest"
+done
+fits examples/a.plan "\xef\xbb\xbf1$(filled 496 ' ')0 1\r\n$rest"
+faulty "2: $long" "1 0 1\n$(filled 501 ' ')\n$rest"
+faulty "1: $long"$'\n'"5: $long" "$(filled 501 7)\n$rest$(filled 100000 x)"
+
+# A text: 1,048,576 bytes. Nothing is judged of one that has more, and no more of it is read.
+large="a crew's text has at most 1,048,576 bytes, and here it has more"
+# sized BYTES LINES: makes crew.txt of these lines, and of a last one, a comment, that fills it up.
+sized() {
+    crew "$2#"
+    filled $(($1 - $(wc -c <crew.txt))) x >>crew.txt
+}
+sized 1048576 "1 0 1\n$rest"
+gives 0 fits "" crew examples/a.plan crew.txt
+gives 0 fits "" crew examples/a.plan - < <(cat crew.txt)
+sized 1048577 "1 0 1\n$rest"
+gives 2 "" "yaffledesk: crew.txt:5: $large" crew examples/a.plan crew.txt
+gives 2 "" "yaffledesk: -:5: $large" crew examples/a.plan - < <(cat crew.txt)
+sized 1048575 "x\n1 0 1\n$rest" && echo >>crew.txt
+gives 2 "" "yaffledesk: crew.txt:1: $three" crew examples/a.plan crew.txt
+echo >>crew.txt
+gives 2 "" "yaffledesk: crew.txt:7: $large" crew examples/a.plan crew.txt
+rm crew.txt
+
+# ended STATUS OUT ERR WORDS ..: as `gives`, in 30 MB and ten seconds. Under a sanitizer, which maps far more for
+# itself, in as much as it likes.
+ended() {
+    local program=$yaffledesk yaffledesk=bounded
+    gives "$@"
+}
+bounded() (
+    [ -n "${SANITIZED:-}" ] || ulimit -v 30000
+    exec timeout 10 "$program" "$@"
+)
+[ -z "${SANITIZED:-}" ] || echo "not asked under a sanitizer: that a crew's text without an end is refused in 30 MB"
+ended 2 "" "yaffledesk: /dev/zero:1: $large" crew examples/a.plan /dev/zero
+ended 2 "" "yaffledesk: -:1: $large" crew examples/a.plan - < <(yes ' ' | tr -d '\n')
+ended 2 "" "yaffledesk: -:524289: $large" crew examples/a.plan - < <(yes '#')
+ended 2 "" "yaffledesk: -:2: $large" crew examples/f.plan - < <(echo 1 0 1; filled 600000000 ' '; echo rubbish)
+gives 2 "" "yaffledesk: -:2: $large" crew examples/f.plan - < <(echo 1 0 1; filled 600000000 ' '; echo rubbish)
+
+# What cannot be read to its end is no crew's, whatever its beginning says: a folder, a terminal that hangs up.
+gives 2 "" "yaffledesk: examples: cannot be read: Is a directory" crew examples/f.plan examples
+gives 2 "" "yaffledesk: none: cannot be read: No such file or directory" crew examples/f.plan none
+gives 2 "" "yaffledesk: -: cannot be read: Bad file descriptor" crew examples/f.plan - <&-
+"$python" - "$yaffledesk" <<'END'
+import os, pty, subprocess, sys
+mine, its = pty.openpty()
+os.write(its, b"1 0 1\n")
+os.close(its)
+done = subprocess.run([sys.argv[1], "crew", "examples/f.plan", "-"], stdin=mine, capture_output=True)
+said = (2, b"", b"yaffledesk: -: cannot be read: Input/output error\n")
+sys.exit((done.returncode, done.stdout, done.stderr) != said)
+END
+count $? "a crew's text that ends in an error is not taken for a whole one"
