@@ -20,7 +20,7 @@ static void put_verdict(struct text *words, const struct picture *picture) {
                    s_if_many(picture->kinds));
     } else {
         text_print(words, "refused %u: ", number);
-        refusal_say(words, picture->verdict, picture->plan, NULL);
+        refusal_say_grouped(words, picture->verdict, picture->plan);
     }
     text_add(words, "", 1);
 }

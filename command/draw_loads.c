@@ -38,14 +38,15 @@ static void lay_chart(struct chart *chart, const struct picture *picture, unsign
 }
 
 static void draw_steps(struct text *svg, const struct picture *picture, const struct chart *chart) {
-    const struct load *load = &chart->load;
-    if (load->count == 0) return;
+    struct seen seen;
+    loads_seen(&seen, &chart->load, picture);
+    if (seen.count == 0) return;
     double y = chart->bottom;
     svg_path(svg, LOOK_LOAD);
-    for (size_t i = 0; i < load->count; i++) {
-        double x = picture_at(picture, load->steps[i].time);
+    for (size_t i = 0; i < seen.count; i++) {
+        double x = seen.steps[i].x;
         svg_lead(svg, i == 0 ? 'M' : 'L', x, y);
-        y = scale_place(&chart->scale, load->steps[i].occupied);
+        y = scale_place(&chart->scale, seen.steps[i].occupied);
         svg_lead(svg, 'L', x, y);
     }
     text_put(svg, "z");

@@ -30,12 +30,57 @@ void loads_of(struct load *load, const struct picture *picture, unsigned kind) {
     struct change changes[2 * MOST_ACTIVITIES];
     size_t count = gather_changes(changes, picture, kind);
     int64_t occupied = 0;
+    uint64_t before = 0;
     load->count = 0;
     load->most = 0;
     for (size_t i = 0; i < count; i++) {
         occupied += changes[i].more;
         if (i + 1 < count && changes[i + 1].time == changes[i].time) continue; // or who hands over would count twice
-        load->steps[load->count++] = (struct load_step){changes[i].time, (uint64_t)occupied};
-        if ((uint64_t)occupied > load->most) load->most = (uint64_t)occupied;
+        if ((uint64_t)occupied == before) continue;                            // as many came as went
+        before = (uint64_t)occupied;
+        load->steps[load->count++] = (struct load_step){changes[i].time, before};
+        if (before > load->most) load->most = before;
+    }
+}
+
+// Where a step ends on the paper; the last one, of nobody, has no end.
+static double step_end(const struct load *load, const struct picture *picture, size_t i) {
+    const struct load_step *step = &load->steps[i];
+    return i + 1 < load->count ? picture_seen_to(picture, step->time, step[1].time) : PAPER_WIDTH;
+}
+
+// The most that any step has that is seen at a place.
+static uint64_t most_at(const struct load *load, const struct picture *picture, double x) {
+    uint64_t most = 0;
+    for (size_t i = 0; i < load->count && picture_at(picture, load->steps[i].time) <= x; i++)
+        if (load->steps[i].occupied > most && step_end(load, picture, i) > x) most = load->steps[i].occupied;
+    return most;
+}
+
+static int compare_places(const void *one, const void *other) {
+    double first = *(const double *)one, second = *(const double *)other;
+    return (first > second) - (first < second);
+}
+
+// The places at which something can change: where a step begins, and where one ends that is made longer than it lasts.
+static size_t gather_places(double *places, const struct load *load, const struct picture *picture) {
+    size_t count = 0;
+    for (size_t i = 0; i < load->count; i++) {
+        places[count++] = picture_at(picture, load->steps[i].time);
+        if (i + 1 < load->count) places[count++] = step_end(load, picture, i);
+    }
+    qsort(places, count, sizeof *places, compare_places);
+    return count;
+}
+
+void loads_seen(struct seen *seen, const struct load *load, const struct picture *picture) {
+    double places[MOST_SEEN];
+    size_t count = gather_places(places, load, picture);
+    uint64_t before = 0;
+    seen->count = 0;
+    for (size_t i = 0; i < count; i++) {
+        uint64_t occupied = most_at(load, picture, places[i]);
+        if (occupied != before) seen->steps[seen->count++] = (struct seen_step){places[i], occupied};
+        before = occupied;
     }
 }

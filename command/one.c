@@ -130,10 +130,15 @@ static uint64_t make_overload(struct text *out, const struct plan *plan, const s
 }
 
 // On the wall a plan's name is enough, without its folders'.
+static const char *title_of(const char *name) {
+    const char *slash = strrchr(name, '/');
+    if (strcmp(name, "-") == 0) return "standard input";
+    return slash != NULL ? slash + 1 : name;
+}
+
 static uint64_t make_draw(struct text *out, const struct plan *plan, const struct options *options, struct asked *asked) {
-    const char *name = options->names[0], *slash = strrchr(name, '/');
     (void)asked;
-    return draw_plan(out, plan, slash != NULL ? slash + 1 : name);
+    return draw_plan(out, plan, title_of(options->names[0]));
 }
 
 static enum content records_or_lines(const struct options *options) { return options->binary ? BINARY : TEXT; }

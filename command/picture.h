@@ -56,4 +56,7 @@ static inline double picture_rows_bottom(const struct picture *picture) {
 double picture_left(const struct picture *picture, unsigned activity);
 double picture_right(const struct picture *picture, unsigned activity);
 
+// Where a stretch of time that begins at its place ends on the paper: however short it is, it can be seen.
+double picture_seen_to(const struct picture *picture, uint64_t from, uint64_t to);
+
 #endif

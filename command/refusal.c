@@ -1,5 +1,6 @@
 #include "refusal.h"
 
+#include "scale.h"
 #include "utf8.h"
 
 #include <string.h>
@@ -161,12 +162,23 @@ void members_say(struct text *out, uint64_t set) {
         }
 }
 
-static void say_overloaded(struct text *out, uint64_t answer, const struct plan *plan) {
-    unsigned kind = YAFFLEDESK_OVERLOAD_KIND(answer);
-    text_print(out, "kind %u needs %u and has %u: ", kind, (unsigned)YAFFLEDESK_OVERLOAD_NEED(answer), plan_available(plan, kind));
+static void say_members(struct text *out, uint64_t answer, const struct plan *plan) {
     text_put(out, YAFFLEDESK_OVERLOAD_SIZE(answer) == 1 ? "activity " : "activities ");
     members_say(out, yaffledesk_set(plan->bytes, plan->len));
     text_put(out, YAFFLEDESK_OVERLOAD_SIZE(answer) == 1 ? " alone demands that many" : " may be at work at once");
+}
+
+static void say_overloaded(struct text *out, uint64_t answer, const struct plan *plan) {
+    unsigned kind = YAFFLEDESK_OVERLOAD_KIND(answer), need = (unsigned)YAFFLEDESK_OVERLOAD_NEED(answer);
+    text_print(out, "kind %u needs %u and has %u: ", kind, need, plan_available(plan, kind));
+    say_members(out, answer, plan);
+}
+
+void refusal_say_grouped(struct text *out, uint64_t answer, const struct plan *plan) {
+    unsigned kind = YAFFLEDESK_OVERLOAD_KIND(answer);
+    text_print(out, "kind %u needs %s and has %s: ", kind, scale_grouped(YAFFLEDESK_OVERLOAD_NEED(answer)).digits,
+               scale_grouped(plan_available(plan, kind)).digits);
+    say_members(out, answer, plan);
 }
 
 unsigned refusal_misfit(const struct plan *plan, const struct crew *crew) {
@@ -219,8 +231,14 @@ static void say_page(struct text *out, uint64_t page, uint64_t pages) {
 void refusal_say(struct text *out, uint64_t answer, const struct plan *plan, const struct asked *asked) {
     uint64_t rest = YAFFLEDESK_REST(answer);
     switch (YAFFLEDESK_NUMBER(answer)) {
-    case YAFFLEDESK_BAD_LENGTH: say_length(out, plan), say_text(out, plan); break;
-    case YAFFLEDESK_BAD_TYPE: say_type(out, plan, rest), say_text(out, plan); break;
+    case YAFFLEDESK_BAD_LENGTH:
+        say_length(out, plan);
+        say_text(out, plan);
+        break;
+    case YAFFLEDESK_BAD_TYPE:
+        say_type(out, plan, rest);
+        say_text(out, plan);
+        break;
     case YAFFLEDESK_BAD_FIELD: say_field(out, plan, rest); break;
     case YAFFLEDESK_MILESTONE_DEMAND: say_milestone_demand(out, plan, rest); break;
     case YAFFLEDESK_BAD_SPARE: say_spare(out, plan, rest); break;

@@ -19,6 +19,7 @@ BAR = re.compile(rf"(activity|milestone) (\d+)(?:: start {NUMBER}, finish| at) {
 ARC = re.compile(rf"(job|extra) arc (\d+) to (\d+)(?:, wait {NUMBER})?")
 KIND = re.compile(rf"kind (\d): need {NUMBER}, available {NUMBER}, this timetable occupies at most {NUMBER}")
 JOB, EXTRA, ORANGE, DASHED = 3, 4, "#b86200", "stroke-dasharray"
+THINNEST = 1.5 # pixels: so wide are a bar and a load at least, however short they last
 
 
 def number(digits):
@@ -78,7 +79,8 @@ def bars(plan, root, shown, place, name):
         if start < finish:
             rect = element.find(SVG + "rect")
             left, width = float(rect.get("x")), float(rect.get("width"))
-            check(near(left, place(start)) and (near(left + width, place(finish)) or width == 1.5), f"{name}: where the bar of activity {i} stands")
+            ends = near(left + width, place(finish)) or width == THINNEST
+            check(near(left, place(start)) and ends, f"{name}: where the bar of activity {i} stands")
             check((rect.get("fill") == "url(#hatched)") == (i in shown), f"{name}: how activity {i} is filled")
     check(found == {i + 1: times for i, times in enumerate(zip(plan.starts, plan.finishes))}, f"{name}: starts and finishes")
 
@@ -90,6 +92,18 @@ def arcs(plan, root, name):
             found.append((JOB if said[1] == "job" else EXTRA, int(said[2]), int(said[3]), number(said[4] or "0")))
             check((DASHED in group.keys()) == (found[-1][0] == EXTRA), f"{name}: extra arcs alone are dashed")
     check(sorted(found) == sorted(plan.arcs), f"{name}: all arcs, with their types and waits")
+
+
+def seen(load, place):
+    """The steps of a load as they are seen: each lasts for THINNEST at least, and the highest of a place is seen."""
+    ends = [place(time) for time, _ in load[1:]]
+    lasting = [(place(time), max(end, place(time) + THINNEST), step) for (time, step), end in zip(load, ends)]
+    steps = []
+    for at in sorted({edge for left, right, _ in lasting for edge in (left, right)}):
+        height = max((step for left, right, step in lasting if left <= at < right), default=0)
+        if height != (steps[-1][1] if steps else 0):
+            steps.append((at, height))
+    return steps
 
 
 def chart(plan, element, said, need, place, name):
@@ -105,8 +119,10 @@ def chart(plan, element, said, need, place, name):
     points = [tuple(map(float, point.split())) for point in re.split("[ML]", path.get("d").rstrip("z"))[1:]]
     bottom, rise = points[0][1], (points[0][1] - heights[True]) / need
     drawn = [after for before, after in zip(points[::2], points[1::2]) if before[1] != after[1]] # from a step to the same height there is nothing to see
-    wanted = [(place(time), bottom - rise * step) for time, step in load]
+    wanted = [(at, bottom - rise * step) for at, step in seen(load, place)]
     check(len(drawn) == len(wanted) and all(near(a[0], b[0]) and abs(a[1] - b[1]) < 0.1 for a, b in zip(drawn, wanted)), f"{name}: the load of kind {kind}, step by step")
+    wide = [a[1] for a, b in zip(drawn, drawn[1:]) if b[0] - a[0] > THINNEST - 0.03]
+    check(abs(min(wide, default=bottom) - (bottom - rise * most)) < 0.1, f"{name}: the most of kind {kind} is seen")
     torn = any("torn" in (text.text or "") for text in element.iter(SVG + "text"))
     check(torn or abs(heights[False] - (bottom - rise * plan.available[kind - 1])) < 0.2, f"{name}: the line of what is available of kind {kind}")
 
@@ -121,7 +137,10 @@ def picture(name):
     left, right = float(axis.get("x1")), float(axis.get("x2"))
     place = lambda time: left + (right - left) * time / max(plan.end, 1)
     words = " ".join(text.text or "" for text in root.iter(SVG + "text"))
-    check(("refused 7: " + listed["refusal"] if shown else "accepted: ") in root.find(SVG + "desc").text, f"{name}: its sentence")
+    refusal = re.sub(r"\d{5,}", lambda digits: f"{int(digits[0]):,}", listed.get("refusal", "")) # as all numbers here
+    check(("refused 7: " + refusal if shown else "accepted: ") in root.find(SVG + "desc").text, f"{name}: its sentence")
+    head = f"{pathlib.Path(name).name} {'refused 7: ' if shown else 'accepted: '}"
+    check(words.startswith(head), f"{name}: its head")
     check(re.search(rf"\bend {plan.end:,}\b", words.replace(f"end {plan.end} ", f"end {plan.end:,} ")), f"{name}: its end")
     bars(plan, root, shown, place, name)
     arcs(plan, root, name)
@@ -143,6 +162,29 @@ def large(name, seed):
     return name
 
 
-for plan_name in PLANS + [large(f"large{seed}.plan", seed) for seed in range(6)]:
+def short(name, *jobs, available=65535):
+    """Jobs of one kind, each a duration, a demand, and whether it comes after the one before it."""
+    records = [struct.pack("<BBHH18x", 1, i, length, demand) for i, (length, demand, _) in enumerate(jobs, 1)]
+    records.append(struct.pack("<BBHH18x", 2, 1, 0, available))
+    records += [struct.pack("<BBBB20x", JOB, i, i + 1, 0) for i, job in enumerate(jobs[1:], 1) if job[2]]
+    pathlib.Path(name).write_bytes(b"".join(records))
+    return name
+
+
+def shorts():
+    """Peaks and gaps of one period in thousands: at the beginning, amid and at the end, and close to each other."""
+    yield short("short_first.plan", (5000, 1, 0), (1, 18, 0))
+    yield short("short_amid.plan", (5000, 1, 0), (2500, 0, 0), (1, 18, 1), (1, 0, 1), (1, 9, 1))
+    yield short("short_last.plan", (5000, 1, 0), (4999, 3, 0), (1, 18, 1))
+    yield short("short_alone.plan", (5000, 0, 0), (3000, 0, 0), (1, 18, 1))
+    yield short("short_gap.plan", (2500, 7, 0), (1, 0, 1), (2500, 7, 1), (5001, 2, 0))
+    yield short("short_stairs.plan", (60000, 5, 0), *((1, 3 * (i % 5) + i, 1) for i in range(1, 30)))
+    yield short("short_overload.plan", (60000, 65535, 0), *((1, 65535, 0) for _ in range(24)))
+    draw = random.Random(11)
+    jobs = [(draw.choice((1, 2, 60, 2000)), draw.randrange(9), draw.random() < 0.8) for _ in range(64)]
+    yield short("short_random.plan", *jobs, available=30)
+
+
+for plan_name in PLANS + [*shorts()] + [large(f"large{seed}.plan", seed) for seed in range(6)]:
     picture(plan_name)
 last_line()

@@ -104,11 +104,16 @@ for plan in examples/*.plan; do
     esac
 done
 adds "what pictures show" "$python" "$root/tests/command/pictures.py" "$yaffledesk" examples/*.plan reports/*.plan
-rm -f large*.plan
+rm -f large*.plan short*.plan
 "$yaffledesk" draw examples/b.plan -o picture.svg && cmp picture.svg "$root/docs/b.svg"
 count $? "the picture of examples/b.plan is the one that README and the guide show, docs/b.svg"
 grep -q '\b2, 3, 4\b' picture.svg && ! grep -q '\b1, 2, 3, 4\b' picture.svg
 count $? "the picture of examples/b.plan names the activities 2, 3, 4"
 cp examples/a.plan '<&">.plan' && "$yaffledesk" draw '<&">.plan' -o picture.svg && rsvg-convert picture.svg -o picture.png
 count $? "the picture of a plan with a name that is not XML"
-rm -f picture.svg picture.png '<&">.plan'
+"$yaffledesk" draw - <examples/a.plan | grep -o 'standard input<\|<title>Plan [^<]*' | head -n 2 | cmp - <(
+    printf '<title>Plan standard input\nstandard input<\n')
+count $? "the picture of standard input is called so"
+cp examples/a.plan ./- && "$yaffledesk" draw ./- | grep -q '<title>Plan -<'
+count $? "the picture of a file that is called -"
+rm -f picture.svg picture.png '<&">.plan' ./-
