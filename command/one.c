@@ -25,7 +25,7 @@ int one_refused(const char *name, uint64_t answer, const struct plan *plan, cons
     return one_refused_at(name, 0, answer, plan, asked);
 }
 
-int one_run(const struct options *options, make *make, enum content content) {
+int one_run(const struct options *options, maker *make, enum content content) {
     static struct plan plan;
     struct text out = {0};
     struct asked asked = {.kind = options->kind, .page = options->page};
@@ -91,7 +91,8 @@ static uint64_t one_sheet(struct text *out, const struct plan *plan, const struc
 }
 
 // The kind that is asked for, or kind after kind: so many as Needs writes numbers.
-static uint64_t each_kind(struct text *out, const struct plan *plan, const struct options *options, struct asked *asked, make *one) {
+static uint64_t each_kind(struct text *out, const struct plan *plan, const struct options *options,
+                          struct asked *asked, maker *one) {
     uint32_t needs[YAFFLEDESK_MOST_KINDS];
     if (options->has_kind) return one(out, plan, options, asked);
     uint64_t answer = yaffledesk_needs(plan->bytes, plan->len, needs, YAFFLEDESK_MOST_KINDS), kinds = YAFFLEDESK_REST(answer);

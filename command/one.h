@@ -7,10 +7,10 @@
 #include "refusal.h"
 
 // Makes a result of a plan, and gives the library's answer. With an answer other than 0 nothing of what it made is used.
-typedef uint64_t make(struct text *out, const struct plan *plan, const struct options *options, struct asked *asked);
+typedef uint64_t maker(struct text *out, const struct plan *plan, const struct options *options, struct asked *asked);
 
 // Reads the plan that is named, makes the result, and writes it where it is asked for; else says why not. Gives the exit status.
-int one_run(const struct options *options, make *make, enum content content);
+int one_run(const struct options *options, maker *make, enum content content);
 
 // Reads the plan that is named; where it cannot be read, that is said.
 int one_read(struct plan *plan, const char *name);

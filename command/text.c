@@ -8,16 +8,19 @@
 
 enum { FIRST_ROOM = 4096 };
 
-// Room for so many bytes more. Whoever has no memory for a line of text has none to go on with.
+// Whoever cannot make a line of text cannot go on, and must not go on without it.
+__attribute__((noreturn)) static void end_program(const char *why) {
+    fprintf(stderr, "yaffledesk: %s\n", why);
+    exit(STATUS_TROUBLE);
+}
+
+// Room for so many bytes more.
 static void make_room(struct text *text, size_t more) {
     if (text->room - text->len >= more) return;
     size_t room = text->room == 0 ? FIRST_ROOM : text->room;
     while (room - text->len < more) room *= 2;
     char *bytes = realloc(text->bytes, room);
-    if (bytes == NULL) {
-        fputs("yaffledesk: out of memory\n", stderr);
-        exit(STATUS_TROUBLE);
-    }
+    if (bytes == NULL) end_program("out of memory");
     text->bytes = bytes;
     text->room = room;
 }
@@ -35,6 +38,7 @@ void text_print_list(struct text *text, const char *format, va_list values) {
     va_copy(again, values);
     int len = vsnprintf(NULL, 0, format, again);
     va_end(again);
+    if (len < 0) end_program("a text cannot be printed");
     make_room(text, (size_t)len + 1); // vsnprintf ends with a 0, which does not count
     vsnprintf(text->bytes + text->len, (size_t)len + 1, format, values);
     text->len += (size_t)len;

@@ -1,4 +1,5 @@
-// Text under way: bytes that are gathered until all of them can be written at once.
+// Text under way: bytes that are gathered until all of them can be written at once. Where there is no memory for them,
+// or printf could not print them, the program ends: that is said, and its status is 2.
 #ifndef TEXT_H
 #define TEXT_H
 

@@ -126,21 +126,43 @@ static void work_alone(const struct options *options, struct source source, stru
     free_batch(&batch);
 }
 
+// A ring of batches that nobody works on yet. Where there is no memory for it, its batches are none.
+static void open_ring(struct ring *ring, const struct options *options) {
+    size_t size = 4 * (size_t)options->jobs;
+    *ring = (struct ring){.options = options, .size = size};
+    pthread_mutex_init(&ring->lock, NULL);
+    pthread_cond_init(&ring->fill, NULL);
+    pthread_cond_init(&ring->finish, NULL);
+    ring->batches = calloc(size, sizeof *ring->batches);
+    ring->done = calloc(size, sizeof *ring->done);
+}
+
+static void close_ring(struct ring *ring) {
+    for (size_t i = 0; ring->batches != NULL && i < ring->size; i++) free_batch(&ring->batches[i]);
+    free(ring->batches);
+    free(ring->done);
+    pthread_cond_destroy(&ring->finish);
+    pthread_cond_destroy(&ring->fill);
+    pthread_mutex_destroy(&ring->lock);
+}
+
+// As many threads as are asked for, or as can be had. None for one job: it is done without.
+static size_t start_threads(struct ring *ring, pthread_t *threads, size_t jobs) {
+    size_t started = 0;
+    if (ring->batches == NULL || ring->done == NULL || jobs == 1) return 0;
+    while (started < jobs && pthread_create(&threads[started], NULL, worker, ring) == 0) started++;
+    return started;
+}
+
 void work(const struct options *options, struct source source, struct sink sink) {
-    size_t size = 4 * (size_t)options->jobs, started = 0;
     pthread_t threads[options->jobs];
-    struct ring ring = {.options = options, .size = size, .batches = calloc(size, sizeof *ring.batches), .done = calloc(size, sizeof *ring.done)};
-    pthread_mutex_init(&ring.lock, NULL);
-    pthread_cond_init(&ring.fill, NULL);
-    pthread_cond_init(&ring.finish, NULL);
-    if (ring.batches != NULL && ring.done != NULL && options->jobs > 1)
-        while (started < options->jobs && pthread_create(&threads[started], NULL, worker, &ring) == 0) started++;
+    struct ring ring;
+    open_ring(&ring, options);
+    size_t started = start_threads(&ring, threads, options->jobs);
     if (started > 0)
         work_together(&ring, source, sink);
     else
         work_alone(options, source, sink);
     for (size_t i = 0; i < started; i++) pthread_join(threads[i], NULL);
-    for (size_t i = 0; ring.batches != NULL && i < size; i++) free_batch(&ring.batches[i]);
-    free(ring.batches);
-    free(ring.done);
+    close_ring(&ring);
 }
