@@ -2,6 +2,7 @@
 # make run [PLAN=file]   proves and builds the report program, and prints the report of a plan, examples/a.plan
 #                        where none is named
 # make test              the test command: proves every crate from nothing, tries the wrong versions, runs all tests
+# make sanitize          tests the command once more, built under gcc's sanitizers of memory and undefined behaviour
 # make check CRATE=plan  proves one crate and what it rests on; what has not changed since is not proved again
 # make install           puts the command, its manual page, planfile (as yaffledesk-planfile), the library, the header
 #                        and a file for pkg-config below PREFIX (/usr/local, if it is not given), or below it in DESTDIR
@@ -30,7 +31,7 @@ export PREFIX DESTDIR
 TESTING := git gcc g++ rustc flock unshare rsvg-convert parallel pkg-config man
 # so that the last line of `make test` is its count, from wherever it is called
 MAKEFLAGS += --no-print-directory
-.PHONY: all run test check install uninstall help
+.PHONY: all run test sanitize check install uninstall help
 
 all: $(COMMAND)
 
@@ -78,6 +79,23 @@ check:
 test:
 	@tests/tools rt python3 $(TESTING)
 	@tests/run
+
+# The command under gcc's sanitizers, and a program with faults that they are to report. Their libraries are linked into
+# them: that halves what a start takes, and the tests start some thousand.
+SANITIZERS := -O1 -g -fsanitize=address,undefined -fno-sanitize-recover=all -static-libasan -static-libubsan
+
+target/yaffledesk.sanitized: $(LIBRARY) $(wildcard command/*.c command/*.h) include/yaffledesk.h Makefile
+	@tests/tools $(CC)
+	@$(CC) -std=c11 -D_GNU_SOURCE -DYAFFLEDESK_VERSION='"$(VERSION)"' $(SANITIZERS) \
+	    -pthread -Iinclude $(wildcard command/*.c) $(LIBRARY) -o $@
+
+target/faulty.sanitized: tests/sanitize/faulty.c Makefile
+	@mkdir -p target
+	@$(CC) -std=c11 $(SANITIZERS) $< -o $@
+
+sanitize:
+	@tests/tools rt python3 $(TESTING)
+	@tests/sanitize/run
 
 help:
 	@sed -n 's/^# \(make\|  \)/\1/p' Makefile
