@@ -33,6 +33,7 @@ static int refused(const char *name, uint64_t answer, const struct plan *plan, c
 int crew_run(const struct options *options) {
     static struct plan plan;
     struct crew_text text;
+    if (one_spoils(options)) return STATUS_TROUBLE;
     if (!one_read(&plan, options->names[0]) || !crew_text_read(&text, options->names[1])) return STATUS_TROUBLE;
     const struct crew *crew = &text.crew;
     const struct asked asked = {.crew = crew};

@@ -25,11 +25,17 @@ int one_refused(const char *name, uint64_t answer, const struct plan *plan, cons
     return one_refused_at(name, 0, answer, plan, asked);
 }
 
+int one_spoils(const struct options *options) {
+    size_t at = 0;
+    while (at < options->count && !output_is_input(options->output, options->names[at])) at++;
+    return at < options->count;
+}
+
 int one_run(const struct options *options, maker *make, enum content content) {
     static struct plan plan;
     struct text out = {0};
     struct asked asked = {.kind = options->kind, .page = options->page};
-    if (!one_read(&plan, options->names[0])) return STATUS_TROUBLE;
+    if (one_spoils(options) || !one_read(&plan, options->names[0])) return STATUS_TROUBLE;
     uint64_t answer = make(&out, &plan, options, &asked);
     int status = YAFFLEDESK_NUMBER(answer) != YAFFLEDESK_DONE ? one_refused(options->names[0], answer, &plan, &asked)
                                                              : output_write(options->output, &out, content);

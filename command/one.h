@@ -9,6 +9,9 @@
 // Makes a result of a plan, and gives the library's answer. With an answer other than 0 nothing of what it made is used.
 typedef uint64_t maker(struct text *out, const struct plan *plan, const struct options *options, struct asked *asked);
 
+// Whether the output is one of the files that are named, which would be lost by it: that is said then.
+int one_spoils(const struct options *options);
+
 // Reads the plan that is named, makes the result, and writes it where it is asked for; else says why not. Gives the exit status.
 int one_run(const struct options *options, maker *make, enum content content);
 

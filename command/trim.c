@@ -17,10 +17,8 @@ static void say_gone(struct text *out, const struct plan *plan, const struct tex
     }
 }
 
-// What went is said where the plan goes to a file: standard output is for the plan otherwise.
-static int say(const struct options *options, const struct plan *plan, const struct text *left) {
+static int say(const struct plan *plan, const struct text *left) {
     struct text gone = {0};
-    if (options->output == NULL) return STATUS_DONE;
     say_gone(&gone, plan, left);
     int status = output_write(NULL, &gone, TEXT);
     text_free(&gone);
@@ -35,8 +33,9 @@ int trim_run(const struct options *options) {
     if (YAFFLEDESK_NUMBER(answer) != YAFFLEDESK_DONE) return one_refused(options->names[0], answer, &plan, NULL);
     struct text left = {0};
     text_add(&left, trimmed, YAFFLEDESK_RECORD_BYTES * YAFFLEDESK_REST(answer));
-    int status = output_write(options->output, &left, BINARY);
-    if (status == STATUS_DONE) status = say(options, &plan, &left);
+    // What went is said where the plan goes elsewhere: standard output is for the plan otherwise.
+    int is_said = !output_is_standard(options->output), status = output_write(options->output, &left, BINARY);
+    if (status == STATUS_DONE && is_said) status = say(&plan, &left);
     text_free(&left);
     return status;
 }
