@@ -1,5 +1,5 @@
 // A file that is written beside the one whose place it is to take, so that whoever reads that one finds what was there
-// before, or all of what is new. There is one at a time.
+// before, or all of what is new. A signal that ends the program removes it, and so does exit. There is one at a time.
 #ifndef BESIDE_H
 #define BESIDE_H
 

@@ -23,7 +23,7 @@ const char help_text[] =
     "  --width N          the width of the column of names in a table, 32 where it is not given\n"
     "  -j, --jobs N       on N processors, with the same output\n"
     "Options of the commands on one plan:\n"
-    "  -k, --kind N       of flow and sheet: this kind alone, and not all\n"
+    "  -k, --kind N       of flow and sheet: this kind, of 1 to 8, alone, and not all\n"
     "  -p, --page N       of sheet: this page alone, and not all\n"
     "  -o, --output FILE  to this file, which is replaced when all of it is there; else, or where it is -, to standard\n"
     "                     output\n"

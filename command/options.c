@@ -2,6 +2,7 @@
 
 #include "shown.h"
 #include "status.h"
+#include "yaffledesk.h"
 
 #include <getopt.h>
 #include <stdarg.h>
@@ -52,17 +53,21 @@ static uint64_t number(int letter, const char *word, uint64_t least, uint64_t mo
     const char *digit = word;
     for (; *digit >= '0' && *digit <= '9'; digit++) {
         unsigned more = (unsigned)(*digit - '0');
-        if (value > (most - more) / 10) break;
+        if (more > most || value > (most - more) / 10) break;
         value = 10 * value + more;
     }
     if (*digit != 0 || digit == word || value < least)
-        misused("--%s takes a number from %llu to %llu, not '%s'", long_name(letter), (unsigned long long)least, (unsigned long long)most, word);
+        misused("--%s takes a number from %llu to %llu, not '%s'", long_name(letter), (unsigned long long)least,
+                (unsigned long long)most, word);
     return value;
 }
 
 static void set(struct options *options, int letter, const char *word) {
     switch (letter) {
-    case 'k': options->has_kind = 1, options->kind = number(letter, word, 0, UINT64_MAX); break;
+    case 'k':
+        options->has_kind = 1;
+        options->kind = number(letter, word, 1, YAFFLEDESK_MOST_KINDS);
+        break;
     case 'p': options->has_page = 1, options->page = number(letter, word, 0, UINT64_MAX); break;
     case 'o': options->output = strcmp(word, "-") == 0 ? NULL : word; break;
     case 'j': options->jobs = (unsigned)number(letter, word, 1, MOST_JOBS); break;
@@ -97,6 +102,28 @@ static const char *wrong_word(char **argv) {
     return argv[optind - 1];
 }
 
+// How many options a word "--abc", with or without "=value", can be short for; their names are added, each behind a
+// comma. The whole name of one is that one alone, which getopt has found then.
+static size_t could_be(struct text *names, const char *word) {
+    size_t count = 0, len = strcspn(word, "=");
+    for (const struct option *option = known; len > 2 && option->name != NULL; option++) {
+        if (strncmp(word + 2, option->name, len - 2) != 0) continue;
+        text_print(names, ", --%s", option->name);
+        count++;
+    }
+    return count;
+}
+
+// A word that getopt does not know, or that it could take for several options.
+__attribute__((noreturn)) static void unknown(char **argv) {
+    struct text names = {0};
+    const char *word = wrong_word(argv);
+    if (word[1] == '-' && could_be(&names, word) > 1)
+        misused("%.*s is ambiguous: it could be %.*s", (int)strcspn(word, "="), word, (int)names.len - 2,
+                names.bytes + 2);
+    misused("%s is no option", word);
+}
+
 static void check(const struct options *options) {
     const struct command *command = options->command;
     if (options->format == JSON && options->heading) misused("--heading: lines of JSON have no heading");
@@ -117,7 +144,7 @@ static void read_options(struct options *options, int argc, char **argv) {
     for (int letter; (letter = getopt_long(argc, argv, ":hk:p:o:j:", known, NULL)) != -1;) {
         print_if_asked(letter);
         if (letter == ':') misused("%s takes a value", wrong_word(argv));
-        if (letter == '?') misused("%s is no option", wrong_word(argv));
+        if (letter == '?') unknown(argv);
         if (strchr(options->command->letters, letter) == NULL) misused("%s takes no option --%s", options->command->name, long_name(letter));
         set(options, letter, optarg);
     }

@@ -49,7 +49,25 @@ misused "crew: the plan and the crew's file cannot both be standard input" crew 
 misused "-x is no option" list --csv -xy examples/a.plan
 misused "-y is no option" flow -k1 -yx examples/a.plan
 misused "--csv=3 is no option" list --csv=3 examples/a.plan
-misused "--he is no option" list --he examples/a.plan
+
+# A name that is cut short: of one option, it is that one; of several, these are said; of none, it is unknown.
+# ambiguous WORD COULD WORDS ..: the word could be these options, for every command.
+ambiguous() {
+    local command
+    for command in list report starts flow overload sheet trim crew draw; do
+        misused "$1 is ambiguous: it could be $2" "$command" "${3:-$1}" examples/a.plan
+    done
+}
+ambiguous --h "--help, --heading"
+ambiguous --he "--help, --heading"
+ambiguous --h "--help, --heading" --h=3
+ambiguous --j "--jobs, --json"
+misused "--hx is no option" list --hx examples/a.plan
+misused "--helpx is no option" list --helpx examples/a.plan
+misused "--=x is no option" list --=x examples/a.plan
+misused "--head=3 is no option" list --head=3 examples/a.plan
+stored 0 help list --hel
+stored 1 list.headed list examples/ --hea
 misused "-k takes a value" flow examples/a.plan -k
 misused "--kind takes a value" flow examples/a.plan --kind
 misused "--output takes a value" starts examples/a.plan --output
@@ -78,8 +96,9 @@ number() {
     for word in "${@:5}"; do misused "$2 takes a number from $3 to $4, not '$word'" "$1" "$2=$word" examples/a.plan; done
 }
 most=18446744073709551615
-number flow --kind 0 $most "" -1 +1 " 1" 1x 0x1 1.0 18446744073709551616 99999999999999999999 184467440737095516150
-number sheet --page 0 $most "" one -1 18446744073709551616
+number flow --kind 1 8 0 9 10 18 80 256 257 $most 18446744073709551616 18446744073709551617 "" -1 +1 " 1" 1x 0x1 1.0
+number sheet --kind 1 8 0 9 99 one
+number sheet --page 0 $most "" one -1 +1 " 1" 1x 0x1 1.0 18446744073709551616 99999999999999999999 184467440737095516150
 number list --jobs 1 256 0 257 "" two -2 4294967297
 number list --width 1 4096 0 4097 "" wide
 

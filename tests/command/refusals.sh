@@ -14,7 +14,7 @@ all_refuse() {
     case $2 in "refused 7:"*) return ;; esac
     for command in starts overload draw; do refuses "$1" "$2" "$command" "$1"; done
     refuses "$1" "$2" crew "$1" crew_none
-    refuses "$1" "$2" flow "$1" --binary -k 9
+    refuses "$1" "$2" flow "$1" --binary -k 8
 }
 
 # listed NAME SAID: the list's line of such a plan, but for the needs of an overloaded one; and where its line is one of several, the status is 1 all the same.
@@ -86,7 +86,7 @@ no.plan      refused 1   $(no_multiple 7 | cut -c 12-)" "" list --width 11 befor
 rm ./*.plan
 
 # Kinds and pages that a plan has not. 8 comes before 7.
-for kind in 0 2 9 256 257 18446744073709551615; do
+for kind in 2 3 8; do
     for command in flow sheet; do
         refuses examples/a.plan "refused 8: there is no kind $kind: the plan's kinds are 1 to 1" "$command" examples/a.plan -k "$kind"
         refuses examples/c.plan "refused 8: there is no kind $kind: the plan's kinds are 1 to 1" "$command" examples/c.plan --kind "$kind"
