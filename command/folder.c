@@ -3,6 +3,7 @@
 #include <errno.h>
 #include <stdlib.h>
 #include <string.h>
+#include <sys/stat.h>
 
 // As a shell takes *.plan: in lower case, and no hidden files.
 static int is_plan(const char *name) {
@@ -35,6 +36,11 @@ static struct held *room(void) {
     memset(held, 0xFF, sizeof *held);
     clear(held);
     return held;
+}
+
+int folder_is(const char *name) {
+    struct stat is;
+    return strcmp(name, "-") != 0 && stat(name, &is) == 0 && S_ISDIR(is.st_mode);
 }
 
 const char *folder_open(struct folder *folder, const char *name) {

@@ -25,6 +25,9 @@ struct folder {
     const char *trouble;        // why not all of it could be read, or NULL
 };
 
+// Whether a name, other than -, is a folder's.
+int folder_is(const char *name);
+
 // Opens a folder: NULL, or in words why it cannot be read.
 const char *folder_open(struct folder *folder, const char *name);
 

@@ -22,6 +22,8 @@ const char help_text[] =
     "  --heading          a line above the others that says what stands where\n"
     "  --width N          the width of the column of names in a table, 32 where it is not given\n"
     "  -j, --jobs N       on N processors, with the same output\n"
+    "  --progress         says on standard error how far it is; --quiet: does not. Else it does where that is a\n"
+    "                     terminal (TERM is not dumb) and the lines go to a regular file\n"
     "Options of the commands on one plan:\n"
     "  -k, --kind N       of flow and sheet: this kind, of 1 to 8, alone, and not all\n"
     "  -p, --page N       of sheet: this page alone, and not all\n"

@@ -2,14 +2,12 @@
 #include "commands.h"
 #include "folder.h"
 #include "output.h"
+#include "progress.h"
 #include "quote.h"
 #include "shown.h"
 #include "workers.h"
 
-#include <stdio.h>
 #include <string.h>
-#include <sys/stat.h>
-#include <time.h>
 #include <unistd.h>
 
 // The plans that are asked for, in the order in which their lines stand: a name is a plan's, or a folder's.
@@ -20,11 +18,6 @@ struct walk {
     struct folder folder;
     size_t found; // in this folder so far
 };
-
-static int is_folder(const char *name) {
-    struct stat is;
-    return strcmp(name, "-") != 0 && stat(name, &is) == 0 && S_ISDIR(is.st_mode);
-}
 
 // A name within a folder that is written with or without its last slash.
 static void add_found(struct batch *batch, const char *folder, const char *name) {
@@ -61,7 +54,7 @@ static void step(struct walk *walk, struct batch *batch) {
         walk->found++;
     } else if (walk->in_folder)
         leave_folder(walk, batch);
-    else if (is_folder(name))
+    else if (folder_is(name))
         enter_folder(walk, batch);
     else {
         batch_add(batch, NAMED, "", "", name);
@@ -75,37 +68,6 @@ static int fill(void *from, struct batch *batch) {
     return walk->at < walk->options->count;
 }
 
-// How far it is, for whoever waits at a terminal. Where the lines go there too, they show it.
-struct progress {
-    int shown;
-    size_t done, all;
-    double began, said;
-};
-
-static double now(void) {
-    struct timespec time;
-    clock_gettime(CLOCK_MONOTONIC, &time);
-    return (double)time.tv_sec + 1e-9 * (double)time.tv_nsec;
-}
-
-static struct progress progress_begin(const struct options *options) {
-    struct progress progress = {.shown = isatty(STDERR_FILENO) && !isatty(STDOUT_FILENO), .began = now()};
-    for (size_t i = 0; progress.shown && i < options->count; i++)
-        progress.all += is_folder(options->names[i]) ? folder_size(options->names[i]) : 1;
-    return progress;
-}
-
-static void progress_say(struct progress *progress) {
-    double time = now(), seconds = time - progress->began;
-    if (!progress->shown || seconds < 1 || time - progress->said < 0.2) return;
-    progress->said = time;
-    fprintf(stderr, "\r%zu of %zu plans, %.0f a second\033[K", progress->done, progress->all, (double)progress->done / seconds);
-}
-
-static void progress_clear(const struct progress *progress) {
-    if (progress->said > 0) fputs("\r\033[K", stderr);
-}
-
 struct list {
     struct progress progress;
     size_t refused, unread;
@@ -117,11 +79,10 @@ static int written(void *to, const struct batch *batch) {
     struct list *list = to;
     list->refused += batch->refused;
     list->unread += batch->unread;
-    list->progress.done += batch->count;
     if (batch->complaints.len > 0) progress_clear(&list->progress);
     write_all(STDERR_FILENO, batch->complaints.bytes, batch->complaints.len);
     list->trouble = write_all(STDOUT_FILENO, batch->lines.bytes, batch->lines.len);
-    progress_say(&list->progress);
+    progress_add(&list->progress, batch->count);
     return list->trouble == 0;
 }
 
@@ -135,7 +96,7 @@ static int heading(const struct options *options) {
 
 int list_run(const struct options *options) {
     struct walk walk = {.options = options};
-    struct list list = {.progress = progress_begin(options), .trouble = heading(options)};
+    struct list list = {.progress = progress_begin(options, STDOUT_FILENO), .trouble = heading(options)};
     if (list.trouble == 0) work(options, (struct source){fill, &walk}, (struct sink){written, &list});
     if (walk.in_folder) folder_close(&walk.folder); // where the lines cannot be written, it was left in the middle
     progress_clear(&list.progress);

@@ -2,12 +2,20 @@
 // mean is in include/yaffledesk.h.
 #include "commands.h"
 
-// In which letters options.c names the options: k kind, p page, o output, B binary, j jobs, C csv, J json, H heading, W width.
+// In which letters options.c names the options: k kind, p page, o output, B binary, j jobs, C csv, J json, H heading,
+// W width, P progress, Q quiet.
 static const struct command commands[] = {
-    {"list", "CJHWj", 1, SIZE_MAX, list_run}, {"report", "o", 1, 1, report_run}, {"starts", "o", 1, 1, starts_run},
-    {"flow", "koB", 1, 1, flow_run},          {"overload", "oB", 1, 1, overload_run}, {"sheet", "kpo", 1, 1, sheet_run},
-    {"trim", "o", 1, 1, trim_run},            {"crew", "o", 2, 2, crew_run},     {"draw", "o", 1, 1, draw_run},
-    {0}};
+    {"list", "CJHWjPQ", 1, SIZE_MAX, list_run},
+    {"report", "o", 1, 1, report_run},
+    {"starts", "o", 1, 1, starts_run},
+    {"flow", "koB", 1, 1, flow_run},
+    {"overload", "oB", 1, 1, overload_run},
+    {"sheet", "kpo", 1, 1, sheet_run},
+    {"trim", "o", 1, 1, trim_run},
+    {"crew", "o", 2, 2, crew_run},
+    {"draw", "o", 1, 1, draw_run},
+    {0}
+};
 
 int main(int argc, char **argv) {
     struct options options;

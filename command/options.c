@@ -12,10 +12,21 @@
 
 // Options without a letter of their own have one all the same, by which a command says that it takes them.
 static const struct option known[] = {
-    {"help", no_argument, NULL, 'h'},       {"version", no_argument, NULL, 'V'},      {"kind", required_argument, NULL, 'k'},
-    {"page", required_argument, NULL, 'p'}, {"output", required_argument, NULL, 'o'}, {"jobs", required_argument, NULL, 'j'},
-    {"csv", no_argument, NULL, 'C'},        {"json", no_argument, NULL, 'J'},         {"heading", no_argument, NULL, 'H'},
-    {"binary", no_argument, NULL, 'B'},     {"width", required_argument, NULL, 'W'},  {NULL, 0, NULL, 0}};
+    {"help", no_argument, NULL, 'h'},
+    {"version", no_argument, NULL, 'V'},
+    {"kind", required_argument, NULL, 'k'},
+    {"page", required_argument, NULL, 'p'},
+    {"output", required_argument, NULL, 'o'},
+    {"jobs", required_argument, NULL, 'j'},
+    {"csv", no_argument, NULL, 'C'},
+    {"json", no_argument, NULL, 'J'},
+    {"heading", no_argument, NULL, 'H'},
+    {"binary", no_argument, NULL, 'B'},
+    {"width", required_argument, NULL, 'W'},
+    {"progress", no_argument, NULL, 'P'},
+    {"quiet", no_argument, NULL, 'Q'},
+    {NULL, 0, NULL, 0}
+};
 
 enum { MOST_JOBS = 256, USUAL_WIDTH = 32, MOST_WIDTH = 4096 };
 
@@ -75,6 +86,8 @@ static void set(struct options *options, int letter, const char *word) {
     case 'J': options->format = JSON; break;
     case 'H': options->heading = 1; break;
     case 'B': options->binary = 1; break;
+    case 'P': options->progress = SHOWN; break;
+    case 'Q': options->progress = QUIET; break;
     case 'W': options->width = (size_t)number(letter, word, 1, MOST_WIDTH); break;
     }
 }

@@ -7,6 +7,9 @@
 
 enum format { TABLE, CSV, JSON };
 
+// Whether it is shown how far a list is: where that disturbs nobody, always, or never.
+enum shown { USUAL, SHOWN, QUIET };
+
 struct options {
     const struct command *command;
     char **names; // what follows the options: plans
@@ -19,6 +22,7 @@ struct options {
     int heading;
     size_t width; // of the column of names
     unsigned jobs;
+    enum shown progress;
 };
 
 // A command: which letters of options it takes, how many names, and what does its work and gives the exit status.

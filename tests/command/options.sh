@@ -62,6 +62,7 @@ ambiguous --h "--help, --heading"
 ambiguous --he "--help, --heading"
 ambiguous --h "--help, --heading" --h=3
 ambiguous --j "--jobs, --json"
+ambiguous --p "--page, --progress"
 misused "--hx is no option" list --hx examples/a.plan
 misused "--helpx is no option" list --helpx examples/a.plan
 misused "--=x is no option" list --=x examples/a.plan
@@ -86,6 +87,8 @@ for command in report starts flow overload sheet trim crew draw; do
     takes_not "$command" --heading heading
     takes_not "$command" "--width 9" width
     takes_not "$command" "-j 2" jobs
+    takes_not "$command" --progress progress
+    takes_not "$command" --quiet quiet
 done
 takes_not list "-o out" output
 misused "--heading: lines of JSON have no heading" list --json --heading examples

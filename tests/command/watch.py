@@ -34,12 +34,13 @@ def read_all(file):
     return shown
 
 
-def at_terminal(words, streams, meanwhile=lambda process: None):
-    """Runs the command with these streams at a terminal. Gives its status, what the terminal was shown, and what the other stream was given."""
+def at_terminal(words, streams, meanwhile=lambda process: None, **more):
+    """Runs the command with these streams at a terminal. Gives its status, what the terminal was shown, and what the other
+    stream, a file, was given."""
     mine, its = pty.openpty()
     with tempfile.TemporaryFile() as other:
         ends = {name: its if name in streams else other for name in ("stdout", "stderr")}
-        process = subprocess.Popen([COMMAND, *words], stdin=subprocess.DEVNULL, **ends)
+        process = subprocess.Popen([COMMAND, *words], stdin=subprocess.DEVNULL, **{**ends, **more})
         os.close(its)
         meanwhile(process)
         process.wait(timeout=LONGEST)
@@ -107,7 +108,8 @@ def slow(names, wait):
 
 
 def progress():
-    """A line on standard error, from the first second on, where that is a terminal and the list goes elsewhere. A complaint is not written behind it."""
+    """A line on standard error, from the first second on, where that is a terminal and the list goes to a file. A
+    complaint is not written behind it."""
     os.mkfifo("slow")
     lines = subprocess.run([COMMAND, "list", "fewer", "examples/a.plan", "examples/a.plan", "fewer"], capture_output=True).stdout
     expected = lines.replace(b"examples/a.plan", b"slow" + 11 * b" ", 1)
@@ -127,6 +129,35 @@ def progress():
     status, shown, err = at_terminal(["list", "examples"], ["stdout"])
     plain = subprocess.run([COMMAND, "list", "examples"], capture_output=True).stdout
     check((status, err, shown.replace(b"\r\n", b"\n")) == (1, b"", plain), "the lines of a list at a terminal are those in a file")
+
+
+STEPS = re.compile(rb"(\r\d+ of 2 plans, \d+ a second\033\[K)+\r\033\[K")
+
+
+def asked():
+    """Whether it is told how far a list is, by where its lines go, by the terminal, and by what is asked for."""
+    os.mkfifo("slow")
+
+    def shown(*words, **more):
+        """What the terminal that is standard error was shown of a list that takes a second."""
+        return at_terminal(["list", *words, "slow", "examples/a.plan"], ["stderr"], slow(["slow"], 1.1), **more)[1]
+
+    dumb = {**os.environ, "TERM": "dumb"}
+    check(STEPS.fullmatch(shown()), "a list that goes to a file, at a terminal")
+    check(shown("--quiet") == b"" and shown("--progress", "--quiet") == b"", "the same, and --quiet")
+    check(shown(env=dumb) == b"", "the same, and a terminal that is dumb")
+    check(re.fullmatch(rb"(\d+ of 2 plans, \d+ a second\r\n)+", shown("--progress", env=dumb)), "the same, and --progress")
+    for words in ([], ["-j", "2"]):
+        reader = subprocess.Popen(["cat"], stdin=subprocess.PIPE, stdout=subprocess.DEVNULL)
+        check(shown(*words, stdout=reader.stdin) == b"", f"a list that goes to a pipe, with {words}")
+        check(STEPS.fullmatch(shown("--quiet", "--progress", *words, stdout=reader.stdin)), f"the same, and --progress, {words}")
+        reader.stdin.close()
+        reader.wait(timeout=LONGEST)
+    check(shown(stdout=subprocess.DEVNULL) == b"", "a list that goes to a device")
+    _, lines, said = at_terminal(["list", "--progress", "slow", "examples/a.plan"], ["stdout"], slow(["slow"], 1.1))
+    check(lines.count(b"accepted") == 2 and re.fullmatch(rb"(\d+ of 2 plans, \d+ a second\n)+", said),
+          f"--progress where standard error is no terminal: {said}")
+    os.unlink("slow")
 
 
 def peak(folder, *words):
@@ -155,7 +186,8 @@ def memory():
 
 
 def main():
-    for part in (binary, reader_gone, progress, memory):
+    os.environ["TERM"] = "xterm"
+    for part in (binary, reader_gone, progress, asked, memory):
         part()
     last_line()
 
