@@ -29,7 +29,10 @@ const char *input_take(int file, void *bytes, size_t room, size_t *len) {
     return trouble;
 }
 
+int input_open(const char *name) {
+    return strcmp(name, "-") == 0 ? fcntl(STDIN_FILENO, F_DUPFD_CLOEXEC, 0) : open(name, O_RDONLY | O_CLOEXEC);
+}
+
 const char *input_read(const char *name, void *bytes, size_t room, size_t *len) {
-    if (strcmp(name, "-") == 0) return fill(STDIN_FILENO, bytes, room, len);
-    return input_take(open(name, O_RDONLY | O_CLOEXEC), bytes, room, len);
+    return input_take(input_open(name), bytes, room, len);
 }

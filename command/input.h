@@ -8,6 +8,10 @@
 // many bytes came. NULL, or in words why it cannot be read so far.
 const char *input_read(const char *name, void *bytes, size_t room, size_t *len);
 
+// Opens it for that: a descriptor of its own, of standard input too. Less than 0 where that cannot be, and errno says
+// why.
+int input_open(const char *name);
+
 // The same of a file that was just opened, which is closed then; where it could not be opened it is less than 0, and
 // errno says why.
 const char *input_take(int file, void *bytes, size_t room, size_t *len);

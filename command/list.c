@@ -1,108 +1,104 @@
 // yaffledesk list: the price list.
 #include "commands.h"
-#include "folder.h"
 #include "output.h"
 #include "progress.h"
 #include "quote.h"
 #include "shown.h"
-#include "workers.h"
+#include "walk.h"
 
-#include <string.h>
+#include <stdio.h>
 #include <unistd.h>
 
-// The plans that are asked for, in the order in which their lines stand: a name is a plan's, or a folder's.
-struct walk {
-    const struct options *options;
-    size_t at; // the next name
-    int in_folder;
-    struct folder folder;
-    size_t found; // in this folder so far
-};
-
-// A name within a folder that is written with or without its last slash.
-static void add_found(struct batch *batch, const char *folder, const char *name) {
-    size_t len = strlen(folder);
-    batch_add(batch, FOUND, folder, len > 0 && folder[len - 1] == '/' ? "" : "/", name);
-}
-
-static void leave_folder(struct walk *walk, struct batch *batch) {
-    const char *name = walk->options->names[walk->at++];
-    if (walk->folder.trouble != NULL) {
-        complaint(&batch->complaints, name, "cannot be read: %s", walk->folder.trouble);
-        batch->unread++;
-    } else if (walk->found == 0)
-        complaint(&batch->complaints, name, "there is no *.plan in this folder");
-    folder_close(&walk->folder);
-    walk->in_folder = 0;
-}
-
-static void enter_folder(struct walk *walk, struct batch *batch) {
-    const char *why = folder_open(&walk->folder, walk->options->names[walk->at]);
-    walk->in_folder = why == NULL;
-    walk->found = 0;
-    if (why != NULL) {
-        complaint(&batch->complaints, walk->options->names[walk->at++], "cannot be read: %s", why);
-        batch->unread++;
-    }
-}
-
-// One step: a plan's name more, or into a folder, or out of it.
-static void step(struct walk *walk, struct batch *batch) {
-    const char *name = walk->options->names[walk->at], *found;
-    if (walk->in_folder && (found = folder_next(&walk->folder)) != NULL) {
-        add_found(batch, name, found);
-        walk->found++;
-    } else if (walk->in_folder)
-        leave_folder(walk, batch);
-    else if (folder_is(name))
-        enter_folder(walk, batch);
-    else {
-        batch_add(batch, NAMED, "", "", name);
-        walk->at++;
-    }
-}
-
-static int fill(void *from, struct batch *batch) {
-    struct walk *walk = from;
-    while (walk->at < walk->options->count && !batch_is_full(batch)) step(walk, batch);
-    return walk->at < walk->options->count;
-}
+enum { NUMBERS = 256 }; // of verdicts: a byte
 
 struct list {
+    const struct options *options;
+    struct output output;
     struct progress progress;
-    size_t refused, unread;
-    int trouble; // errno, of standard output
+    size_t numbers[NUMBERS]; // plans by the numbers of their verdicts; 0 is accepted
+    size_t unread, empty;    // files and folders that cannot be read; folders without a plan
+    int spoils;              // the output is one of the plans
 };
 
-// Writes what a batch came to: what is wrong with files first, and the lines. Gives whether to go on.
-static int written(void *to, const struct batch *batch) {
-    struct list *list = to;
-    list->refused += batch->refused;
+static void count(struct list *list, const struct batch *batch) {
+    for (size_t i = 0; i < batch->quoted; i++) list->numbers[batch->numbers[i]]++;
     list->unread += batch->unread;
-    if (batch->complaints.len > 0) progress_clear(&list->progress);
-    write_all(STDERR_FILENO, batch->complaints.bytes, batch->complaints.len);
-    list->trouble = write_all(STDOUT_FILENO, batch->lines.bytes, batch->lines.len);
-    progress_add(&list->progress, batch->count);
-    return list->trouble == 0;
+    list->empty += batch->empty;
+    list->spoils |= batch->spoils;
 }
 
-static int heading(const struct options *options) {
+// Writes what a batch came to: what is wrong with files first, and the lines. Gives whether to go on.
+static int take(void *to, const struct batch *batch) {
+    struct list *list = to;
+    count(list, batch);
+    if (batch->complaints.len > 0) progress_clear(&list->progress);
+    write_all(STDERR_FILENO, batch->complaints.bytes, batch->complaints.len);
+    if (list->spoils || !output_add(&list->output, batch->lines.bytes, batch->lines.len)) return 0;
+    progress_add(&list->progress, batch->count);
+    return 1;
+}
+
+static int heading(struct list *list) {
     struct text line = {0};
-    if (options->heading) quote_heading(&line, options);
-    int trouble = write_all(STDOUT_FILENO, line.bytes, line.len);
+    if (list->options->heading) quote_heading(&line, list->options);
+    int going = output_add(&list->output, line.bytes, line.len);
     text_free(&line);
-    return trouble;
+    return going;
+}
+
+static void list_plans(struct list *list) {
+    struct walk walk;
+    const struct sink sink = {take, list, &list->output.which};
+    walk_begin(&walk, list->options, &list->output.which);
+    list->progress = progress_begin(list->options, list->output.file);
+    if (heading(list)) work(list->options, (struct source){walk_fill, &walk}, sink);
+    progress_clear(&list->progress);
+    walk_end(&walk);
+}
+
+static size_t quoted(const struct list *list) {
+    size_t sum = 0;
+    for (size_t number = 0; number < NUMBERS; number++) sum += list->numbers[number];
+    return sum;
+}
+
+// The numbers add up: whatever could not be read is a plan that has no line.
+static void summarize(const struct list *list) {
+    size_t all = quoted(list) + list->unread;
+    fprintf(stderr, "yaffledesk: %zu plan%s: %zu accepted", all, all == 1 ? "" : "s", list->numbers[0]);
+    for (size_t number = 1; number < NUMBERS; number++)
+        if (list->numbers[number] > 0) fprintf(stderr, ", %zu refused (%zu)", list->numbers[number], number);
+    fprintf(stderr, ", %zu unread\n", list->unread);
+}
+
+static int is_trouble(const struct list *list) {
+    return list->unread > 0 || (list->empty > 0 && !list->options->allow_empty);
+}
+
+static int spoilt(struct list *list) {
+    int is_whole = list->output.replaces != NULL;
+    output_abandon(&list->output);
+    complain(list->output.name, "it is also what is read; nothing %sis written", is_whole ? "" : "more ");
+    return STATUS_TROUBLE;
+}
+
+// Where there was trouble and there is no line, a name is wrong: an old list is not replaced by none.
+static int end_output(struct list *list) {
+    if (list->output.replaces == NULL || list->output.trouble != 0 || quoted(list) > 0 || !is_trouble(list))
+        return output_end(&list->output);
+    output_abandon(&list->output);
+    complain(list->output.name, "no plan is listed; nothing is written");
+    return STATUS_DONE;
 }
 
 int list_run(const struct options *options) {
-    struct walk walk = {.options = options};
-    struct list list = {.progress = progress_begin(options, STDOUT_FILENO), .trouble = heading(options)};
-    if (list.trouble == 0) work(options, (struct source){fill, &walk}, (struct sink){written, &list});
-    if (walk.in_folder) folder_close(&walk.folder); // where the lines cannot be written, it was left in the middle
-    progress_clear(&list.progress);
-    if (list.trouble != 0) {
-        complain("standard output", "cannot be written: %s", strerror(list.trouble));
-        return STATUS_TROUBLE;
-    }
-    return list.unread > 0 ? STATUS_TROUBLE : list.refused > 0 ? STATUS_REFUSED : STATUS_DONE;
+    struct list list = {.options = options};
+    int status = output_begin(&list.output, options->output, TEXT);
+    if (status != STATUS_DONE) return status;
+    list_plans(&list);
+    if (list.spoils) return spoilt(&list);
+    status = end_output(&list);
+    if (status != STATUS_DONE) return status;
+    if (options->summary) summarize(&list);
+    return is_trouble(&list) ? STATUS_TROUBLE : list.numbers[0] < quoted(&list) ? STATUS_REFUSED : STATUS_DONE;
 }

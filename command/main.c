@@ -3,9 +3,9 @@
 #include "commands.h"
 
 // In which letters options.c names the options: k kind, p page, o output, B binary, j jobs, C csv, J json, H heading,
-// W width, P progress, Q quiet.
+// W width, P progress, Q quiet, r recursive, F files-from, S summary, E allow-empty.
 static const struct command commands[] = {
-    {"list", "CJHWjPQ", 1, SIZE_MAX, list_run},
+    {"list", "CJHWjPQorFSE", 1, SIZE_MAX, list_run},
     {"report", "o", 1, 1, report_run},
     {"starts", "o", 1, 1, starts_run},
     {"flow", "koB", 1, 1, flow_run},

@@ -25,6 +25,10 @@ static const struct option known[] = {
     {"width", required_argument, NULL, 'W'},
     {"progress", no_argument, NULL, 'P'},
     {"quiet", no_argument, NULL, 'Q'},
+    {"recursive", no_argument, NULL, 'r'},
+    {"files-from", required_argument, NULL, 'F'},
+    {"summary", no_argument, NULL, 'S'},
+    {"allow-empty", no_argument, NULL, 'E'},
     {NULL, 0, NULL, 0}
 };
 
@@ -86,6 +90,10 @@ static void set(struct options *options, int letter, const char *word) {
     case 'J': options->format = JSON; break;
     case 'H': options->heading = 1; break;
     case 'B': options->binary = 1; break;
+    case 'E': options->allow_empty = 1; break;
+    case 'F': options->files_from = word; break;
+    case 'S': options->summary = 1; break;
+    case 'r': options->recursive = 1; break;
     case 'P': options->progress = SHOWN; break;
     case 'Q': options->progress = QUIET; break;
     case 'W': options->width = (size_t)number(letter, word, 1, MOST_WIDTH); break;
@@ -137,13 +145,24 @@ __attribute__((noreturn)) static void unknown(char **argv) {
     misused("%s is no option", word);
 }
 
+static int is_standard(const char *name) { return strcmp(name, "-") == 0; }
+
+// Names and a plan cannot both be read from standard input.
+static void check_names(const struct options *options) {
+    for (size_t i = 0; options->files_from != NULL && is_standard(options->files_from) && i < options->count; i++)
+        if (is_standard(options->names[i])) misused("list: the names and a plan cannot both be standard input");
+}
+
 static void check(const struct options *options) {
     const struct command *command = options->command;
     if (options->format == JSON && options->heading) misused("--heading: lines of JSON have no heading");
-    if (options->count < command->fewest) misused("%s: the name of a %s is missing", command->name, options->count == 1 ? "crew's file" : "plan");
-    if (options->count > command->most) misused("%s: '%s' is one name too many", command->name, options->names[command->most]);
-    if (command->most == 2 && strcmp(options->names[0], "-") == 0 && strcmp(options->names[1], "-") == 0)
+    if (options->count < command->fewest && options->files_from == NULL)
+        misused("%s: the name of a %s is missing", command->name, options->count == 1 ? "crew's file" : "plan");
+    if (options->count > command->most)
+        misused("%s: '%s' is one name too many", command->name, options->names[command->most]);
+    if (command->most == 2 && is_standard(options->names[0]) && is_standard(options->names[1]))
         misused("%s: the plan and the crew's file cannot both be standard input", command->name);
+    check_names(options);
 }
 
 // What stands for itself: it is printed, and nothing else is done.
@@ -154,7 +173,7 @@ static void print_if_asked(int letter) {
 
 static void read_options(struct options *options, int argc, char **argv) {
     opterr = 0; // what is wrong is said here
-    for (int letter; (letter = getopt_long(argc, argv, ":hk:p:o:j:", known, NULL)) != -1;) {
+    for (int letter; (letter = getopt_long(argc, argv, ":hk:p:o:j:r", known, NULL)) != -1;) {
         print_if_asked(letter);
         if (letter == ':') misused("%s takes a value", wrong_word(argv));
         if (letter == '?') unknown(argv);

@@ -23,6 +23,8 @@ struct options {
     size_t width; // of the column of names
     unsigned jobs;
     enum shown progress;
+    int recursive, summary, allow_empty;
+    const char *files_from; // NULL: none
 };
 
 // A command: which letters of options it takes, how many names, and what does its work and gives the exit status.

@@ -3,18 +3,21 @@
 #include "input.h"
 
 #include <fcntl.h>
-#include <sys/stat.h>
 #include <unistd.h>
 
 const char *plan_read(struct plan *plan, const char *name) {
-    return input_read(name, plan->bytes, sizeof plan->bytes, &plan->len);
+    int file = input_open(name);
+    if (file < 0) return input_trouble();
+    plan->which = which_open(file);
+    return input_take(file, plan->bytes, sizeof plan->bytes, &plan->len);
 }
 
 const char *plan_read_found(struct plan *plan, const char *name) {
-    struct stat is;
     // a pipe without a writer is opened at once, and a regular file as ever
     int file = open(name, O_RDONLY | O_CLOEXEC | O_NONBLOCK);
-    if (file >= 0 && fstat(file, &is) == 0 && !S_ISREG(is.st_mode)) {
+    if (file < 0) return input_trouble();
+    plan->which = which_open(file);
+    if (!plan->which.is) {
         close(file);
         return "is no regular file";
     }

@@ -3,6 +3,7 @@
 #ifndef PLAN_H
 #define PLAN_H
 
+#include "which.h"
 #include "yaffledesk.h"
 
 enum {
@@ -16,6 +17,7 @@ enum {
 struct plan {
     uint8_t bytes[YAFFLEDESK_MOST_PLAN_BYTES + 1];
     size_t len;
+    struct which which; // the file that it was read from
 };
 
 // Reads a file, or standard input where it is named "-". NULL, or in words why it cannot be read. Of a file that is too long only as much as shows that is

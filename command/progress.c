@@ -35,7 +35,8 @@ static size_t count(const struct options *options) {
 
 struct progress progress_begin(const struct options *options, int lines) {
     struct progress progress = {.shown = is_shown(options, lines), .is_over = is_terminal(), .began = now()};
-    if (progress.shown) progress.all = count(options);
+    int is_known = !options->recursive && options->files_from == NULL;
+    if (progress.shown && is_known) progress.all = count(options);
     return progress;
 }
 

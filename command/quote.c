@@ -82,14 +82,14 @@ static void json_line(struct text *out, const struct quote *quote, const struct 
     text_put(out, "]}\n");
 }
 
-int quote_plan(struct text *out, const struct plan *plan, const char *name, const struct options *options) {
+unsigned quote_plan(struct text *out, const struct plan *plan, const char *name, const struct options *options) {
     struct quote quote = quote_of(plan);
     switch (options->format) {
     case TABLE: table_line(out, &quote, plan, name, options->width); break;
     case CSV: csv_line(out, &quote, plan, name); break;
     case JSON: json_line(out, &quote, plan, name); break;
     }
-    return is_accepted(&quote);
+    return YAFFLEDESK_NUMBER(quote.answer);
 }
 
 void quote_heading(struct text *out, const struct options *options) {

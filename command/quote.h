@@ -7,8 +7,8 @@
 #include "plan.h"
 #include "text.h"
 
-// Adds a plan's line. Gives whether it is accepted.
-int quote_plan(struct text *out, const struct plan *plan, const char *name, const struct options *options);
+// Adds a plan's line. Gives the number of its verdict: 0 where it is accepted.
+unsigned quote_plan(struct text *out, const struct plan *plan, const char *name, const struct options *options);
 
 // Adds the line above the lines, of a table or of CSV.
 void quote_heading(struct text *out, const struct options *options);

@@ -8,21 +8,23 @@
 #include <stdlib.h>
 #include <string.h>
 
-void batch_add(struct batch *batch, enum origin origin, const char *folder, const char *slash, const char *name) {
+void batch_add(struct batch *batch, enum origin origin, const char *folder, const char *name) {
     batch->starts[batch->count] = batch->names.len;
     batch->origins[batch->count++] = origin;
     text_put(&batch->names, folder);
-    text_put(&batch->names, slash);
     text_add(&batch->names, name, strlen(name) + 1);
 }
 
-int batch_is_full(const struct batch *batch) { return batch->count == BATCH_NAMES; }
+int batch_is_full(const struct batch *batch) {
+    return batch->count == BATCH_NAMES || batch->complaints.len >= BATCH_COMPLAINTS;
+}
 
 static void empty(struct batch *batch) {
     text_clear(&batch->names);
     text_clear(&batch->lines);
     text_clear(&batch->complaints);
-    batch->count = batch->refused = batch->unread = 0;
+    batch->count = batch->quoted = batch->unread = batch->empty = 0;
+    batch->spoils = 0;
 }
 
 static void free_batch(struct batch *batch) {
@@ -31,22 +33,32 @@ static void free_batch(struct batch *batch) {
     text_free(&batch->complaints);
 }
 
-static void quote_all(struct batch *batch, struct plan *plan, const struct options *options) {
-    for (size_t i = 0; i < batch->count; i++) {
-        const char *name = batch->names.bytes + batch->starts[i];
-        const char *why = batch->origins[i] == FOUND ? plan_read_found(plan, name) : plan_read(plan, name);
-        if (why != NULL) {
-            complaint(&batch->complaints, name, "cannot be read: %s", why);
-            batch->unread++;
-        } else if (!quote_plan(&batch->lines, plan, name, options))
-            batch->refused++;
-    }
+// What is the same for all batches.
+struct task {
+    const struct options *options;
+    const struct which *file; // where the lines go
+};
+
+static void quote_one(struct batch *batch, size_t place, struct plan *plan, const struct task *task) {
+    const char *name = batch->names.bytes + batch->starts[place];
+    const char *why = batch->origins[place] == FOUND ? plan_read_found(plan, name) : plan_read(plan, name);
+    if (why != NULL) {
+        complaint(&batch->complaints, name, "cannot be read: %s", why);
+        batch->unread++;
+    } else if (which_same(&plan->which, task->file))
+        batch->spoils = 1;
+    else
+        batch->numbers[batch->quoted++] = (unsigned char)quote_plan(&batch->lines, plan, name, task->options);
+}
+
+static void quote_all(struct batch *batch, struct plan *plan, const struct task *task) {
+    for (size_t i = 0; i < batch->count; i++) quote_one(batch, i, plan, task);
 }
 
 // The batches are a ring. Each is filled, then worked on, then taken: `filled`, `begun` and `taken` count these from the beginning, and `done` says of each
 // whether it is worked on. One thread fills and takes; the others work.
 struct ring {
-    const struct options *options;
+    struct task task;
     struct batch *batches;
     int *done;
     size_t size, filled, begun, taken;
@@ -64,7 +76,7 @@ static void *worker(void *of) {
         if (ring->begun == ring->filled) break;
         size_t mine = ring->begun++ % ring->size;
         pthread_mutex_unlock(&ring->lock);
-        quote_all(&ring->batches[mine], &plan, ring->options);
+        quote_all(&ring->batches[mine], &plan, &ring->task);
         pthread_mutex_lock(&ring->lock);
         ring->done[mine] = 1;
         pthread_cond_signal(&ring->finish);
@@ -113,23 +125,23 @@ static void work_together(struct ring *ring, struct source source, struct sink s
     stop(ring);
 }
 
-static void work_alone(const struct options *options, struct source source, struct sink sink) {
+static void work_alone(const struct task *task, struct source source, struct sink sink) {
     struct batch batch = {0};
     struct plan plan;
     int more = 1;
     while (more) {
         empty(&batch);
         more = source.fill(source.from, &batch);
-        quote_all(&batch, &plan, options);
+        quote_all(&batch, &plan, task);
         if (!sink.take(sink.to, &batch)) break;
     }
     free_batch(&batch);
 }
 
 // A ring of batches that nobody works on yet. Where there is no memory for it, its batches are none.
-static void open_ring(struct ring *ring, const struct options *options) {
-    size_t size = 4 * (size_t)options->jobs;
-    *ring = (struct ring){.options = options, .size = size};
+static void open_ring(struct ring *ring, struct task task) {
+    size_t size = 4 * (size_t)task.options->jobs;
+    *ring = (struct ring){.task = task, .size = size};
     pthread_mutex_init(&ring->lock, NULL);
     pthread_cond_init(&ring->fill, NULL);
     pthread_cond_init(&ring->finish, NULL);
@@ -157,12 +169,12 @@ static size_t start_threads(struct ring *ring, pthread_t *threads, size_t jobs) 
 void work(const struct options *options, struct source source, struct sink sink) {
     pthread_t threads[options->jobs];
     struct ring ring;
-    open_ring(&ring, options);
+    open_ring(&ring, (struct task){options, sink.file});
     size_t started = start_threads(&ring, threads, options->jobs);
     if (started > 0)
         work_together(&ring, source, sink);
     else
-        work_alone(options, source, sink);
+        work_alone(&ring.task, source, sink);
     for (size_t i = 0; i < started; i++) pthread_join(threads[i], NULL);
     close_ring(&ring);
 }

@@ -4,8 +4,9 @@
 
 #include "options.h"
 #include "text.h"
+#include "which.h"
 
-enum { BATCH_NAMES = 128 };
+enum { BATCH_NAMES = 128, BATCH_COMPLAINTS = 1 << 16 };
 
 // Whether a plan was named by whoever asks, or found in a folder.
 enum origin { NAMED, FOUND };
@@ -16,11 +17,16 @@ struct batch {
     enum origin origins[BATCH_NAMES];
     size_t count;
     struct text lines, complaints; // for standard output, and for standard error
-    size_t refused, unread;
+    unsigned char numbers[BATCH_NAMES]; // of the verdicts of so many plans, which have lines
+    size_t quoted;
+    size_t unread, empty; // files and folders that cannot be read; folders without a plan
+    int spoils;           // the file that the lines go to is one of those that are read
 };
 
-// Adds a plan's name, given in three parts.
-void batch_add(struct batch *batch, enum origin origin, const char *folder, const char *slash, const char *name);
+// Adds a plan's name, given in two parts.
+void batch_add(struct batch *batch, enum origin origin, const char *folder, const char *name);
+
+// Whether there are as many names in it as it takes, or as many complaints.
 int batch_is_full(const struct batch *batch);
 
 // Where names come from: `fill` adds some to a batch, and says whether there are more.
@@ -33,6 +39,7 @@ struct source {
 struct sink {
     int (*take)(void *to, const struct batch *batch);
     void *to;
+    const struct which *file; // where the lines go: a plan that is this file has none
 };
 
 void work(const struct options *options, struct source source, struct sink sink);

@@ -15,6 +15,11 @@ for command in "sheet examples/hall.plan" "flow examples/hall.plan --binary"; do
     "$yaffledesk" $command -o full/other 2>err
     [ $? -eq 2 ] && left || { echo "$command, to a new file: $(cat err)"; exit 1; }
 done
+for jobs in 1 2; do
+    "$yaffledesk" list -j $jobs some --summary -o full/out 2>err
+    [ $? -eq 2 ] && [ "$(cat err)" = "yaffledesk: full/out: cannot be written: No space left on device" ] && left ||
+        { echo "list -o: $(cat err)"; exit 1; }
+done
 "$yaffledesk" starts examples/a.plan -o full/out || exit 1 # this one has room
 echo old >full/out
 "$yaffledesk" list some >full/list 2>err

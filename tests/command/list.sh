@@ -81,17 +81,17 @@ for jobs in 1 2; do
 done
 rm -rf two
 
-# A folder without plans is said; it is no mistake. One that is not there is.
+# A folder without plans is said, and is a failure, as one that is not there is (edition.sh has more).
 mkdir empty && touch empty/plan empty/.plan
-gives 0 "" "yaffledesk: empty: there is no *.plan in this folder" list empty
-gives 0 "" "yaffledesk: empty/: there is no *.plan in this folder" list --csv -j 2 empty/
+gives 2 "" "yaffledesk: empty: there is no *.plan in this folder" list empty
+gives 2 "" "yaffledesk: empty/: there is no *.plan in this folder" list --csv -j 2 empty/
 if [ "$(id -u)" -ne 0 ]; then
     chmod 0 empty
     gives 2 "" "yaffledesk: empty: cannot be read: Permission denied" list empty
     chmod 700 empty
 fi
 gives 2 "" "yaffledesk: empties: cannot be read: No such file or directory" list empties
-gives 0 "plan,verdict,number,refusal,need 1,available 1,need 2,available 2,need 3,available 3,need 4,available 4,need 5,available 5,need 6,available 6,need 7,available 7,need 8,available 8" \
+gives 2 "plan,verdict,number,refusal,need 1,available 1,need 2,available 2,need 3,available 3,need 4,available 4,need 5,available 5,need 6,available 6,need 7,available 7,need 8,available 8" \
     "yaffledesk: empty: there is no *.plan in this folder" list --csv --heading empty
 rm -r empty
 

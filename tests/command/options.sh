@@ -73,6 +73,7 @@ misused "-k takes a value" flow examples/a.plan -k
 misused "--kind takes a value" flow examples/a.plan --kind
 misused "--output takes a value" starts examples/a.plan --output
 misused "-j takes a value" list examples -j
+misused "--files-from takes a value" list examples --files-from
 
 # takes_not COMMAND OPTION NAME: an option of other commands.
 takes_not() {
@@ -89,8 +90,11 @@ for command in report starts flow overload sheet trim crew draw; do
     takes_not "$command" "-j 2" jobs
     takes_not "$command" --progress progress
     takes_not "$command" --quiet quiet
+    takes_not "$command" -r recursive
+    takes_not "$command" --summary summary
+    takes_not "$command" --allow-empty allow-empty
+    takes_not "$command" "--files-from names" files-from
 done
-takes_not list "-o out" output
 misused "--heading: lines of JSON have no heading" list --json --heading examples
 
 # number COMMAND OPTION LEAST MOST WORD ..: what is no number of that range.

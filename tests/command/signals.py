@@ -65,6 +65,22 @@ def one_plan():
     ended(["starts", "examples/a.plan"], signal.SIGQUIT, env=slow)
 
 
+def lists():
+    """Lists, which wait for a plan that comes by a pipe; on several processors any of their threads gets the signal."""
+    os.mkfifo("slow.plan")
+    for number in ENDINGS:
+        for words in ([], ["-j", "3"], ["-j", "2", "--heading", "--csv"]):
+            ended(["list", *words, "examples", "slow.plan"], number)
+    with writing(["list", "-j", "2", "examples", "slow.plan"]) as process:
+        process.kill()
+        process.wait(timeout=LONGEST)
+        with open("to/out") as out:
+            check(out.read() == "old\n", "a list that is killed leaves the old edition")
+    for name in beside():
+        os.unlink(f"to/{name}")
+    os.unlink("slow.plan")
+
+
 def ignored():
     """Who is told to ignore a signal ignores it, as nohup does."""
     slow = {**os.environ, "LD_PRELOAD": os.path.abspath("slow.so")}
@@ -82,7 +98,7 @@ def main():
     os.mkdir("to")
     for number in (*ENDINGS, signal.SIGQUIT):  # whoever runs this may have had them ignored
         signal.signal(number, signal.SIG_DFL)
-    for part in (one_plan, ignored):
+    for part in (one_plan, lists, ignored):
         part()
     last_line()
 

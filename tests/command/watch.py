@@ -35,8 +35,8 @@ def read_all(file):
 
 
 def at_terminal(words, streams, meanwhile=lambda process: None, **more):
-    """Runs the command with these streams at a terminal. Gives its status, what the terminal was shown, and what the other
-    stream, a file, was given."""
+    """Runs the command with these streams at a terminal. Gives its status, what the terminal was shown, and what the
+    other stream, a file, was given."""
     mine, its = pty.openpty()
     with tempfile.TemporaryFile() as other:
         ends = {name: its if name in streams else other for name in ("stdout", "stderr")}
@@ -146,11 +146,13 @@ def asked():
     check(STEPS.fullmatch(shown()), "a list that goes to a file, at a terminal")
     check(shown("--quiet") == b"" and shown("--progress", "--quiet") == b"", "the same, and --quiet")
     check(shown(env=dumb) == b"", "the same, and a terminal that is dumb")
-    check(re.fullmatch(rb"(\d+ of 2 plans, \d+ a second\r\n)+", shown("--progress", env=dumb)), "the same, and --progress")
+    lines = shown("--progress", env=dumb)
+    check(re.fullmatch(rb"(\d+ of 2 plans, \d+ a second\r\n)+", lines), f"the same, and --progress: {lines}")
     for words in ([], ["-j", "2"]):
         reader = subprocess.Popen(["cat"], stdin=subprocess.PIPE, stdout=subprocess.DEVNULL)
         check(shown(*words, stdout=reader.stdin) == b"", f"a list that goes to a pipe, with {words}")
-        check(STEPS.fullmatch(shown("--quiet", "--progress", *words, stdout=reader.stdin)), f"the same, and --progress, {words}")
+        steps = shown("--quiet", "--progress", *words, stdout=reader.stdin)
+        check(STEPS.fullmatch(steps), f"the same, and --progress, {words}: {steps}")
         reader.stdin.close()
         reader.wait(timeout=LONGEST)
     check(shown(stdout=subprocess.DEVNULL) == b"", "a list that goes to a device")
@@ -160,19 +162,46 @@ def asked():
     os.unlink("slow")
 
 
-def peak(folder, *words):
-    """The most memory, in KB, that a list of a folder took until it came to the plan behind it, which is a pipe."""
-    os.mkfifo("last")
-    process = subprocess.Popen([COMMAND, "list", *words, folder, "last"], stdin=subprocess.DEVNULL, stdout=subprocess.DEVNULL)
+def peak_of(words, **more):
+    """The most memory, in KB, that a list took until it came to its last plan, the pipe `last`."""
+    given = {"stdin": subprocess.DEVNULL, "stdout": subprocess.DEVNULL, **more}
+    process = subprocess.Popen([COMMAND, "list", *words], **given)
     file = open_pipe(process, "last")
     if file is None:
-        raise SystemExit(f"the list of {folder} does not come to its last plan")
+        raise SystemExit(f"the list {words} does not come to its last plan")
     with open(f"/proc/{process.pid}/status") as status:
         found = re.search(r"^VmHWM:\s+(\d+) kB$", status.read(), re.MULTILINE)
     os.close(file)
     process.wait(timeout=LONGEST)
     os.unlink("last")
     return int(found[1])
+
+
+def peak(folder, *words):
+    """The same of a folder, with the pipe behind it."""
+    os.mkfifo("last")
+    return peak_of([*words, folder, "last"])
+
+
+def peak_below(folder):
+    """The same of a folder that stands in another, three folders deep."""
+    os.makedirs("outer/b/c")
+    os.rename(folder, f"outer/b/c/{folder}")
+    found = peak("outer", "-r")
+    os.rename(f"outer/b/c/{folder}", folder)
+    os.removedirs("outer/b/c")
+    return found
+
+
+def peak_text(count):
+    """The same of so many names in a text, the last of which is the pipe, and as many lines that are no names."""
+    os.mkfifo("last")
+    with open("text", "w") as text:
+        text.write(count * ("examples/a.plan\n" + 5000 * "x" + "\n") + "last\n")
+    with open("text") as text:
+        found = peak_of(["--files-from", "-"], stdin=text, stderr=subprocess.DEVNULL)
+    os.unlink("text")
+    return found
 
 
 def memory():
@@ -183,6 +212,10 @@ def memory():
     for words in ([], ["-j", "2"], ["--json"]):
         fewer, many, longs = (peak(folder, *words) for folder in ("fewer", "many", "longs"))
         check(max(many, longs) <= fewer + ABOUT, f"2,000 plans take {fewer} KB, 20,000 {many} KB, 9,000 with long names {longs} KB, with {words}")
+    fewer, many, longs = (peak_below(folder) for folder in ("fewer", "many", "longs"))
+    check(max(many, longs) <= fewer + ABOUT, f"below others, 2,000 take {fewer} KB, 20,000 {many}, 9,000 long {longs}")
+    fewer, many = (peak_text(count) for count in (1000, 10000))
+    check(many <= fewer + ABOUT, f"1,000 names in a text take {fewer} KB, 10,000 {many} KB")
 
 
 def main():
