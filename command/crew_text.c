@@ -93,14 +93,19 @@ static void read_lines(struct reading *reading, char *at, char *end) {
 }
 
 // The activities named are to be 1 to some count; whether it is the plan's is for the library to say.
+// Where one is left out, the greatest is named with it: a number that was mistyped is most often that one.
 static void count_activities(struct reading *reading) {
     struct crew_text *text = reading->text;
-    for (size_t i = 0; i < YAFFLEDESK_MOST_ACTIVITIES; i++) {
-        if (text->lines[i] == 0) continue;
-        reading->line = text->lines[i];
-        if (i > text->crew.count++ && reading->faults == 0)
-            fault(reading, "activity %zu has a line and activity %zu has none", i + 1, text->crew.count);
-    }
+    size_t greatest = 0, missing = 0;
+    for (size_t i = 1; i <= YAFFLEDESK_MOST_ACTIVITIES; i++)
+        if (text->lines[i - 1] != 0) {
+            text->crew.count++;
+            greatest = i;
+        } else if (missing == 0)
+            missing = i;
+    if (greatest == text->crew.count || reading->faults > 0) return;
+    reading->line = text->lines[greatest - 1];
+    fault(reading, "activity %zu has a line and activity %zu has none", greatest, missing);
 }
 
 // Of a text that is too large nothing is judged; the line that goes beyond the bound is named.

@@ -220,12 +220,14 @@ static void say_broken(struct text *out, uint64_t answer, const struct plan *pla
     text_print(out, ", and activity %u starts at %u", to, (unsigned)crew->starts[to - 1]);
 }
 
-static void say_page(struct text *out, uint64_t page, uint64_t pages) {
-    text_print(out, "there is no page %llu: ", (unsigned long long)page);
+// Without a kind that is asked for, the page may be one that some kinds have: so the kind is named that has not.
+static void say_page(struct text *out, const struct asked *asked, uint64_t pages) {
+    text_print(out, "there is no page %llu: the sheet of kind %llu has ", (unsigned long long)asked->page,
+               (unsigned long long)asked->kind);
     if (pages == 1)
-        text_put(out, "the sheet has one page");
+        text_put(out, "one page");
     else
-        text_print(out, "the sheet has pages 1 to %llu", (unsigned long long)pages);
+        text_print(out, "pages 1 to %llu", (unsigned long long)pages);
 }
 
 void refusal_say(struct text *out, uint64_t answer, const struct plan *plan, const struct asked *asked) {
@@ -251,7 +253,7 @@ void refusal_say(struct text *out, uint64_t answer, const struct plan *plan, con
         break;
     case YAFFLEDESK_TOO_SHORT: text_print(out, "the program lends too little memory: %llu are needed", (unsigned long long)rest); break;
     case YAFFLEDESK_BAD_LISTS: say_lists(out, plan, rest, asked->crew); break;
-    case YAFFLEDESK_NO_PAGE: say_page(out, asked->page, rest); break;
+    case YAFFLEDESK_NO_PAGE: say_page(out, asked, rest); break;
     case YAFFLEDESK_BROKEN_ARC: say_broken(out, answer, plan, asked->crew); break;
     case YAFFLEDESK_CREW_OVERLOAD:
         text_print(out, "in period %llu more of kind %u are at work than the %u that are available", (unsigned long long)YAFFLEDESK_CREW_PERIOD(answer),

@@ -102,7 +102,8 @@ faulty $'5: activities are 1 to 64\n6: activities are 1 to 64\n7: activities are
 faulty $'3: this activity has a line already\n5: this activity has a line already' '1 0 1\n2 1 2\n1 0 1\n3 0 3\n2 9 9\n4 3 1\n'
 faulty "1: $three"$'\n'"3: $three"$'\n4: activities are 1 to 64' 'a\n1 0 1\nb\n77 0 1\n4 3 1\n'
 faulty "3: activity 4 has a line and activity 3 has none" '1 0 1\n2 1 2\n4 3 1\n'
-faulty "4: activity 2 has a line and activity 1 has none" '4 3 1\n5 1 1\n3 0 3\n2 1 2\n'
+faulty "2: activity 5 has a line and activity 1 has none" '4 3 1\n5 1 1\n3 0 3\n2 1 2\n'
+faulty "2: activity 22 has a line and activity 2 has none" '1 0 1\n22 1 2\n3 0 3\n4 3 1\n' # a mistyped 2
 try crew examples/a.plan examples/a.plan
 [ "$status" -eq 2 ] && holds "$scratch/out" "" && grep -q "^yaffledesk: examples/a.plan:1: $three\$" "$scratch/err"
 told "a plan in place of a crew's file"

@@ -2,7 +2,7 @@
 
 # made WORDS ..: make, with the program that is tried; it is not built again (-o).
 made() {
-    make -s -C "$root" -o "$yaffledesk" -o target/staticlib/libyaffledesk.a COMMAND="$yaffledesk" "$@" \
+    command make -s -C "$root" -o "$yaffledesk" -o target/staticlib/libyaffledesk.a COMMAND="$yaffledesk" "$@" \
         >"$scratch/log" 2>&1
 }
 
@@ -50,6 +50,16 @@ gcc -Wall -Wextra -Werror $(config --cflags) "$root/examples/counter.c" $(config
 count $? "a C program with the options of pkg-config"
 [ "$(PKG_CONFIG_LIBDIR=$place/opt/desk/lib/pkgconfig PKG_CONFIG_PATH= pkg-config --variable=prefix yaffledesk)" = /opt/desk ]
 count $? "pkg-config's file has the place without DESTDIR"
+
+# README's lines for C programs, as they stand, but that make builds nothing again.
+mkdir "$scratch/readme" && sed -n '/^## For C programs/,/^## /s/^    //p' "$root/README.md" >"$scratch/readme.sh"
+(
+    cd "$scratch/readme" && ln -s "$root/examples" . && HOME=$scratch/home
+    make() { made "$@"; }
+    . "$scratch/readme.sh"
+) >"$scratch/out" 2>&1
+[ "$(wc -l <"$scratch/readme.sh")" -ge 3 ] && holds "$scratch/out" "accepted: activities 4, kinds 1"
+count $? "README's lines for C programs: $(<"$scratch/out")"
 
 # With nothing but what is installed: the hall in the manual is packed, shown, listed and drawn, and its crew fits.
 manual=$scratch/place/share/man/man1/yaffledesk.1

@@ -94,13 +94,13 @@ for kind in 2 3 8; do
 done
 refuses examples/hall.plan "refused 8: there is no kind 3: the plan's kinds are 1 to 2" sheet -k 3 -p 1 examples/hall.plan
 for page in 0 2 257 18446744073709551615; do
-    refuses examples/a.plan "refused 11: there is no page $page: the sheet has one page" sheet examples/a.plan -p "$page"
-    refuses examples/a.plan "refused 11: there is no page $page: the sheet has one page" sheet examples/a.plan -k 1 --page "$page"
+    refuses examples/a.plan "refused 11: there is no page $page: the sheet of kind 1 has one page" sheet examples/a.plan -p "$page"
+    refuses examples/a.plan "refused 11: there is no page $page: the sheet of kind 1 has one page" sheet examples/a.plan -k 1 --page "$page"
 done
 for page in 0 4 256; do
-    refuses examples/hall.plan "refused 11: there is no page $page: the sheet has pages 1 to 3" sheet examples/hall.plan -p "$page" -k 1
+    refuses examples/hall.plan "refused 11: there is no page $page: the sheet of kind 1 has pages 1 to 3" sheet examples/hall.plan -p "$page" -k 1
 done
-refuses examples/hall.plan "refused 11: there is no page 2: the sheet has one page" sheet examples/hall.plan -p 2 # kind 1 has it, and kind 2 not
+refuses examples/hall.plan "refused 11: there is no page 2: the sheet of kind 2 has one page" sheet examples/hall.plan -p 2 # kind 1 has it
 refuses examples/b.plan "refused 7: kind 1 needs 6 and has 4: activities 2, 3, 4 may be at work at once" sheet examples/b.plan -p 9
 
 # From standard input.
