@@ -95,7 +95,7 @@ target/faulty.sanitized: tests/sanitize/faulty.c Makefile
 
 sanitize:
 	@tests/tools rt python3 $(TESTING)
-	@tests/sanitize/run
+	@tests/sanitize/command
 
 help:
 	@sed -n 's/^# \(make\|  \)/\1/p' Makefile
