@@ -94,3 +94,14 @@ sizes() {
 }
 sizes many 1 127 128 129 256
 sizes longs 4095 4096 4097 6144 8192 8193 9000
+
+# The names that the guide's lines find are those that list takes: of a folder with a hidden plan too.
+mkdir -p guide/plans && cp examples/a.plan guide/plans/a.plan && cp examples/b.plan guide/plans/.b.plan
+mapfile -t finds < <(sed -n 's/^    \(find plans [^|>]*|[^|>]*\)[|>].*/\1/p' "$root/docs/GUIDE.md")
+for find in "${finds[@]}"; do
+    (cd guide && eval "$find" | xargs "$yaffledesk" list) | cmp - <(cd guide && "$yaffledesk" list plans)
+    count $? "the guide's line: $find"
+done
+[ "${#finds[@]}" -eq 2 ]
+count $? "the guide has two such lines: ${#finds[@]}"
+rm -r guide

@@ -29,8 +29,19 @@ CASES = [
 ]
 
 
+# the end of a library's check, and whether it is one without axioms
+ENDS = [
+    ("logic=proved functions=5 sum=0 native=nat\n", True),
+    ("logic=proved functions=5 axioms=1 target=x86_64 sum=0\n", False),
+    ("logic=not-proved functions=5 sum=0\n", False),
+    ("logic=proved functions=5 sum=0\nlogic=proved functions=5 axioms=2 sum=0\n", False),
+    ("", False),
+]
+
+
 def mistaken():
     """The cases in which something else is said than it should be."""
+    yield from (f"{log!r} is taken for another end" for log, good in ENDS if (versions.assumed(log) is None) != good)
     with tempfile.TemporaryDirectory() as room:
         crate = pathlib.Path(room)
         (crate / "src").mkdir()

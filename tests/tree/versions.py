@@ -15,6 +15,14 @@ CALLS = re.compile(r"it calls (?P<names>`.*`), which (?:is|are) not proved")
 # the field of a record that a line of a proof begins
 FIELD = re.compile(r"^\s+([\w-]+) = ")
 HEAD = re.compile(r"\bfn (\w+)")
+# the last line of a crate's check, where all is proved and no axiom is assumed
+PROVED = re.compile(r"logic=proved (?!.*axioms=)")
+
+
+def assumed(log):
+    """What the check of a library says last, where that is not that all is proved without an axiom; else None."""
+    said = ([line for line in log.splitlines() if line.startswith("logic=")] or ["it has no log"])[-1]
+    return None if PROVED.match(said) else said
 
 
 class Replacement:
