@@ -1,9 +1,9 @@
 # How the command is built: without a warning, hardened, and with the options that are given. Sourced by run.
 
-sources=("$root"/command/*.c)
-gcc -std=c11 -D_GNU_SOURCE -DYAFFLEDESK_VERSION='"0"' -Wall -Wextra -Werror -pedantic -fsyntax-only -pthread \
-    -I"$root/include" "${sources[@]}" >"$scratch/log" 2>&1 || { cat "$scratch/log"; false; }
-count $? "the command is compiled without a warning"
+# A whole build, as make does it: some warnings are found only by the optimiser, or with what hardens the program.
+make -s -C "$root" -o target/staticlib/libyaffledesk.a COMMAND="$scratch/strict" CFLAGS='-O2 -Werror' \
+    >"$scratch/log" 2>&1 && [ -x "$scratch/strict" ] || { cat "$scratch/log"; false; }
+count $? "the command is built without a warning"
 
 # has WHAT PATTERN: what readelf says of the program has such a line.
 has() {
