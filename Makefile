@@ -28,7 +28,7 @@ LIBRARY := target/staticlib/libyaffledesk.a
 # written $$; a newline cannot be had there, nor a blank at the beginning.
 export PREFIX DESTDIR
 # what the tests in other languages call
-TESTING := git gcc g++ rustc flock unshare rsvg-convert parallel pkg-config man
+TESTING := git gcc g++ rustc flock unshare readelf rsvg-convert parallel pkg-config man
 # so that the last line of `make test` is its count, from wherever it is called
 MAKEFLAGS += --no-print-directory
 .PHONY: all run test sanitize check install uninstall help
