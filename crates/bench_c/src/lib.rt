@@ -3,17 +3,17 @@
 ghost use Rattle.std.specs.Prelude.{◌≡◌, ◌*◌, ◌%◌, ◌^◌, ◌≤◌, length};
 ghost use Rattle.order.specs.Before.{Acyclic};
 ghost use Rattle.order.specs.Stored.{elements, number_of as setNumber};
-ghost use Rattle.order.specs.Orders.{afterRows, Direct, order_in, joinedRows};
-ghost use Rattle.records.specs.Records.{startingWith};
-ghost use Rattle.crew_sheet.specs.Sheet.{pageBytes, pagesOf, sheetPage, mostLines};
+ghost use Rattle.order.specs.Orders.{after_rows, Direct, order_in, joined_rows};
+ghost use Rattle.records.specs.Records.{starting_with};
+ghost use Rattle.crew_sheet.specs.Sheet.{page_bytes, pages_of, sheet_page, most_lines};
 ghost use Rattle.plan.specs.Meaning.{Readable};
 ghost use Rattle.plan.specs.model.Reads.{read_of};
-ghost use Rattle.plan.specs.model.Waits.{waitTable};
-ghost use Rattle.schedule.specs.model.Arrays.{withWaits, startsOf, AllAtMost, Listed, crewNet, workOf};
-ghost use Rattle.schedule.specs.Checks.{checkOf};
+ghost use Rattle.plan.specs.model.Waits.{wait_table};
+ghost use Rattle.schedule.specs.model.Arrays.{with_waits, starts_of, AllAtMost, Listed, crew_net, work_of};
+ghost use Rattle.schedule.specs.Checks.{check_of};
 ghost use Rattle.bench_c.specs.Numbers.{number_of};
 ghost use Rattle.solver.specs.model.Solve.{ranked};
-ghost use Rattle.solver.specs.model.Quote.{unused, Clean, quoteIn, quoteOf, flow_of};
+ghost use Rattle.solver.specs.model.Quote.{unused, Clean, quote_in, quote_of, flow_of};
 
 use order::{ELEMENTS, Order, Rows};
 use schedule::Checked;
@@ -30,7 +30,7 @@ pub extern "C" fn yaffledesk_quote(
     set: &mut u64,
 ) -> u32
     requires { (m ≤ elements) × Clean m flow.old }
-    ensures { (result ≡ (quoteOf m (order_in arcs.now) demand.now).need) × (set.new ≡ setNumber (quoteOf m (order_in arcs.now) demand.now).set % 2 ^ 64) × (flow.new ≡ flow_of m (order_in arcs.now) demand.now) }
+    ensures { (result ≡ (quote_of m (order_in arcs.now) demand.now).need) × (set.new ≡ setNumber (quote_of m (order_in arcs.now) demand.now).set % 2 ^ 64) × (flow.new ≡ flow_of m (order_in arcs.now) demand.now) }
 {
     let rows = *arcs;
     solver::clear(flow, m);
@@ -63,7 +63,7 @@ pub extern "C" fn yaffledesk_bench_weigh(
     set: &mut u64,
 ) -> u32
     requires { (m ≤ elements) × (ranks.now ≡ ranked m rows.now) × (flow.old ≡ unused) }
-    ensures { (result ≡ (quoteIn m rows.now demand.now).need) × (set.new ≡ setNumber (quoteIn m rows.now demand.now).set % 2 ^ 64) × (flow.new ≡ unused) }
+    ensures { (result ≡ (quote_in m rows.now demand.now).need) × (set.new ≡ setNumber (quote_in m rows.now demand.now).set % 2 ^ 64) × (flow.new ≡ unused) }
 {
     let leads = solver::leads_of(rows, ranks, m);
     let w = solver::weigh_ranked(rows, ranks, leads, m, demand, flow);
@@ -101,7 +101,7 @@ pub extern "C" fn yaffledesk_bench_read(
 #[unsafe(no_mangle)]
 pub extern "C" fn yaffledesk_bench_waits(s: &[u8], waits: &mut [u32; ELEMENTS * ELEMENTS])
     requires { Readable s.now }
-    ensures { waits.new ≡ waitTable s.now }
+    ensures { waits.new ≡ wait_table s.now }
 {
     let blank = [0u32; ELEMENTS * ELEMENTS];
     *waits = blank;
@@ -111,7 +111,7 @@ pub extern "C" fn yaffledesk_bench_waits(s: &[u8], waits: &mut [u32; ELEMENTS * 
 // The job order and the plan order of two tables of arcs, as opening a plan finds them.
 #[unsafe(no_mangle)]
 pub extern "C" fn yaffledesk_bench_orders(job: &Rows, extra: &Rows, jobs: &mut Rows, all: &mut Rows)
-    ensures { (jobs.new ≡ afterRows (order_in job.now)) × (all.new ≡ afterRows (order_in (joinedRows job.now extra.now))) }
+    ensures { (jobs.new ≡ after_rows (order_in job.now)) × (all.new ≡ after_rows (order_in (joined_rows job.now extra.now))) }
 {
     let a = *job;
     let b = *extra;
@@ -132,7 +132,7 @@ pub extern "C" fn yaffledesk_bench_earliest(
     starts: &mut [u32; ELEMENTS],
 )
     requires { Acyclic (Direct arcs.now) × AllAtMost 65535 duration.now × AllAtMost 65535 waits.now }
-    ensures { starts.new ≡ startsOf arcs.now (withWaits duration.now waits.now) }
+    ensures { starts.new ≡ starts_of arcs.now (with_waits duration.now waits.now) }
 {
     let s = schedule::earliest(arcs, duration, waits);
     *starts = s;
@@ -149,7 +149,7 @@ pub extern "C" fn yaffledesk_bench_crew_check(
     worked: &[u32],
 ) -> u64
     requires { Listed starts.now worked.now }
-    ensures { result ≡ number_of (checkOf (crewNet arcs.now (withWaits worked.now waits.now) starts.now) (workOf demand.now available.now starts.now worked.now)) }
+    ensures { result ≡ number_of (check_of (crew_net arcs.now (with_waits worked.now waits.now) starts.now) (work_of demand.now available.now starts.now worked.now)) }
 {
     number(schedule::crew_check(arcs, waits, demand, available, starts, worked))
 }
@@ -175,8 +175,8 @@ pub extern "C" fn yaffledesk_bench_page(
     page: usize,
     out: &mut [u8],
 ) -> usize
-    requires { (pageBytes ≤ length out.old) × (n ≤ mostLines) × (24 * n ≤ length flow.now) × (1 ≤ page) × (page ≤ mostLines) }
-    ensures { (result ≡ pagesOf n) × (out.new ≡ startingWith (sheetPage flow.now starts.now n kind page) out.old) }
+    requires { (page_bytes ≤ length out.old) × (n ≤ most_lines) × (24 * n ≤ length flow.now) × (1 ≤ page) × (page ≤ most_lines) }
+    ensures { (result ≡ pages_of n) × (out.new ≡ starting_with (sheet_page flow.now starts.now n kind page) out.old) }
 {
     crew_sheet::write_page(out, flow, n, starts, kind, page)
 }

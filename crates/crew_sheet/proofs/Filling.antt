@@ -7,123 +7,123 @@ use native.Mathlib.Nat.{zero-add}
 use lib.Dec.{ltb}
 use lib.ListN.{length, get_or, drop, length-append}
 use borrow.Author.Tests.{ltb-true, ltb-false, lt-ltb, le-ltb}
-use Rattle.words.proofs.Tests.{by-test}
-use Rattle.words.proofs.Tables.{getD-table}
+use Rattle.words.proofs.Tests.{by_test}
+use Rattle.words.proofs.Tables.{get_d_table}
 use Rattle.records.specs.Bytes.{field}
-use Rattle.records.specs.Records.{joined, startingWith, fromOf, toOf, unitsOf}
-use Rattle.records.proofs.Runs.{length-joined}
+use Rattle.records.specs.Records.{joined, starting_with, from_of, to_of, units_of}
+use Rattle.records.proofs.Runs.{length_joined}
 use Rattle.lines.specs.Text.{Text, text, more}
-use Rattle.lines.proofs.Texts.{more-length, more-more, grown-by}
-use Rattle.crew_sheet.specs.Sheet.{lineBytes, pageRecords, pageBytes, start_of, sheetLines, row_line, blankLine, headLine, recordLine, onLine, pageLines, sheetPage, pagesOf}
+use Rattle.lines.proofs.Texts.{more_length, more_more, grown_by}
+use Rattle.crew_sheet.specs.Sheet.{line_bytes, page_records, page_bytes, start_of, sheet_lines, row_line, blank_line, head_line, record_line, on_line, page_lines, sheet_page, pages_of}
 use Rattle.crew_sheet.specs.Underway.{onto}
-use Rattle.crew_sheet.proofs.LinesWritten.{length-row, length-blank, length-head}
+use Rattle.crew_sheet.proofs.LinesWritten.{length_row, length_blank, length_head}
 use Rattle.crew_sheet.proofs.PageRecords.{rows_of}
 
 -- a field of four bytes, by its halves
-pub field-halves : (r : List ℕ) (at : ℕ) {a b : ℕ} → a ≡ field r at 2 → b ≡ field r (at + 2) 2 → a + 65536 * b ≡ field r at 4
+pub field_halves : (r : List ℕ) (at : ℕ) {a b : ℕ} → a ≡ field r at 2 → b ≡ field r (at + 2) 2 → a + 65536 * b ≡ field r at 4
 unfolding field
-field-halves r at p q =
+field_halves r at p q =
     let e : at + 1 + 1 ≡ at + 2 = omega arith in
     rw (p, q, e) (omega arith)
 
 module _ (flow starts : List ℕ) (n : ℕ) where
-  pub record-some : (i : ℕ) → i < n → {a b u s : ℕ} → a ≡ fromOf flow i → b ≡ toOf flow i → u ≡ unitsOf flow i → s ≡ start_of flow starts i
-      → row_line a b u s ≡ recordLine flow starts n i
-  unfolding recordLine
-  record-some i h p q r t = rw (p, q, r, t, lt-ltb i n h)
+  pub record_some : (i : ℕ) → i < n → {a b u s : ℕ} → a ≡ from_of flow i → b ≡ to_of flow i → u ≡ units_of flow i → s ≡ start_of flow starts i
+      → row_line a b u s ≡ record_line flow starts n i
+  unfolding record_line
+  record_some i h p q r t = rw (p, q, r, t, lt-ltb i n h)
 
-  pub record-none : (i : ℕ) → n ≤ i → blankLine ≡ recordLine flow starts n i
-  unfolding recordLine
-  record-none i h = rw (le-ltb i n h)
+  pub record_none : (i : ℕ) → n ≤ i → blank_line ≡ record_line flow starts n i
+  unfolding record_line
+  record_none i h = rw (le-ltb i n h)
 
   -- a line that is written is the record's
-  pub record-put : (t : Text) {x : Text} (i : ℕ) → i < n → {a b u s : ℕ} → a ≡ fromOf flow i → b ≡ toOf flow i → u ≡ unitsOf flow i → s ≡ start_of flow starts i
-      → x ≡ more t (row_line a b u s) → x ≡ more t (recordLine flow starts n i)
-  record-put t i h p q r s e = e ∙ ap (more t) (record-some i h p q r s)
+  pub record_put : (t : Text) {x : Text} (i : ℕ) → i < n → {a b u s : ℕ} → a ≡ from_of flow i → b ≡ to_of flow i → u ≡ units_of flow i → s ≡ start_of flow starts i
+      → x ≡ more t (row_line a b u s) → x ≡ more t (record_line flow starts n i)
+  record_put t i h p q r s e = e ∙ ap (more t) (record_some i h p q r s)
 
-  pub blank-put : (t : Text) {x : Text} (i : ℕ) → n ≤ i → x ≡ more t blankLine → x ≡ more t (recordLine flow starts n i)
-  blank-put t i h e = e ∙ ap (more t) (record-none i h)
+  pub blank_put : (t : Text) {x : Text} (i : ℕ) → n ≤ i → x ≡ more t blank_line → x ≡ more t (record_line flow starts n i)
+  blank_put t i h e = e ∙ ap (more t) (record_none i h)
 
-  pub length-record : (i : ℕ) → length (recordLine flow starts n i) ≡ 41
-  length-record i =
-      by-test (ltb i n)
-      (λ t. ap length (sym (record-some i (ltb-true i n t) refl refl refl refl)) ∙ length-row (fromOf flow i) (toOf flow i) (unitsOf flow i) (start_of flow starts i))
-      (λ t. ap length (sym (record-none i (ltb-false i n t))) ∙ length-blank)
+  pub length_record : (i : ℕ) → length (record_line flow starts n i) ≡ 41
+  length_record i =
+      by_test (ltb i n)
+      (λ t. ap length (sym (record_some i (ltb-true i n t) refl refl refl refl)) ∙ length_row (from_of flow i) (to_of flow i) (units_of flow i) (start_of flow starts i))
+      (λ t. ap length (sym (record_none i (ltb-false i n t))) ∙ length_blank)
 
   module _ (page : ℕ) where
     -- line l behind the head
     abbrev pub line_at : ℕ → List ℕ
-    line_at l = recordLine flow starts n (onLine flow starts n page l)
+    line_at l = record_line flow starts n (on_line flow starts n page l)
 
-    pub line-short : (l : ℕ) → length (line_at l) ≤ 41
-    line-short l = omega (arith, length-record (onLine flow starts n page l))
+    pub line_short : (l : ℕ) → length (line_at l) ≤ 41
+    line_short l = omega (arith, length_record (on_line flow starts n page l))
 
-    row_at : (l : ℕ) → l < 59 → {rows : List ℕ} → rows ≡ rows_of (59 * (page - 1)) n (sheetLines flow starts n)
-        → get_or rows l 0 ≡ onLine flow starts n page l
-    unfolding onLine
-    row_at l h e = ap (λ r. get_or r l 0) e ∙ getD-table 59 (λ i. get_or (sheetLines flow starts n) (59 * (page - 1) + i) n) l 0 h
+    row_at : (l : ℕ) → l < 59 → {rows : List ℕ} → rows ≡ rows_of (59 * (page - 1)) n (sheet_lines flow starts n)
+        → get_or rows l 0 ≡ on_line flow starts n page l
+    unfolding on_line
+    row_at l h e = ap (λ r. get_or r l 0) e ∙ get_d_table 59 (λ i. get_or (sheet_lines flow starts n) (59 * (page - 1) + i) n) l 0 h
 
-    pub row_put : (t : Text) {x : Text} (l : ℕ) → l < 59 → {rows : List ℕ} → rows ≡ rows_of (59 * (page - 1)) n (sheetLines flow starts n)
-        → x ≡ more t (recordLine flow starts n (get_or rows l 0)) → x ≡ more t (line_at l)
-    row_put t l h r e = e ∙ ap (λ i. more t (recordLine flow starts n i)) (row_at l h r)
+    pub row_put : (t : Text) {x : Text} (l : ℕ) → l < 59 → {rows : List ℕ} → rows ≡ rows_of (59 * (page - 1)) n (sheet_lines flow starts n)
+        → x ≡ more t (record_line flow starts n (get_or rows l 0)) → x ≡ more t (line_at l)
+    row_put t l h r e = e ∙ ap (λ i. more t (record_line flow starts n i)) (row_at l h r)
 
-    pub page-end : (at e : ℕ) (old out : List ℕ) → text e out ≡ more (text at old) (joined line_at 59) → out ≡ onto at (pageLines flow starts n page) old
-    unfolding pageLines
-    page-end at e old out w = ap (λ (t : Text). t.out) w
+    pub page_end : (at e : ℕ) (old out : List ℕ) → text e out ≡ more (text at old) (joined line_at 59) → out ≡ onto at (page_lines flow starts n page) old
+    unfolding page_lines
+    page_end at e old out w = ap (λ (t : Text). t.out) w
 
 -- what a head line that is written behind `n` bytes makes of them
-pub head-said : (n r kind page : ℕ) (ys zs : List ℕ) → text r zs ≡ more (text n ys) (headLine kind page)
-    → (r ≡ n + 41) × (zs ≡ onto n (headLine kind page) ys)
-head-said n r kind page ys zs w =
-    (grown-by n r (headLine kind page) ys zs w ∙ ap (λ k. n + k) (length-head kind page), ap (λ (t : Text). t.out) w)
+pub head_said : (n r kind page : ℕ) (ys zs : List ℕ) → text r zs ≡ more (text n ys) (head_line kind page)
+    → (r ≡ n + 41) × (zs ≡ onto n (head_line kind page) ys)
+head_said n r kind page ys zs w =
+    (grown_by n r (head_line kind page) ys zs w ∙ ap (λ k. n + k) (length_head kind page), ap (λ (t : Text). t.out) w)
 
 -- ---- a whole page
 
-pub length-lines : (flow starts : List ℕ) (n page : ℕ) → length (pageLines flow starts n page) ≡ 2419
-unfolding pageLines
-length-lines flow starts n page = length-joined lineBytes (line_at flow starts n page) (λ l. length-record flow starts n (onLine flow starts n page l)) pageRecords
+pub length_lines : (flow starts : List ℕ) (n page : ℕ) → length (page_lines flow starts n page) ≡ 2419
+unfolding page_lines
+length_lines flow starts n page = length_joined line_bytes (line_at flow starts n page) (λ l. length_record flow starts n (on_line flow starts n page l)) page_records
 
 -- every page has 2,460 bytes
-pub length-page : (flow starts : List ℕ) (n kind page : ℕ) → length (sheetPage flow starts n kind page) ≡ pageBytes
-unfolding sheetPage
-length-page flow starts n kind page = length-append (headLine kind page) (pageLines flow starts n page) ∙ rw (length-head, length-lines)
+pub length_page : (flow starts : List ℕ) (n kind page : ℕ) → length (sheet_page flow starts n kind page) ≡ page_bytes
+unfolding sheet_page
+length_page flow starts n kind page = length-append (head_line kind page) (page_lines flow starts n page) ∙ rw (length_head, length_lines)
 
 -- the head is written, and the lines behind it
 module _ (flow starts : List ℕ) (n kind page : ℕ) (ys : List ℕ) (fits : 2460 ≤ length ys) where
-  pub head-room : 41 ≤ length ys
-  head-room = omega arith
+  pub head_room_lem : 41 ≤ length ys
+  head_room_lem = omega arith
 
-  pub head-kept : length (onto 0 (headLine kind page) ys) ≡ length ys
-  head-kept = more-length (text 0 ys) (headLine kind page) (omega (arith, length-head kind page))
+  pub head_kept : length (onto 0 (head_line kind page) ys) ≡ length ys
+  head_kept = more_length (text 0 ys) (head_line kind page) (omega (arith, length_head kind page))
 
-  pub lines-room : 2460 ≤ length (onto 0 (headLine kind page) ys)
-  lines-room = omega (arith, head-kept)
+  pub lines_room : 2460 ≤ length (onto 0 (head_line kind page) ys)
+  lines_room = omega (arith, head_kept)
 
-  pub page-said : onto 41 (pageLines flow starts n page) (onto 0 (headLine kind page) ys) ≡ startingWith (sheetPage flow starts n kind page) ys
-  unfolding sheetPage
-  page-said =
-      let h : List ℕ = headLine kind page in
-      let l : List ℕ = pageLines flow starts n page in
-      let e : text 41 (onto 0 h ys) ≡ more (text 0 ys) h = ap (λ k. text k (onto 0 h ys)) (sym (zero-add (length h) ∙ length-head kind page)) in
+  pub page_said : onto 41 (page_lines flow starts n page) (onto 0 (head_line kind page) ys) ≡ starting_with (sheet_page flow starts n kind page) ys
+  unfolding sheet_page
+  page_said =
+      let h : List ℕ = head_line kind page in
+      let l : List ℕ = page_lines flow starts n page in
+      let e : text 41 (onto 0 h ys) ≡ more (text 0 ys) h = ap (λ k. text k (onto 0 h ys)) (sym (zero-add (length h) ∙ length_head kind page)) in
       ap (λ (t : Text). (more t l).out) e
-      ∙ ap (λ (t : Text). t.out) (more-more (text 0 ys) h l (omega (arith, length-head kind page, length-lines flow starts n page)))
+      ∙ ap (λ (t : Text). t.out) (more_more (text 0 ys) h l (omega (arith, length_head kind page, length_lines flow starts n page)))
       ∙ ap (λ k. h ++ l ++ drop k ys) (zero-add (length (h ++ l)))
 
 -- ---- how many pages: as few as n records fill, and at least one
 
 module _ (n : ℕ) where
-  pub some-page : 1 ≤ pagesOf n
-  unfolding pagesOf
-  some-page = omega arith
+  pub some_page : 1 ≤ pages_of n
+  unfolding pages_of
+  some_page = omega arith
 
-  pub enough-pages : n ≤ pageRecords * pagesOf n
-  unfolding pagesOf
-  enough-pages = omega arith
+  pub enough_pages : n ≤ page_records * pages_of n
+  unfolding pages_of
+  enough_pages = omega arith
 
-  pub no-more-pages : 1 < pagesOf n → pageRecords * (pagesOf n - 1) < n
-  unfolding pagesOf
-  no-more-pages h = omega arith
+  pub no_more_pages : 1 < pages_of n → page_records * (pages_of n - 1) < n
+  unfolding pages_of
+  no_more_pages h = omega arith
 
-  pub few-pages : (b : ℕ) → 1 ≤ b → n ≤ pageRecords * b → pagesOf n ≤ b
-  unfolding pagesOf
-  few-pages b p h = omega arith
+  pub few_pages : (b : ℕ) → 1 ≤ b → n ≤ page_records * b → pages_of n ≤ b
+  unfolding pages_of
+  few_pages b p h = omega arith

@@ -1,7 +1,7 @@
 -- What a proof has at exit of a `Page` that was passed by value: the kit's example `writer`, cut to
 -- the two ways that occur here.
---     page-spent      in a signature of one lifetime, whose result names it: nothing is said of a last list.        page-spent-goes      the law for it
---     page-gave       in a signature of three lifetimes, the first the page's: the body has given the borrow up for good, and has only what says its last list.        page-gave-goes      the law for it
+--     page_spent      in a signature of one lifetime, whose result names it: nothing is said of a last list.        page_spent_goes      the law for it
+--     page_gave       in a signature of three lifetimes, the first the page's: the body has given the borrow up for good, and has only what says its last list.        page_gave_goes      the law for it
 -- The laws take `Logic`. The rest assumes nothing.
 use mathlib.Core.Path.{refl}
 use mathlib.Core.List.{List, [], ◌∷◌}
@@ -38,19 +38,19 @@ spends = (stay_dropped (mut_slice_of (0 ∷ []) tt (plain (λ _. u8))) no, (stay
 abbrev gives : Fields slots₃ yes
 gives = (gave_slice (0 ∷ []) tt (plain (λ _. u8)), (stay_none (λ _. usize) yes, tt))
 
-abbrev pub page-spent : Stay PageS no
-page-spent = stay_declared (struct_at name (named 0 ∷ []) slots) no (stay_struct_at name (named 0 ∷ []) slots no spends) Page (λ κs. (T.the_type (named_lft 1 0 tt κs)).to) (λ κs. (T.the_type (named_lft 1 0 tt κs)).to_one)
+abbrev pub page_spent : Stay PageS no
+page_spent = stay_declared (struct_at name (named 0 ∷ []) slots) no (stay_struct_at name (named 0 ∷ []) slots no spends) Page (λ κs. (T.the_type (named_lft 1 0 tt κs)).to) (λ κs. (T.the_type (named_lft 1 0 tt κs)).to_one)
 
-abbrev pub page-gave : Stay PageS₃ yes
-page-gave = stay_declared (struct_at name (named 0 ∷ []) slots₃) yes (stay_struct_at name (named 0 ∷ []) slots₃ yes gives) Page (λ κs. (T.the_type (named_lft 3 0 tt κs)).to) (λ κs. (T.the_type (named_lft 3 0 tt κs)).to_one)
+abbrev pub page_gave : Stay PageS₃ yes
+page_gave = stay_declared (struct_at name (named 0 ∷ []) slots₃) yes (stay_struct_at name (named 0 ∷ []) slots₃ yes gives) Page (λ κs. (T.the_type (named_lft 3 0 tt κs)).to) (λ κs. (T.the_type (named_lft 3 0 tt κs)).to_one)
 
 module _ {M : Type 1} {𝓤 : Ura M} (𝓛 : Logic 𝓤) where
-  pub page-spent-goes : Goes 𝓛 1 PageS no page-spent
-  page-spent-goes =
+  pub page_spent_goes : Goes 𝓛 1 PageS no page_spent
+  page_spent_goes =
       Goes-declared 𝓛 1 (struct_at name (named 0 ∷ []) slots) no (stay_struct_at name (named 0 ∷ []) slots no spends) Page (λ κs. (T.the_type (named_lft 1 0 tt κs)).to) (λ κs. (T.the_type (named_lft 1 0 tt κs)).to_one)
       (Goes-struct_at 𝓛 1 name (named 0 ∷ []) slots no spends (Goes-spent_slice 𝓛 1 (0 ∷ []) tt (plain (λ _. u8)), (Goes-none 𝓛 1 (λ _. usize) no (λ κs x f. refl), tt)))
 
-  pub page-gave-goes : Goes 𝓛 3 PageS₃ yes page-gave
-  page-gave-goes =
+  pub page_gave_goes : Goes 𝓛 3 PageS₃ yes page_gave
+  page_gave_goes =
       Goes-declared 𝓛 3 (struct_at name (named 0 ∷ []) slots₃) yes (stay_struct_at name (named 0 ∷ []) slots₃ yes gives) Page (λ κs. (T.the_type (named_lft 3 0 tt κs)).to) (λ κs. (T.the_type (named_lft 3 0 tt κs)).to_one)
       (Goes-struct_at 𝓛 3 name (named 0 ∷ []) slots₃ yes gives (Goes-gave_slice 𝓛 3 0 tt (plain (λ _. u8)), (Goes-none 𝓛 3 (λ _. usize) yes (λ κs x f. refl), tt)))

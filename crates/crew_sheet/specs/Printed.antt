@@ -3,8 +3,8 @@ use Rattle.std.specs.Prelude.{◌≡◌, List, [], ◌∷◌, ◌++◌, ℕ, ◌
 use Rattle.lines.specs.Text.{value_of}
 
 -- line l of a page of 41 bytes a line; the heading is line 0
-abbrev pub pageLine : List ℕ → ℕ → List ℕ
-pageLine page l = take 41 (drop (41 * l) page)
+abbrev pub page_line : List ℕ → ℕ → List ℕ
+page_line page l = take 41 (drop (41 * l) page)
 
 -- the columns a to b of a line
 abbrev pub columns : ℕ → ℕ → List ℕ → List ℕ
@@ -24,10 +24,10 @@ pub record Shows (column : List ℕ) (x : ℕ) : Type 0 where
 -- "from (3 columns), to (3), units (8), the receiver's start (10), right-aligned,
 -- one blank between, then blanks"
 pub record ShowsRecord (line : List ℕ) (from to units start : ℕ) : Type 0 where
-  pub from-shown : Shows (columns 1 3 line) from
-  pub to-shown : Shows (columns 5 7 line) to
-  pub units-shown : Shows (columns 9 16 line) units
-  pub start-shown : Shows (columns 18 27 line) start
+  pub from_shown : Shows (columns 1 3 line) from
+  pub to_shown : Shows (columns 5 7 line) to
+  pub units_shown : Shows (columns 9 16 line) units
+  pub start_shown : Shows (columns 18 27 line) start
   pub between : (columns 4 4 line ≡ 32 ∷ []) × (columns 8 8 line ≡ 32 ∷ []) × (columns 17 17 line ≡ 32 ∷ [])
   pub then : columns 28 40 line ≡ replicate 13 32
   pub newline : drop 40 line ≡ 10 ∷ []
@@ -36,8 +36,8 @@ pub record ShowsRecord (line : List ℕ) (from to units start : ℕ) : Type 0 wh
 -- right-aligned, then blanks."
 pub record ShowsHead (line : List ℕ) (kind page : ℕ) : Type 0 where
   pub word : columns 1 5 line ≡ 75 ∷ 73 ∷ 78 ∷ 68 ∷ 32 ∷ []
-  pub kind-shown : Shows (columns 6 6 line) kind
+  pub kind_shown : Shows (columns 6 6 line) kind
   pub between : columns 7 7 line ≡ 32 ∷ []
-  pub page-shown : Shows (columns 8 10 line) page
+  pub page_shown : Shows (columns 8 10 line) page
   pub then : columns 11 40 line ≡ replicate 30 32
   pub newline : drop 40 line ≡ 10 ∷ []

@@ -3,7 +3,7 @@
 use Rattle.std.specs.Prelude.{List, ℕ, ◌+◌}
 use denote.Ref.{at_last}
 use Rattle.lines.specs.Text.{text, more}
-use Rattle.crew_sheet.specs.Sheet.{lineBytes, headLine}
+use Rattle.crew_sheet.specs.Sheet.{line_bytes, head_line}
 use Rattle.crew_sheet.specs.declared.Page.{Page}
 
 -- lent bytes, with a list written from byte `at` on
@@ -14,6 +14,6 @@ onto at bytes out = (more (text at out) bytes).out
 abbrev pub headed : Page → ℕ → ℕ → Page
 headed p kind page =
     record {
-      out = at_last p.out (onto p.at (headLine kind page) p.out.now);
-      at = p.at + lineBytes;
+      out = at_last p.out (onto p.at (head_line kind page) p.out.now);
+      at = p.at + line_bytes;
     }

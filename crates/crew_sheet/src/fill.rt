@@ -1,7 +1,7 @@
 // The lines behind the head of a page.
 ghost use Rattle.std.specs.Prelude.{◌≡◌, ◌+◌, ◌*◌, ◌≤◌, length};
 ghost use Rattle.lines.specs.Text.{text, more};
-ghost use Rattle.crew_sheet.specs.Sheet.{lineBytes, pageRecords, recordLine, pageLines, pagesOf, mostLines};
+ghost use Rattle.crew_sheet.specs.Sheet.{line_bytes, page_records, record_line, page_lines, pages_of, most_lines};
 ghost use Rattle.crew_sheet.specs.Underway.{onto};
 
 use crate::RECORDS;
@@ -11,8 +11,8 @@ use crate::text::{put_blank, put_row};
 
 // Writes the line of record i of n, a blank one where there is no such record.
 fn put_record(out: &mut [u8], at: usize, flow: &[u8], n: usize, starts: &[u32], i: usize) -> usize
-    requires { (n ≤ mostLines) × (24 * n ≤ length flow.now) × (at + lineBytes ≤ length out.old) }
-    ensures { text result out.new ≡ more (text at out.old) (recordLine flow.now starts.now n i) }
+    requires { (n ≤ most_lines) × (24 * n ≤ length flow.now) × (at + line_bytes ≤ length out.old) }
+    ensures { text result out.new ≡ more (text at out.old) (record_line flow.now starts.now n i) }
 {
     if i < n {
         let from = wide(flow[24 * i + 2]);
@@ -26,7 +26,7 @@ fn put_record(out: &mut [u8], at: usize, flow: &[u8], n: usize, starts: &[u32], 
 
 // How many pages n records fill.
 pub fn pages(n: usize) -> usize
-    ensures { result ≡ pagesOf n }
+    ensures { result ≡ pages_of n }
 {
     if n == 0 {
         return 1;
@@ -43,8 +43,8 @@ pub fn put_lines(
     starts: &[u32],
     page: usize,
 ) -> usize
-    requires { (n ≤ mostLines) × (24 * n ≤ length flow.now) × (1 ≤ page) × (page ≤ mostLines) × (at + lineBytes * pageRecords ≤ length out.old) }
-    ensures { (result ≡ pagesOf n) × (out.new ≡ onto at (pageLines flow.now starts.now n page) out.old) }
+    requires { (n ≤ most_lines) × (24 * n ≤ length flow.now) × (1 ≤ page) × (page ≤ most_lines) × (at + line_bytes * page_records ≤ length out.old) }
+    ensures { (result ≡ pages_of n) × (out.new ≡ onto at (page_lines flow.now starts.now n page) out.old) }
 {
     let rows = page_rows(flow, n, starts, RECORDS * (page - 1));
     let mut end = at;

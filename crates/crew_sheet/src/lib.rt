@@ -1,7 +1,7 @@
 // The crew sheet: one page of text, of a flow's records and the starts of their receivers.
 ghost use Rattle.std.specs.Prelude.{◌≡◌, ◌+◌, ◌*◌, ◌≤◌, length};
-ghost use Rattle.records.specs.Records.{startingWith};
-ghost use Rattle.crew_sheet.specs.Sheet.{lineBytes, pageRecords, pageBytes, pagesOf, pageLines, sheetPage, mostLines};
+ghost use Rattle.records.specs.Records.{starting_with};
+ghost use Rattle.crew_sheet.specs.Sheet.{line_bytes, page_records, page_bytes, pages_of, page_lines, sheet_page, most_lines};
 ghost use Rattle.crew_sheet.specs.Underway.{onto, headed};
 
 mod blocks;
@@ -35,7 +35,7 @@ impl<'a> Page<'a> {
 
     // With its head line.
     pub fn head(self, kind: u64, page: usize) -> Page<'a>
-        requires { self.at + lineBytes ≤ length self.out.now }
+        requires { self.at + line_bytes ≤ length self.out.now }
         ensures { result ≡ headed self.entry kind page }
     {
         let at = self.at;
@@ -48,15 +48,15 @@ impl<'a> Page<'a> {
 
     // The lines behind the head, and with them the page is full. Gives the count of pages.
     pub fn fill(self, flow: &[u8], n: usize, starts: &[u32], page: usize) -> usize
-        requires { (n ≤ mostLines) × (24 * n ≤ length flow.now) × (1 ≤ page) × (page ≤ mostLines) × (self.at + lineBytes * pageRecords ≤ length self.out.now) }
-        ensures { (result ≡ pagesOf n) × (self.exit.0.now ≡ onto self.entry.at (pageLines flow.now starts.now n page) self.entry.out.now) }
+        requires { (n ≤ most_lines) × (24 * n ≤ length flow.now) × (1 ≤ page) × (page ≤ most_lines) × (self.at + line_bytes * page_records ≤ length self.out.now) }
+        ensures { (result ≡ pages_of n) × (self.exit.0.now ≡ onto self.entry.at (page_lines flow.now starts.now n page) self.entry.out.now) }
     {
         let at = self.at;
         fill::put_lines(&mut *self.out, at, flow, n, starts, page)
     }
 }
 
-// Writes a page of the sheet of n flow records to the front of the lent bytes. Gives the count of pages. (`mostLines`
+// Writes a page of the sheet of n flow records to the front of the lent bytes. Gives the count of pages. (`most_lines`
 // keeps every sum within a word.)
 pub fn write_page(
     out: &mut [u8],
@@ -66,8 +66,8 @@ pub fn write_page(
     kind: u64,
     page: usize,
 ) -> usize
-    requires { (pageBytes ≤ length out.old) × (n ≤ mostLines) × (24 * n ≤ length flow.now) × (1 ≤ page) × (page ≤ mostLines) }
-    ensures { (result ≡ pagesOf n) × (out.new ≡ startingWith (sheetPage flow.now starts.now n kind page) out.old) }
+    requires { (page_bytes ≤ length out.old) × (n ≤ most_lines) × (24 * n ≤ length flow.now) × (1 ≤ page) × (page ≤ most_lines) }
+    ensures { (result ≡ pages_of n) × (out.new ≡ starting_with (sheet_page flow.now starts.now n kind page) out.old) }
 {
     Page::begin(out)
         .head(kind, page)

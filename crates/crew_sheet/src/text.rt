@@ -1,13 +1,13 @@
 // The characters of a line, written to lent bytes.
 ghost use Rattle.std.specs.Prelude.{◌≡◌, ◌+◌, ◌≤◌, length, replicate};
 ghost use Rattle.lines.specs.Text.{text, more};
-ghost use Rattle.crew_sheet.specs.Sheet.{lineBytes, column, cell, row_line, blankLine, headLine};
-ghost use Rattle.crew_sheet.specs.model.Figures.{figureOf};
+ghost use Rattle.crew_sheet.specs.Sheet.{line_bytes, column, cell, row_line, blank_line, head_line};
+ghost use Rattle.crew_sheet.specs.model.Figures.{figure_of};
 
 // The character at a place of a right-aligned number, of what is left of the number there and how
 // many digits are to the right.
 fn figure(rest: u64, tail: usize) -> u8
-    ensures { result ≡ figureOf rest tail }
+    ensures { result ≡ figure_of rest tail }
 {
     if rest == 0 {
         if tail == 0 {
@@ -56,7 +56,7 @@ fn put_cell(out: &mut [u8], at: usize, w: usize, gap: usize, x: u64) -> usize
 
 // Writes the line of a record.
 pub fn put_row(out: &mut [u8], at: usize, from: u64, to: u64, units: u64, start: u64) -> usize
-    requires { at + lineBytes ≤ length out.old }
+    requires { at + line_bytes ≤ length out.old }
     ensures { text result out.new ≡ more (text at out.old) (row_line from to units start) }
 {
     let a = put_cell(out, at, 3, 1, from);
@@ -69,8 +69,8 @@ pub fn put_row(out: &mut [u8], at: usize, from: u64, to: u64, units: u64, start:
 
 // Writes a blank line.
 pub fn put_blank(out: &mut [u8], at: usize) -> usize
-    requires { at + lineBytes ≤ length out.old }
-    ensures { text result out.new ≡ more (text at out.old) blankLine }
+    requires { at + line_bytes ≤ length out.old }
+    ensures { text result out.new ≡ more (text at out.old) blank_line }
 {
     let a = put_blanks(out, at, 40);
     out[a] = 10;
@@ -79,8 +79,8 @@ pub fn put_blank(out: &mut [u8], at: usize) -> usize
 
 // Writes the head line of a page.
 pub fn put_head(out: &mut [u8], at: usize, kind: u64, page: usize) -> usize
-    requires { at + lineBytes ≤ length out.old }
-    ensures { text result out.new ≡ more (text at out.old) (headLine kind page) }
+    requires { at + line_bytes ≤ length out.old }
+    ensures { text result out.new ≡ more (text at out.old) (head_line kind page) }
 {
     let a = lines::put_bytes(out, at, b"KIND ");
     let b = put_cell(out, a, 1, 1, kind);

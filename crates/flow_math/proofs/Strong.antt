@@ -35,8 +35,8 @@ apart : (n : ℕ) (f : ℕ → ℕ → ℕ) (A B : ℕ → Bool) →
 unfolding total row
 apart n f A B h =
     let e : sum n (λ i. sum n (λ j. cond (A i) 0 (f i j) + cond (B j) (f i j) 0)) ≤ sum n (λ i. sum n (λ j. f i j)) =
-    Sums.sum-le n (λ i. sum n (λ j. cond (A i) 0 (f i j) + cond (B j) (f i j) 0)) (λ i. sum n (λ j. f i j))
-    (λ i l. Sums.sum-le n (λ j. cond (A i) 0 (f i j) + cond (B j) (f i j) 0) (λ j. f i j) (λ j m. h i j l m)) in
+    Sums.sum_le n (λ i. sum n (λ j. cond (A i) 0 (f i j) + cond (B j) (f i j) 0)) (λ i. sum n (λ j. f i j))
+    (λ i l. Sums.sum_le n (λ j. cond (A i) 0 (f i j) + cond (B j) (f i j) 0) (λ j. f i j) (λ j m. h i j l m)) in
     omega (arith, Weak.both n f A B)
 
 -- units that a taker in B takes over only from givers in A are counted at most once
@@ -51,12 +51,12 @@ once false true x h =
 counted : (l r : Bool) (x : ℕ) → x ≤ cond ((l && not r) && ltb 0 x) x 0 + (cond l 0 x + cond r x 0)
 counted false r x = omega arith
 counted true true x = omega arith
-counted true false x = Tests.by-test (ltb 0 x) (λ e. rw e (omega arith)) (λ e. omega (arith, ltb-false 0 x e))
+counted true false x = Tests.by_test (ltb 0 x) (λ e. rw e (omega arith)) (λ e. omega (arith, ltb-false 0 x e))
 
 module _ (n : ℕ) (b : ℕ → ℕ → Bool) (d : ℕ → ℕ) (f : ℕ → ℕ → ℕ) (L R : ℕ → Bool) (C : Closed n b d f L R) where
   -- No two members of the set are ordered.
-  pub cut-antichain : Antichain n b (cut d L R)
-  cut-antichain i j l m s t h =
+  pub cut_antichain : Antichain n b (cut d L R)
+  cut_antichain i j l m s t h =
       let x : (L i && not (R i)) ≡ true = Tests.and_left (L i && not (R i)) (ltb 0 (d i)) s in
       let y : (L j && not (R j)) ≡ true = Tests.and_left (L j && not (R j)) (ltb 0 (d j)) t in
       Tests.clash
@@ -64,34 +64,34 @@ module _ (n : ℕ) (b : ℕ → ℕ → Bool) (d : ℕ → ℕ) (f : ℕ → ℕ
       (Tests.false_of_not (R j) (Tests.and_right (L j) (not (R j)) y))
 
   -- an element not reached as a giver hands over all of its demand
-  full-row : (i : ℕ) → i < n → cond (L i) 0 (d i) ≤ cond (L i) 0 (row n f i)
-  full-row i l =
-      Weak.cond-not-le (L i) (d i) (row n f i)
+  full_row : (i : ℕ) → i < n → cond (L i) 0 (d i) ≤ cond (L i) 0 (row n f i)
+  full_row i l =
+      Weak.cond_not_le (L i) (d i) (row n f i)
       (λ e. by_cases (dec_lt (row n f i) (d i)) (λ p. Tests.clash (C.begins i l p) e) (λ p. omega arith))
 
-  full-col : (j : ℕ) → j < n → cond (R j) (d j) 0 ≤ cond (R j) (col n f j) 0
-  full-col j l = Weak.cond-le (R j) (d j) (col n f j) (λ e. omega (arith, C.full j l e))
+  full_col : (j : ℕ) → j < n → cond (R j) (d j) 0 ≤ cond (R j) (col n f j) 0
+  full_col j l = Weak.cond_le (R j) (d j) (col n f j) (λ e. omega (arith, C.full j l e))
 
   enough : sum n d ≤ weight n d (cut d L R) + total n f
   unfolding weight
   enough =
       let c = apart n f L R (λ i j l m. once (L i) (R j) (f i j) (C.back i j l m)) in
-      let r = Sums.sum-le n (λ i. cond (L i) 0 (d i)) (λ i. cond (L i) 0 (row n f i)) full-row in
-      let s = Sums.sum-le n (λ j. cond (R j) (d j) 0) (λ j. cond (R j) (col n f j) 0) full-col in
-      let e = Sums.sum-le n d (λ i. cond (cut d L R i) (d i) 0 + (cond (L i) 0 (d i) + cond (R i) (d i) 0))
+      let r = Sums.sum_le n (λ i. cond (L i) 0 (d i)) (λ i. cond (L i) 0 (row n f i)) full_row in
+      let s = Sums.sum_le n (λ j. cond (R j) (d j) 0) (λ j. cond (R j) (col n f j) 0) full_col in
+      let e = Sums.sum_le n d (λ i. cond (cut d L R i) (d i) 0 + (cond (L i) 0 (d i) + cond (R i) (d i) 0))
       (λ i l. counted (L i) (R i) (d i)) in
-      let a = Sums.sum-add n (λ i. cond (cut d L R i) (d i) 0) (λ i. cond (L i) 0 (d i) + cond (R i) (d i) 0) in
-      let a2 = Sums.sum-add n (λ i. cond (L i) 0 (d i)) (λ i. cond (R i) (d i) 0) in
+      let a = Sums.sum_add n (λ i. cond (cut d L R i) (d i) 0) (λ i. cond (L i) 0 (d i) + cond (R i) (d i) 0) in
+      let a2 = Sums.sum_add n (λ i. cond (L i) 0 (d i)) (λ i. cond (R i) (d i) 0) in
       omega arith
 
   module _ (o : StrictOrder n b) (F : Handover n b d f) where
     -- The set and the units handed over weigh all demands.
     pub strong : weight n d (cut d L R) + total n f ≡ sum n d
-    strong = omega (arith, enough, Weak.weak n b (cut d L R) o cut-antichain d f F)
+    strong = omega (arith, enough, Weak.weak n b (cut d L R) o cut_antichain d f F)
 
     -- Its weight is the need, also as computed.
-    pub cut-need : Need n b d (weight n d (cut d L R))
-    cut-need = tight n b d f (cut d L R) o F cut-antichain strong
+    pub cut_need : Need n b d (weight n d (cut d L R))
+    cut_need = tight n b d f (cut d L R) o F cut_antichain strong
 
-    pub closed-need : need_of n b d + total n f ≡ sum n d
-    closed-need = omega (arith, Needs.need-is n b d (weight n d (cut d L R)) o cut-need, strong)
+    pub closed_need : need_of n b d + total n f ≡ sum n d
+    closed_need = omega (arith, Needs.need_is n b d (weight n d (cut d L R)) o cut_need, strong)

@@ -7,8 +7,8 @@ use Rattle.flow_math.specs.Kept.{Kept}
 abbrev pub Broken : (ℕ → ℕ) → (ℕ → ℕ → ℕ) → ℕ → ℕ → Type 0
 Broken s w i j = s j < s i + w i j
 
-abbrev pub isBroken : (ℕ → ℕ) → (ℕ → ℕ → ℕ) → ℕ → ℕ → Bool
-isBroken s w i j = ltb (s j) (s i + w i j)
+abbrev pub is_broken : (ℕ → ℕ) → (ℕ → ℕ → ℕ) → ℕ → ℕ → Bool
+is_broken s w i j = ltb (s j) (s i + w i j)
 
 -- "the first arc i to j, by from and then to," that is broken: every arc from an earlier element is kept, and
 -- so is every arc from i to an earlier one

@@ -6,7 +6,7 @@ use Rattle.words.specs.Sums.{sum}
 
 -- AT WORK: "Period t = 1, 2, .. has i at work when its start is at most t−1 and its finish at least t." The
 -- paper's active set A(s, t). A start at most t − 1 is one below t; written so, nobody is at work in
--- a period 0, and in every other the words are as they stand: `active-reads` of proofs/Crew.antt.
+-- a period 0, and in every other the words are as they stand: `active_reads` of proofs/Crew.antt.
 abbrev pub active : (ℕ → ℕ) → (ℕ → ℕ) → ℕ → ℕ → Bool
 active s w t i = ltb (s i) t && leb t (s i + w i)
 

@@ -1,5 +1,5 @@
 -- The need of a kind, computed: all unrelated sets are gone through. That it is the need is
--- `needOf-need` of proofs/Need.antt.
+-- `need_of_need` of proofs/Need.antt.
 use Rattle.std.specs.Prelude.{Bool, true, not, cond, ◌&&◌, ℕ, zero, suc, ◌+◌, max}
 
 -- the elements that A allows and that are not ordered with k

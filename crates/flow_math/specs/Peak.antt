@@ -32,5 +32,5 @@ unfoldable pub turn : ℕ → (ℕ → ℕ → Bool) → (ℕ → Bool) → ℕ 
 turn n b S i = cond (early n b S i) (rank n b i) (cond (S i) n (suc n + rank n b i))
 
 -- the turns follow one another at a distance of `gap` periods
-unfoldable pub startsAt : ℕ → (ℕ → ℕ → Bool) → (ℕ → Bool) → ℕ → ℕ → ℕ
-startsAt n b S gap i = gap * turn n b S i
+unfoldable pub starts_at : ℕ → (ℕ → ℕ → Bool) → (ℕ → Bool) → ℕ → ℕ → ℕ
+starts_at n b S gap i = gap * turn n b S i

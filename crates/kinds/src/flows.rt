@@ -1,14 +1,14 @@
 // The flow of one kind, as records: one for each pair of nodes with positive units, ascending by from, then to.
 ghost use Rattle.std.specs.Prelude.{◌≡◌, suc, ◌+◌, ◌≤◌, ◌<◌};
-ghost use Rattle.order.specs.Orders.{isBefore};
+ghost use Rattle.order.specs.Orders.{is_before};
 ghost use Rattle.order.specs.Rows.{after};
 ghost use Rattle.order.specs.Stored.{elements};
 ghost use Rattle.solver.specs.model.Network.{handed};
-ghost use Rattle.solver.specs.model.Quote.{quoteOf, flow_of};
+ghost use Rattle.solver.specs.model.Quote.{quote_of, flow_of};
 ghost use Rattle.solver.specs.Sound.{asked};
-ghost use Rattle.kinds.specs.Needs.{demandsFor};
-ghost use Rattle.kinds.specs.Flows.{Bounded, units, mark_of, pairsFrom, pairsOf, kindUnits};
-ghost use Rattle.kinds.specs.model.Writing.{Room, lent, put_pair, putRow, putFlow};
+ghost use Rattle.kinds.specs.Needs.{demands_for};
+ghost use Rattle.kinds.specs.Flows.{Bounded, units, mark_of, pairs_from, pairs_of, kind_units};
+ghost use Rattle.kinds.specs.model.Writing.{Room, lent, put_pair, put_row, put_flow};
 
 use crate::needs::demands_for;
 use crate::units::units;
@@ -73,9 +73,9 @@ fn put_row(
     job: &Rows,
 ) -> usize
     requires { (m ≤ elements) × (from ≤ m) × Bounded m (asked demand.now) (handed flow.now)
-        × Room (n + pairsFrom (units m demand.now flow.now spare) (m + 2) from) out.old }
+        × Room (n + pairs_from (units m demand.now flow.now spare) (m + 2) from) out.old }
     ensures { lent result out.new
-        ≡ putRow kind (units m demand.now flow.now spare) (mark_of (after job.now) m) m from (lent n out.old) }
+        ≡ put_row kind (units m demand.now flow.now spare) (mark_of (after job.now) m) m from (lent n out.old) }
 {
     let mut count = n;
     for j in 0..m + 1 {
@@ -96,9 +96,9 @@ fn put_flow(
     job: &Rows,
 ) -> usize
     requires { (m ≤ elements) × Bounded m (asked demand.now) (handed flow.now)
-        × Room (pairsOf (units m demand.now flow.now spare) (m + 2)) out.old }
+        × Room (pairs_of (units m demand.now flow.now spare) (m + 2)) out.old }
     ensures { lent result out.new
-        ≡ putFlow kind (units m demand.now flow.now spare) (mark_of (after job.now) m) m (lent 0 out.old) }
+        ≡ put_flow kind (units m demand.now flow.now spare) (mark_of (after job.now) m) m (lent 0 out.old) }
 {
     let mut count: usize = 0;
     for from in 0..m + 1 {
@@ -119,11 +119,11 @@ pub fn write_flow(
     m: usize,
 ) -> usize
     requires { (k < 8) × (m ≤ elements)
-        × Bounded m (asked (demandsFor demand.now k)) (handed (flow_of m order (demandsFor demand.now k)))
-        × ((quoteOf m order (demandsFor demand.now k)).need ≤ available)
-        × Room (pairsOf (kindUnits order demand.now k available m) (m + 2)) out.old }
+        × Bounded m (asked (demands_for demand.now k)) (handed (flow_of m order (demands_for demand.now k)))
+        × ((quote_of m order (demands_for demand.now k)).need ≤ available)
+        × Room (pairs_of (kind_units order demand.now k available m) (m + 2)) out.old }
     ensures { lent result out.new
-        ≡ putFlow (k + 1) (kindUnits order demand.now k available m) (mark_of (isBefore job) m) m (lent 0 out.old) }
+        ≡ put_flow (k + 1) (kind_units order demand.now k available m) (mark_of (is_before job) m) m (lent 0 out.old) }
 {
     let own = demands_for(demand, k);
     let mut flow: [u32; ELEMENTS * ELEMENTS] = [0; ELEMENTS * ELEMENTS];

@@ -2,7 +2,7 @@
 ghost use Rattle.std.specs.Prelude.{◌≡◌, ◌≤◌, ◌<◌, length};
 ghost use Rattle.order.specs.Stored.{elements};
 ghost use Rattle.words.specs.Tables.{over};
-ghost use Rattle.kinds.specs.Needs.{demandsFor, needsFor, lowestOverload};
+ghost use Rattle.kinds.specs.Needs.{demands_for, needs_for, lowest_overload};
 
 use crate::Overload;
 use order::{ELEMENTS, Order, Set};
@@ -10,7 +10,7 @@ use order::{ELEMENTS, Order, Set};
 // The demands of kind k alone.
 pub fn demands_for(demand: &[u32; 8 * ELEMENTS], k: usize) -> [u32; ELEMENTS]
     requires { k < 8 }
-    ensures { result ≡ demandsFor demand.now k }
+    ensures { result ≡ demands_for demand.now k }
 {
     let mut own: [u32; ELEMENTS] = [0; ELEMENTS];
     for i in 0..ELEMENTS {
@@ -23,7 +23,7 @@ pub fn demands_for(demand: &[u32; 8 * ELEMENTS], k: usize) -> [u32; ELEMENTS]
 // is found once for all kinds.)
 pub fn put_needs(out: &mut [u32], order: Order, m: usize, demand: &[u32; 8 * ELEMENTS], n: usize)
     requires { (m ≤ elements) × (n ≤ 8) × (n ≤ length out.old) }
-    ensures { out.new ≡ over n (needsFor m order demand.now n) out.old }
+    ensures { out.new ≡ over n (needs_for m order demand.now n) out.old }
 {
     let rows = order.after_rows();
     let ranks = solver::ranks(&rows, m);
@@ -45,7 +45,7 @@ pub fn lowest_overload(
     n: usize,
 ) -> Overload
     requires { (m ≤ elements) × (n ≤ 8) }
-    ensures { result ≡ lowestOverload m order demand.now available.now n }
+    ensures { result ≡ lowest_overload m order demand.now available.now n }
 {
     let rows = order.after_rows();
     let ranks = solver::ranks(&rows, m);

@@ -1,7 +1,7 @@
 // An overload, as a record.
 ghost use Rattle.std.specs.Prelude.{◌≡◌, ◌≤◌, length};
-ghost use Rattle.records.specs.Records.{startingWith};
-ghost use Rattle.kinds.specs.Needs.{shownCount, shownBytes};
+ghost use Rattle.records.specs.Records.{starting_with};
+ghost use Rattle.kinds.specs.Needs.{shown_count, shown_bytes};
 
 use crate::Overload;
 use crate::flows::byte;
@@ -10,7 +10,7 @@ use crate::flows::byte;
 // records: 0 where the kind is none of these.
 pub fn put_overload(out: &mut [u8], over: Overload, n: usize) -> usize
     requires { (24 ≤ length out.old) × (n ≤ 8) }
-    ensures { (result ≡ shownCount over n) × (out.new ≡ startingWith (shownBytes over n) out.old) }
+    ensures { (result ≡ shown_count over n) × (out.new ≡ starting_with (shown_bytes over n) out.old) }
 {
     let kind = over.kind;
     if kind >= n {

@@ -8,7 +8,7 @@ use native.Mathlib.Numerals.{add-one}
 use lib.ListN.{length, length-append}
 use Rattle.records.specs.Records.{joined}
 use Rattle.lines.specs.Text.{Text, text, more}
-use Rattle.lines.proofs.Texts.{more-more, more-none, grown, grown-by}
+use Rattle.lines.proofs.Texts.{more_more, more_none, grown, grown_by}
 
 -- ---- lines f 0, f 1, .., f (n - 1), each of at most `most` bytes
 
@@ -18,29 +18,29 @@ pub record Putting (f : ℕ → List ℕ) (most n at : ℕ) (old : List ℕ) (i 
   pub short : end ≤ at + most * i
   pub done : text end out ≡ more (text at old) (joined f i)
 
-pub joined-short : (f : ℕ → List ℕ) (most : ℕ) → ((k : ℕ) → length (f k) ≤ most) → (n : ℕ) → length (joined f n) ≤ most * n
+pub joined_short : (f : ℕ → List ℕ) (most : ℕ) → ((k : ℕ) → length (f k) ≤ most) → (n : ℕ) → length (joined f n) ≤ most * n
 unfolding joined
-joined-short f most short zero = omega arith
-joined-short f most short (suc n) =
+joined_short f most short zero = omega arith
+joined_short f most short (suc n) =
     let e : most * suc n ≡ most * n + most = omega arith in
-    omega (arith, length-append (joined f n) (f n), joined-short f most short n, short n)
+    omega (arith, length-append (joined f n) (f n), joined_short f most short n, short n)
 
-joined-more : (f : ℕ → List ℕ) (n : ℕ) → joined f (n + 1) ≡ joined f n ++ f n
+joined_more : (f : ℕ → List ℕ) (n : ℕ) → joined f (n + 1) ≡ joined f n ++ f n
 unfolding joined
-joined-more f n = rw add-one
+joined_more f n = rw add-one
 
-pub putting-none : {f : ℕ → List ℕ} {most n at : ℕ} {old : List ℕ} → Putting f most n at old 0 at old
+pub putting_none : {f : ℕ → List ℕ} {most n at : ℕ} {old : List ℕ} → Putting f most n at old 0 at old
 unfolding joined
-putting-none {f} {most} {n} {at} {old} = record { some = omega arith; short = omega arith; done = sym (more-none (text at old)) }
+putting_none {f} {most} {n} {at} {old} = record { some = omega arith; short = omega arith; done = sym (more_none (text at old)) }
 
 module _ {f : ℕ → List ℕ} {most n at : ℕ} {old : List ℕ} {i end : ℕ} {out : List ℕ}
     (p : Putting f most n at old i end out) (fits : at + most * n ≤ length old) where
   so_far : end ≡ at + length (joined f i)
-  so_far = grown-by at end (joined f i) old out p.done
+  so_far = grown_by at end (joined f i) old out p.done
 
   -- the bytes stay as long
-  pub putting-length : length out ≡ length old
-  putting-length =
+  pub putting_length : length out ≡ length old
+  putting_length =
       let l : most * i ≤ most * n = mul-le-mul_left most p.some in
       (grown at end (joined f i) old out (omega (arith, so_far, p.short)) p.done).1
 
@@ -52,24 +52,24 @@ module _ {f : ℕ → List ℕ} {most n at : ℕ} {old : List ℕ} {i end : ℕ}
         omega arith
 
     -- one more has room
-    pub putting-room : end + most ≤ length out
-    putting-room = omega (arith, further, p.short, putting-length)
+    pub putting_room : end + most ≤ length out
+    putting_room = omega (arith, further, p.short, putting_length)
 
-    pub putting-next : {e : ℕ} {o : List ℕ} → text e o ≡ more (text end out) (f i) → length (f i) ≤ most → Putting f most n at old (i + 1) e o
-    putting-next {e} {o} w l =
+    pub putting_next : {e : ℕ} {o : List ℕ} → text e o ≡ more (text end out) (f i) → length (f i) ≤ most → Putting f most n at old (i + 1) e o
+    putting_next {e} {o} w l =
         let m : most * (i + 1) ≡ most * i + most = omega arith in
         record {
           some = omega arith;
-          short = omega (arith, p.short, grown-by end e (f i) out o w);
+          short = omega (arith, p.short, grown_by end e (f i) out o w);
           done =
               w
               ∙ ap (λ (t : Text). more t (f i)) p.done
-              ∙ more-more (text at old) (joined f i) (f i) (omega (arith, further, so_far, p.short))
-              ∙ ap (more (text at old)) (sym (joined-more f i));
+              ∙ more_more (text at old) (joined f i) (f i) (omega (arith, further, so_far, p.short))
+              ∙ ap (more (text at old)) (sym (joined_more f i));
         }
 
   -- all are written
-  pub putting-end : n ≤ i → (text end out ≡ more (text at old) (joined f n)) × (end ≤ at + most * n)
-  putting-end h =
+  pub putting_end : n ≤ i → (text end out ≡ more (text at old) (joined f n)) × (end ≤ at + most * n)
+  putting_end h =
       let e : i ≡ n = omega (arith, p.some) in
       (p.done ∙ rw e, rw e at p.short)

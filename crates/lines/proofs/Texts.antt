@@ -8,17 +8,17 @@ use native.Mathlib.Numerals.{add-one}
 use lib.ListN.{length, get_or, set, take, drop, length-append, length-drop, take-append-drop}
 use lib.Seq.{length-take-le, take_at, drop_at, drop-drop, set_split, set_at, append_snoc, take-suc, drop-cons, drop-length, take-length}
 use lib.Seq.{paste, paste-zero, paste-suc, length-paste}
-use Rattle.records.proofs.Steps.{length-writtenAt}
+use Rattle.records.proofs.Steps.{length_written_at}
 use Rattle.lines.specs.Text.{Text, places, decimal, spaced, line_of, text, more}
-use Rattle.lines.proofs.Decimals.{places-most, length-decimal, decimal-at, divided}
+use Rattle.lines.proofs.Decimals.{places_most, length_decimal, decimal_at, divided}
 
 -- ---- more bytes
 
-pub more-length : (t : Text) (a : List ℕ) → t.at + length a ≤ length t.out → length (more t a).out ≡ length t.out
-more-length t a h = length-writtenAt t.at a t.out h
+pub more_length : (t : Text) (a : List ℕ) → t.at + length a ≤ length t.out → length (more t a).out ≡ length t.out
+more_length t a h = length_written_at t.at a t.out h
 
-pub more-more : (t : Text) (a b : List ℕ) → t.at + length a + length b ≤ length t.out → more (more t a) b ≡ more t (a ++ b)
-more-more t a b h =
+pub more_more : (t : Text) (a b : List ℕ) → t.at + length a + length b ≤ length t.out → more (more t a) b ≡ more t (a ++ b)
+more_more t a b h =
     let at : ℕ = t.at in
     let out : List ℕ = t.out in
     let new : List ℕ = take at out ++ a ++ drop (at + length a) out in
@@ -30,21 +30,21 @@ more-more t a b h =
     ∙ drop-drop (length b) (at + length a) out in
     rw (front, behind, length-append, add_assoc, append_assoc (take at out) a b)
 
-pub more-none : (t : Text) → more t [] ≡ t
-more-none t = rw (add-zero, append-nil, take-append-drop)
+pub more_none : (t : Text) → more t [] ≡ t
+more_none t = rw (add-zero, append-nil, take-append-drop)
 
 -- one byte
-pub more-one : (at b : ℕ) (out : List ℕ) → at < length out → text (at + 1) (set out at b) ≡ more (text at out) (b ∷ [])
-more-one at b out h =
+pub more_one : (at b : ℕ) (out : List ℕ) → at < length out → text (at + 1) (set out at b) ≡ more (text at out) (b ∷ [])
+more_one at b out h =
     ap (text (at + 1)) (set_split out at b h ∙ sym (append_snoc (take at out) b (drop (suc at) out)) ∙ rw add-one)
 
 -- where text ends that some bytes were added to, and that it stays as long where there is room for them
-pub grown-by : (at e : ℕ) (a old out : List ℕ) → text e out ≡ more (text at old) a → e ≡ at + length a
-grown-by at e a old out w = ap (λ (t : Text). t.at) w
+pub grown_by : (at e : ℕ) (a old out : List ℕ) → text e out ≡ more (text at old) a → e ≡ at + length a
+grown_by at e a old out w = ap (λ (t : Text). t.at) w
 
 pub grown : (at e : ℕ) (a old out : List ℕ) → at + length a ≤ length old → text e out ≡ more (text at old) a
     → (e ≡ at + length a) × (length out ≡ length old)
-grown at e a old out h w = (grown-by at e a old out w, ap (λ (t : Text). length t.out) w ∙ more-length (text at old) a h)
+grown at e a old out h w = (grown_by at e a old out w, ap (λ (t : Text). length t.out) w ∙ more_length (text at old) a h)
 
 -- ---- the loop that copies bytes
 
@@ -54,18 +54,18 @@ pub record Copying (at : ℕ) (bytes old : List ℕ) (i : ℕ) (out : List ℕ) 
   pub done : out ≡ paste old at bytes i
 
 module _ (at : ℕ) (bytes old : List ℕ) where
-  pub copying-none : Copying at bytes old 0 old
-  copying-none = record { some = omega arith; done = paste-zero old at bytes }
+  pub copying_none : Copying at bytes old 0 old
+  copying_none = record { some = omega arith; done = paste-zero old at bytes }
 
   module _ (i : ℕ) (out : List ℕ) (c : Copying at bytes old i out) (fits : at + length bytes ≤ length old) where
-    pub copying-length : length out ≡ length old
-    copying-length = ap length c.done ∙ length-paste old at bytes i (omega (arith, c.some)) c.some
+    pub copying_length : length out ≡ length old
+    copying_length = ap length c.done ∙ length-paste old at bytes i (omega (arith, c.some)) c.some
 
-    pub copying-next : i < length bytes → Copying at bytes old (i + 1) (set out (at + i) (get_or bytes i 0))
-    copying-next h = record { some = omega arith; done = rw (c.done, add-one) (paste-suc old at bytes i 0 (omega arith) h) }
+    pub copying_next : i < length bytes → Copying at bytes old (i + 1) (set out (at + i) (get_or bytes i 0))
+    copying_next h = record { some = omega arith; done = rw (c.done, add-one) (paste-suc old at bytes i 0 (omega arith) h) }
 
-    pub copying-end : length bytes ≤ i → text (at + length bytes) out ≡ more (text at old) bytes
-    copying-end h =
+    pub copying_end : length bytes ≤ i → text (at + length bytes) out ≡ more (text at old) bytes
+    copying_end h =
         let e : i ≡ length bytes = omega (arith, c.some) in
         ap (text (at + length bytes)) (c.done ∙ rw (e, take-length))
 
@@ -87,58 +87,58 @@ set_before old ds tail k j h l =
     ∙ sym (append_assoc (take k old) (get_or ds j 0 ∷ drop (suc j) ds) tail))
 
 module _ (at x : ℕ) (old : List ℕ) where
-  spelling-one : (j rest : ℕ) (out : List ℕ) → Spelling at x old (suc j) rest out → at + 20 ≤ length old
+  spelling_one : (j rest : ℕ) (out : List ℕ) → Spelling at x old (suc j) rest out → at + 20 ≤ length old
       → Spelling at x old j (rest / 10) (set out (at + j) (48 + rest % 10))
-  spelling-one j rest out s fits =
+  spelling_one j rest out s fits =
       let below : j < places x = s.some in
       let e : places x - j ≡ suc (places x - suc j) = omega arith in
-      let digit : get_or (decimal x) j 0 ≡ 48 + rest % 10 = decimal-at x j below ∙ rw s.left in
+      let digit : get_or (decimal x) j 0 ≡ 48 + rest % 10 = decimal_at x j below ∙ rw s.left in
       record {
         some = omega arith;
         left = rw (e, s.left) (divided x (places x - suc j));
         done =
             rw (s.done, ← digit, add-suc)
-            (set_before old (decimal x) (drop (at + places x) old) (at + j) j (omega (arith, places-most x)) (omega (arith, length-decimal x)));
+            (set_before old (decimal x) (drop (at + places x) old) (at + j) j (omega (arith, places_most x)) (omega (arith, length_decimal x)));
       }
 
-  pub spelling-none : Spelling at x old (places x) x old
-  spelling-none =
-      let none : drop (places x) (decimal x) ≡ [] = rw (← length-decimal x, drop-length) in
+  pub spelling_none : Spelling at x old (places x) x old
+  spelling_none =
+      let none : drop (places x) (decimal x) ≡ [] = rw (← length_decimal x, drop-length) in
       record { some = omega arith; left = rw (sub_self) (sym (div-one x)); done = rw (none, append-nil, take-append-drop) }
 
   module _ (i rest : ℕ) (out : List ℕ) (s : Spelling at x old i rest out) (fits : at + 20 ≤ length old) where
-    pub spelling-length : length out ≡ length old
-    spelling-length =
+    pub spelling_length : length out ≡ length old
+    spelling_length =
         ap length s.done
-        ∙ rw (length-append, length-append, length-take-le (at + i) old (omega (arith, s.some, places-most x)))
-        (omega (arith, s.some, places-most x, length-drop i (decimal x), length-drop (at + places x) old, length-decimal x))
+        ∙ rw (length-append, length-append, length-take-le (at + i) old (omega (arith, s.some, places_most x)))
+        (omega (arith, s.some, places_most x, length-drop i (decimal x), length-drop (at + places x) old, length_decimal x))
 
-    pub spelling-next : 0 < i → Spelling at x old (i - 1) (rest / 10) (set out (at + (i - 1)) (48 + rest % 10))
-    spelling-next h =
+    pub spelling_next : 0 < i → Spelling at x old (i - 1) (rest / 10) (set out (at + (i - 1)) (48 + rest % 10))
+    spelling_next h =
         let e : i ≡ suc (i - 1) = omega arith in
-        spelling-one (i - 1) rest out (subst (λ k. Spelling at x old k rest out) e s) fits
+        spelling_one (i - 1) rest out (subst (λ k. Spelling at x old k rest out) e s) fits
 
-    pub spelling-end : i ≡ 0 → text (at + places x) out ≡ more (text at old) (decimal x)
-    spelling-end e = rw (length-decimal, s.done, e, add-zero)
+    pub spelling_end : i ≡ 0 → text (at + places x) out ≡ more (text at old) (decimal x)
+    spelling_end e = rw (length_decimal, s.done, e, add-zero)
 
 -- ---- numbers
 
-pub spaced-append : (a b : List ℕ) → spaced (a ++ b) ≡ spaced a ++ spaced b
+pub spaced_append : (a b : List ℕ) → spaced (a ++ b) ≡ spaced a ++ spaced b
 unfolding spaced
-spaced-append [] b = refl
-spaced-append (n ∷ a) b = ap (λ l. 32 ∷ decimal n ++ l) (spaced-append a b) ∙ sym (append_assoc (32 ∷ decimal n) (spaced a) (spaced b))
+spaced_append [] b = refl
+spaced_append (n ∷ a) b = ap (λ l. 32 ∷ decimal n ++ l) (spaced_append a b) ∙ sym (append_assoc (32 ∷ decimal n) (spaced a) (spaced b))
 
-pub length-spaced : (ns : List ℕ) → length (spaced ns) ≤ 21 * length ns
+pub length_spaced : (ns : List ℕ) → length (spaced ns) ≤ 21 * length ns
 unfolding spaced
-length-spaced [] = omega arith
-length-spaced (n ∷ ns) =
-    omega (arith, length-append (decimal n) (spaced ns), length-decimal n, places-most n, length-spaced ns)
+length_spaced [] = omega arith
+length_spaced (n ∷ ns) =
+    omega (arith, length-append (decimal n) (spaced ns), length_decimal n, places_most n, length_spaced ns)
 
-pub spaced-next : (ns : List ℕ) (i : ℕ) → i < length ns → spaced (take (i + 1) ns) ≡ spaced (take i ns) ++ (32 ∷ decimal (get_or ns i 0))
+pub spaced_next : (ns : List ℕ) (i : ℕ) → i < length ns → spaced (take (i + 1) ns) ≡ spaced (take i ns) ++ (32 ∷ decimal (get_or ns i 0))
 unfolding spaced
-spaced-next ns i h =
+spaced_next ns i h =
     let e : take (i + 1) ns ≡ take i ns ++ (get_or ns i 0 ∷ []) = rw add-one (take-suc ns i 0 h) in
-    ap spaced e ∙ spaced-append (take i ns) (get_or ns i 0 ∷ [])
+    ap spaced e ∙ spaced_append (take i ns) (get_or ns i 0 ∷ [])
     ∙ ap (λ l. spaced (take i ns) ++ (32 ∷ l)) (append-nil (decimal (get_or ns i 0)))
 
 -- i of the numbers are written behind the `at` bytes that were, up to byte `end`
@@ -149,40 +149,40 @@ pub record Listing (at : ℕ) (ns old : List ℕ) (i end : ℕ) (out : List ℕ)
 module _ (at : ℕ) (ns old : List ℕ) where
   pub listing_none : Listing at ns old 0 at old
   unfolding spaced
-  listing_none = record { some = omega arith; done = sym (more-none (text at old)) }
+  listing_none = record { some = omega arith; done = sym (more_none (text at old)) }
 
   module _ (i end : ℕ) (out : List ℕ) (l : Listing at ns old i end out) (fits : at + 21 * length ns ≤ length old) where
     so_far : length (spaced (take i ns)) ≤ 21 * i
-    so_far = omega (arith, length-spaced (take i ns), length-take-le i ns l.some)
+    so_far = omega (arith, length_spaced (take i ns), length-take-le i ns l.some)
 
-    so-long : (end ≡ at + length (spaced (take i ns))) × (length out ≡ length old)
-    so-long = grown at end (spaced (take i ns)) old out (omega (arith, so_far, l.some)) l.done
+    so_long : (end ≡ at + length (spaced (take i ns))) × (length out ≡ length old)
+    so_long = grown at end (spaced (take i ns)) old out (omega (arith, so_far, l.some)) l.done
 
-    pub listing-length : length out ≡ length old
-    listing-length = so-long.1
+    pub listing_length : length out ≡ length old
+    listing_length = so_long.1
 
-    pub listing-room : i < length ns → end + 21 ≤ length out
-    listing-room h = omega (arith, so_far, so-long)
+    pub listing_room : i < length ns → end + 21 ≤ length out
+    listing_room h = omega (arith, so_far, so_long)
 
-    pub listing-next : i < length ns → (e : ℕ) (o : List ℕ) → text e o ≡ more (text (end + 1) (set out end 32)) (decimal (get_or ns i 0))
+    pub listing_next : i < length ns → (e : ℕ) (o : List ℕ) → text e o ≡ more (text (end + 1) (set out end 32)) (decimal (get_or ns i 0))
         → Listing at ns old (i + 1) e o
-    listing-next h e o w =
+    listing_next h e o w =
         let d : List ℕ = decimal (get_or ns i 0) in
-        let few : length d ≤ 20 = omega (arith, length-decimal (get_or ns i 0), places-most (get_or ns i 0)) in
-        let room : end + 21 ≤ length out = listing-room h in
+        let few : length d ≤ 20 = omega (arith, length_decimal (get_or ns i 0), places_most (get_or ns i 0)) in
+        let room : end + 21 ≤ length out = listing_room h in
         record {
           some = omega arith;
           done =
               w
-              ∙ ap (λ (t : Text). more t d) (more-one end 32 out (omega arith))
-              ∙ more-more (text end out) (32 ∷ []) d (omega arith)
+              ∙ ap (λ (t : Text). more t d) (more_one end 32 out (omega arith))
+              ∙ more_more (text end out) (32 ∷ []) d (omega arith)
               ∙ ap (λ (t : Text). more t (32 ∷ d)) l.done
-              ∙ more-more (text at old) (spaced (take i ns)) (32 ∷ d) (omega (arith, so_far))
-              ∙ ap (more (text at old)) (sym (spaced-next ns i h));
+              ∙ more_more (text at old) (spaced (take i ns)) (32 ∷ d) (omega (arith, so_far))
+              ∙ ap (more (text at old)) (sym (spaced_next ns i h));
         }
 
-    pub listing-end : length ns ≤ i → text end out ≡ more (text at old) (spaced ns)
-    listing-end h =
+    pub listing_end : length ns ≤ i → text end out ≡ more (text at old) (spaced ns)
+    listing_end h =
         let e : i ≡ length ns = omega (arith, l.some) in
         l.done ∙ rw (e, take-length)
 
@@ -191,27 +191,27 @@ module _ (at : ℕ) (ns old : List ℕ) where
 -- a word, numbers, and the line's end are written one after another
 module _ (at named : ℕ) (word ns old one : List ℕ) (fits : at + length word + 21 * length ns + 1 ≤ length old)
     (v : text named one ≡ more (text at old) word) where
-  pub room-numbers : named + 21 * length ns ≤ length one
-  room-numbers = omega (arith, grown at named word old one (omega arith) v)
+  pub room_numbers : named + 21 * length ns ≤ length one
+  room_numbers = omega (arith, grown at named word old one (omega arith) v)
 
   module _ (end : ℕ) (two : List ℕ) (w : text end two ≡ more (text named one) (spaced ns)) where
-    pub line-end : (end < length two) × (length two ≡ length old)
-    line-end =
+    pub line_end : (end < length two) × (length two ≡ length old)
+    line_end =
         let a = grown at named word old one (omega arith) v in
-        let l = length-spaced ns in
+        let l = length_spaced ns in
         let b = grown named end (spaced ns) one two (omega arith) w in
         (omega arith, omega arith)
 
-    pub line-more : text (end + 1) (set two end 10) ≡ more (text at old) (line_of word ns)
+    pub line_more : text (end + 1) (set two end 10) ≡ more (text at old) (line_of word ns)
     unfolding line_of
-    line-more =
+    line_more =
         let t : Text = text at old in
-        let l = length-spaced ns in
+        let l = length_spaced ns in
         let long = length-append word (spaced ns) in
-        more-one end 10 two line-end.0
-        ∙ ap (λ (t : Text). more t (10 ∷ [])) (w ∙ ap (λ (t : Text). more t (spaced ns)) v ∙ more-more t word (spaced ns) (omega arith))
-        ∙ more-more t (word ++ spaced ns) (10 ∷ []) (omega arith)
+        more_one end 10 two line_end.0
+        ∙ ap (λ (t : Text). more t (10 ∷ [])) (w ∙ ap (λ (t : Text). more t (spaced ns)) v ∙ more_more t word (spaced ns) (omega arith))
+        ∙ more_more t (word ++ spaced ns) (10 ∷ []) (omega arith)
 
-pub line-length : (word ns : List ℕ) → length (line_of word ns) ≤ length word + 21 * length ns + 1
+pub line_length : (word ns : List ℕ) → length (line_of word ns) ≤ length word + 21 * length ns + 1
 unfolding line_of
-line-length word ns = rw (length-append, length-append) (omega (arith, length-spaced ns))
+line_length word ns = rw (length-append, length-append) (omega (arith, length_spaced ns))

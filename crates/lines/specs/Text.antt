@@ -7,18 +7,18 @@ use Rattle.words.specs.Tables.{table}
 unfoldable pub places : ℕ → ℕ
 places n = suc (first 19 (λ k. ltb n (10 ^ suc k)))
 
--- a number, in decimal: no leading zeros (`decimal-first` of proofs/Decimals.antt). 48 is the digit 0.
+-- a number, in decimal: no leading zeros (`decimal_first` of proofs/Decimals.antt). 48 is the digit 0.
 unfoldable pub decimal : ℕ → List ℕ
 decimal n = table (places n) (λ i. 48 + n / 10 ^ (places n - suc i) % 10)
 
 -- the number that digits in decimal stand for, most significant first, behind those of `acc`
-unfoldable pub valueBy : ℕ → List ℕ → ℕ
-valueBy acc [] = acc
-valueBy acc (d ∷ ds) = valueBy (10 * acc + (d - 48)) ds
+unfoldable pub value_by : ℕ → List ℕ → ℕ
+value_by acc [] = acc
+value_by acc (d ∷ ds) = value_by (10 * acc + (d - 48)) ds
 
 -- the number that they stand for
 abbrev pub value_of : List ℕ → ℕ
-value_of ds = valueBy 0 ds
+value_of ds = value_by 0 ds
 
 -- numbers, a single space (32) before each
 unfoldable pub spaced : List ℕ → List ℕ

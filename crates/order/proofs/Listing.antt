@@ -5,20 +5,20 @@ use Rattle.std.proofs.Common.{◌≡◌, ℕ, ◌<◌, Bool, true, false, not, e
 use borrow.Author.Tests.{eqb-false}
 use Rattle.words.specs.model.Loops.{each}
 use Rattle.words.proofs.Tests.{false_of_not}
-use Rattle.words.proofs.Loops.{each_again, each-end, each-still}
-use Rattle.words.proofs.Members.{low-place, rest-less}
+use Rattle.words.proofs.Loops.{each_again, each_end, each_still}
+use Rattle.words.proofs.Members.{low_place, rest_less}
 use Rattle.order.specs.Stored.{elements, bound, number_of}
-use Rattle.order.specs.Sets.{lowestOf, withoutLowest}
+use Rattle.order.specs.Sets.{lowest_of, without_lowest}
 use Rattle.order.specs.declared.Set.{Set}
-use Rattle.order.proofs.Stored.{number-of, in-bound}
+use Rattle.order.proofs.Stored.{number_of_lem, in_bound}
 
 -- what `w.is_empty()` ensures of its answer
 abbrev pub Empty : Set → Bool → Type 0
 Empty w t = (t ≡ eqb (number_of w) 0) × (number_of w < bound)
 
-not-false : (t : Bool) → not t ≡ false → t ≡ true
-not-false true h = refl
-not-false false h = sym h
+not_false : (t : Bool) → not t ≡ false → t ≡ true
+not_false true h = refl
+not_false false h = sym h
 
 module _ (w : Set) (t : Bool) (e : Empty w t) where
   -- what a test `if w.is_empty()` says
@@ -33,21 +33,21 @@ module _ (w : Set) (t : Bool) (e : Empty w t) where
   some_left h = is_some (false_of_not t h)
 
   pub none_left : not t ≡ false → number_of w ≡ 0
-  none_left h = is_none (not-false t h)
+  none_left h = is_none (not_false t h)
 
-  pub listed_below : {b : ℕ} → not t ≡ true → b ≡ lowestOf w → b < elements
-  listed_below h q = low-place elements (number_of w) (some_left h) (in-bound e.1) q
+  pub listed_below : {b : ℕ} → not t ≡ true → b ≡ lowest_of w → b < elements
+  listed_below h q = low_place elements (number_of w) (some_left h) (in_bound e.1) q
 
-  pub listing-less : (v : Set) → not t ≡ true → v ≡ withoutLowest w → number_of v < number_of w
-  listing-less v h q = rest-less (number_of w) (some_left h) (number-of v q)
+  pub listing_less : (v : Set) → not t ≡ true → v ≡ without_lowest w → number_of v < number_of w
+  listing_less v h q = rest_less (number_of w) (some_left h) (number_of_lem v q)
 
   module _ {S : Type 0} (f : S → ℕ → S) (s : S) {r : S} (run : each elements f s (number_of w) ≡ r) where
-    pub listing-again : (b : ℕ) (v : Set) {s' : S} → not t ≡ true → b ≡ lowestOf w → s' ≡ f s b → v ≡ withoutLowest w → each elements f s' (number_of v) ≡ r
-    listing-again b v h q p x = (each_again elements f s (number_of w) b (some_left h) (run, in-bound e.1) q p (number-of v x)).0
+    pub listing_again : (b : ℕ) (v : Set) {s' : S} → not t ≡ true → b ≡ lowest_of w → s' ≡ f s b → v ≡ without_lowest w → each elements f s' (number_of v) ≡ r
+    listing_again b v h q p x = (each_again elements f s (number_of w) b (some_left h) (run, in_bound e.1) q p (number_of_lem v x)).0
 
-    pub listing-end : not t ≡ false → s ≡ r
-    listing-end h = each-end elements f s (number_of w) (none_left h) (run, in-bound e.1)
+    pub listing_end : not t ≡ false → s ≡ r
+    listing_end h = each_end elements f s (number_of w) (none_left h) (run, in_bound e.1)
 
     -- a state that no step changes ends it early
-    pub listing-still : ((b : ℕ) → f s b ≡ s) → s ≡ r
-    listing-still h = each-still elements f s (number_of w) h (run, in-bound e.1)
+    pub listing_still : ((b : ℕ) → f s b ≡ s) → s ≡ r
+    listing_still h = each_still elements f s (number_of w) h (run, in_bound e.1)

@@ -2,52 +2,52 @@
 use Rattle.std.proofs.Common.{◌≡◌, ℕ, zero, suc, ◌<◌, ◌≤◌, Bool, true, false, ◌&&◌, ◌||◌, eqb, ltb, refl, arith, ltb-true, le-ltb, lt-ltb, eq-eqb, ne_eqb, eqb-true}
 use Rattle.words.proofs.Tests.{and_left, and_right, and_both, or_left, or_right, or_cases}
 use Rattle.order.specs.Arcs.{StrictOrder}
-use Rattle.order.specs.Nodes.{nodeBefore}
+use Rattle.order.specs.Nodes.{node_before}
 
 module _ (n : ℕ) (b : ℕ → ℕ → Bool) where
   -- the start is before every other node, and nothing is before the start
-  pub start-before : (j : ℕ) → j ≤ n → nodeBefore n b 0 (suc j) ≡ true
-  start-before j h = lt-ltb j (suc n) (omega arith)
+  pub start_before : (j : ℕ) → j ≤ n → node_before n b 0 (suc j) ≡ true
+  start_before j h = lt-ltb j (suc n) (omega arith)
 
-  pub before-start : (u : ℕ) → nodeBefore n b u 0 ≡ false
-  before-start zero = refl
-  before-start (suc i) = refl
+  pub before_start : (u : ℕ) → node_before n b u 0 ≡ false
+  before_start zero = refl
+  before_start (suc i) = refl
 
   -- the end is after every other node, and before none
-  pub before-end : (u : ℕ) → u ≤ n → nodeBefore n b u (suc n) ≡ true
-  before-end zero h = start-before n (omega arith)
-  before-end (suc i) h = and_both (ltb i n) (eqb n n || (ltb n n && b i n)) (lt-ltb i n (omega arith)) (or_left (eqb n n) (ltb n n && b i n) (eq-eqb n n refl))
+  pub before_end : (u : ℕ) → u ≤ n → node_before n b u (suc n) ≡ true
+  before_end zero h = start_before n (omega arith)
+  before_end (suc i) h = and_both (ltb i n) (eqb n n || (ltb n n && b i n)) (lt-ltb i n (omega arith)) (or_left (eqb n n) (ltb n n && b i n) (eq-eqb n n refl))
 
-  pub end_before : (v : ℕ) → nodeBefore n b (suc n) v ≡ false
+  pub end_before : (v : ℕ) → node_before n b (suc n) v ≡ false
   end_before zero = refl
   end_before (suc j) = rw (le-ltb n n (omega arith))
 
   -- the elements are ordered as they were
-  pub between : (i j : ℕ) → i < n → j < n → nodeBefore n b (suc i) (suc j) ≡ b i j
+  pub between : (i j : ℕ) → i < n → j < n → node_before n b (suc i) (suc j) ≡ b i j
   between i j hi hj = rw (lt-ltb i n hi, ne_eqb j n (λ e. omega arith), lt-ltb j n hj)
 
   module _ (o : StrictOrder n b) where
-    inner : (i j : ℕ) → nodeBefore n b (suc i) (suc j) ≡ true → (i < n) × (eqb j n || (ltb j n && b i j) ≡ true)
+    inner : (i j : ℕ) → node_before n b (suc i) (suc j) ≡ true → (i < n) × (eqb j n || (ltb j n && b i j) ≡ true)
     inner i j h =
         (ltb-true i n (and_left (ltb i n) (eqb j n || (ltb j n && b i j)) h), and_right (ltb i n) (eqb j n || (ltb j n && b i j)) h)
 
-    nodes-free : (u : ℕ) → nodeBefore n b u u ≡ true → ⊥
-    nodes-free zero h = let z : ◌≡◌ {A = ℕ} 0 1 = cc in omega arith
-    nodes-free (suc i) h =
+    nodes_free : (u : ℕ) → node_before n b u u ≡ true → ⊥
+    nodes_free zero h = let z : ◌≡◌ {A = ℕ} 0 1 = cc in omega arith
+    nodes_free (suc i) h =
         let r = inner i i h in
         or_cases (eqb i n) (ltb i n && b i i) r.1
         (λ e. omega (arith, eqb-true i n e, r.0))
         (λ e. o.irreflexive i r.0 (and_right (ltb i n) (b i i) e))
 
-    nodes-lead : (u v w : ℕ) → nodeBefore n b u v ≡ true → nodeBefore n b v w ≡ true → nodeBefore n b u w ≡ true
-    nodes-lead u zero w p q = let z : ◌≡◌ {A = ℕ} 0 1 = cc (before-start u) in absurd (omega arith)
-    nodes-lead u (suc j) zero p q = let z : ◌≡◌ {A = ℕ} 0 1 = cc in absurd (omega arith)
-    nodes-lead zero (suc j) (suc k) p q =
+    nodes_lead : (u v w : ℕ) → node_before n b u v ≡ true → node_before n b v w ≡ true → node_before n b u w ≡ true
+    nodes_lead u zero w p q = let z : ◌≡◌ {A = ℕ} 0 1 = cc (before_start u) in absurd (omega arith)
+    nodes_lead u (suc j) zero p q = let z : ◌≡◌ {A = ℕ} 0 1 = cc in absurd (omega arith)
+    nodes_lead zero (suc j) (suc k) p q =
         let r = inner j k q in
         or_cases (eqb k n) (ltb k n && b j k) r.1
-        (λ e. start-before k (omega (arith, eqb-true k n e)))
-        (λ e. start-before k (omega (arith, ltb-true k n (and_left (ltb k n) (b j k) e))))
-    nodes-lead (suc i) (suc j) (suc k) p q =
+        (λ e. start_before k (omega (arith, eqb-true k n e)))
+        (λ e. start_before k (omega (arith, ltb-true k n (and_left (ltb k n) (b j k) e))))
+    nodes_lead (suc i) (suc j) (suc k) p q =
         let r = inner i j p in
         let s = inner j k q in
         and_both (ltb i n) (eqb k n || (ltb k n && b i k)) (lt-ltb i n r.0)
@@ -64,5 +64,5 @@ module _ (n : ℕ) (b : ℕ → ℕ → Bool) where
             (λ x. o.transitive i j k hi hj (ltb-true k n hk) (and_right (ltb j n) (b i j) x) (and_right (ltb k n) (b j k) f)))
 
     -- the nodes of a strict order are in a strict order
-    pub nodes-strict : StrictOrder (suc (suc n)) (nodeBefore n b)
-    nodes-strict = record { irreflexive = λ u h. nodes-free u; transitive = λ u v w hu hv hw. nodes-lead u v w }
+    pub nodes_strict : StrictOrder (suc (suc n)) (node_before n b)
+    nodes_strict = record { irreflexive = λ u h. nodes_free u; transitive = λ u v w hu hv hw. nodes_lead u v w }

@@ -2,7 +2,7 @@
 use Rattle.std.specs.Prelude.{ℕ, ◌⊎◌}
 
 -- "Activity i is before j when arcs lead from i to j in one step or more."
--- It is the least transitive relation that holds the arcs (`before-trans`, `before-least` of
+-- It is the least transitive relation that holds the arcs (`before_trans`, `before_least` of
 -- proofs/Before.antt), the paper's T(E).
 pub data Before (A : ℕ → ℕ → Type 0) : ℕ → ℕ → Type 0 where
   last : {i j : ℕ} → A i j → Before A i j

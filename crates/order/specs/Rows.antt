@@ -1,11 +1,11 @@
 -- An order of n elements as a table of n sets: the members of row i are
 -- the elements that i is before. For any n.
 use Rattle.std.specs.Prelude.{◌≡◌, ℕ, zero, suc, Bool, true, false, cond, ◌||◌, ◌↔◌, List, [], ◌∷◌, length, replicate, ◌==◌, bit_or}
-use Rattle.words.specs.Bits.{bit, withBit}
+use Rattle.words.specs.Bits.{bit, with_bit}
 use Rattle.words.specs.Members.{first}
 use Rattle.order.specs.Before.{Before}
 use Rattle.order.specs.Arcs.{Arc, arc}
-use Rattle.order.specs.Stored.{cells, row, rowTable, RowsFit}
+use Rattle.order.specs.Stored.{cells, row, row_table, RowsFit}
 
 -- whether row i has the member j: whether i is before j
 abbrev pub after : List ℕ → ℕ → ℕ → Bool
@@ -22,7 +22,7 @@ pub record Represents (n : ℕ) (rows : List ℕ) (A : ℕ → ℕ → Type 0) :
 
 -- what an element gains that is x, or before x: y, and all that y is before
 abbrev pub gain : List ℕ → ℕ → ℕ
-gain rows y = withBit (row rows y) y
+gain rows y = with_bit (row rows y) y
 
 -- row i, which is w, where the arc starts at x
 abbrev pub gained : ℕ → ℕ → ℕ → ℕ → ℕ
@@ -30,7 +30,7 @@ gained x g i w = cond (i == x || bit w x) (bit_or w g) w
 
 -- the rows so extended
 unfoldable pub grow : ℕ → List ℕ → ℕ → ℕ → List ℕ
-grow n rows x y = rowTable n (λ i. gained x (gain rows y) i (row rows i))
+grow n rows x y = row_table n (λ i. gained x (gain rows y) i (row rows i))
 
 -- ---- the rows of arcs
 
@@ -40,18 +40,18 @@ rows_of n [] = replicate (cells n) 0
 rows_of n (a ∷ arcs) = grow n (rows_of n arcs) a.from a.to
 
 -- the arcs from i to the members of w below k, put before other arcs
-unfoldable pub arcsFrom : ℕ → ℕ → ℕ → List Arc → List Arc
-arcsFrom i w zero arcs = arcs
-arcsFrom i w (suc k) arcs =
-    elim (bit w k) [ true ↦ arc i k ∷ arcsFrom i w k arcs | false ↦ arcsFrom i w k arcs ]
+unfoldable pub arcs_from : ℕ → ℕ → ℕ → List Arc → List Arc
+arcs_from i w zero arcs = arcs
+arcs_from i w (suc k) arcs =
+    elim (bit w k) [ true ↦ arc i k ∷ arcs_from i w k arcs | false ↦ arcs_from i w k arcs ]
 
 -- the arcs that the first k of n rows draw: from i to each member of row i
-unfoldable pub arcsIn : ℕ → List ℕ → ℕ → List Arc
-arcsIn n rows zero = []
-arcsIn n rows (suc k) = arcsFrom k (row rows k) n (arcsIn n rows k)
+unfoldable pub arcs_in : ℕ → List ℕ → ℕ → List Arc
+arcs_in n rows zero = []
+arcs_in n rows (suc k) = arcs_from k (row rows k) n (arcs_in n rows k)
 
 -- ---- circles
 
 -- the lowest element that is before itself; n where none is
-unfoldable pub circleIn : ℕ → List ℕ → ℕ
-circleIn n rows = first n (λ i. after rows i i)
+unfoldable pub circle_in : ℕ → List ℕ → ℕ
+circle_in n rows = first n (λ i. after rows i i)

@@ -3,7 +3,7 @@
 -- words with a row for each set. Everything else speaks of the numbers, for any number of elements; the laws
 -- of proofs/Stored.antt are all that is known of this.
 use Rattle.std.specs.Prelude.{ℕ, ◌-◌, ◌^◌, ◌<◌, List, set, slice_index, slice_set}
-use Rattle.words.specs.Bits.{wordBits}
+use Rattle.words.specs.Bits.{word_bits}
 use Rattle.words.specs.Tables.{table}
 use Rattle.order.specs.declared.Set.{Set}
 
@@ -23,16 +23,16 @@ unfoldable pub number_of : Set → ℕ
 number_of s = s.word
 
 -- the set that a number means
-unfoldable pub setOf : ℕ → Set
-setOf w = record { word = w }
+unfoldable pub set_of : ℕ → Set
+set_of w = record { word = w }
 
 -- `Set::EMPTY`, as it is stored
-abbrev pub noSet : Set
-noSet = record { word = 0 }
+abbrev pub no_set : Set
+no_set = record { word = 0 }
 
 -- `Set::ALL`, as it is stored, and the number that it means
-abbrev pub allSet : Set
-allSet = record { word = 2 ^ wordBits - 1 }
+abbrev pub all_set : Set
+all_set = record { word = 2 ^ word_bits - 1 }
 
 unfoldable pub everyone : ℕ
 everyone = 2 ^ elements - 1
@@ -48,12 +48,12 @@ unfoldable pub row : List ℕ → ℕ → ℕ
 row rows i = slice_index rows i
 
 -- the table with the number w in row i
-unfoldable pub putRow : List ℕ → ℕ → ℕ → List ℕ
-putRow rows i w = slice_set rows i w
+unfoldable pub put_row : List ℕ → ℕ → ℕ → List ℕ
+put_row rows i w = slice_set rows i w
 
 -- the table of the sets f 0, f 1, .., f (n - 1)
-unfoldable pub rowTable : ℕ → (ℕ → ℕ) → List ℕ
-rowTable n f = table n f
+unfoldable pub row_table : ℕ → (ℕ → ℕ) → List ℕ
+row_table n f = table n f
 
 -- every row is a number of n digits
 unfoldable pub RowsFit : ℕ → List ℕ → Type 0

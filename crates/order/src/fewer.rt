@@ -1,14 +1,14 @@
 // Arcs without one of them, and whether its pair follows from others.
 ghost use Rattle.std.specs.Prelude.{◌≡◌, ◌<◌};
 ghost use Rattle.order.specs.Stored.{elements};
-ghost use Rattle.order.specs.Orders.{withoutArc, someBefore};
+ghost use Rattle.order.specs.Orders.{without_arc, some_before};
 
 use crate::{Rows, Set, put_row, row};
 
 // The arcs without that from one element to another.
 pub fn without_arc(arcs: &mut Rows, from: usize, to: usize)
     requires { (from < elements) × (to < elements) }
-    ensures { arcs.new ≡ withoutArc arcs.old from to }
+    ensures { arcs.new ≡ without_arc arcs.old from to }
 {
     let r = row(arcs, from).without(to);
     put_row(arcs, from, r);
@@ -17,7 +17,7 @@ pub fn without_arc(arcs: &mut Rows, from: usize, to: usize)
 // Whether a member of a set is before j, by the sets of what each element is before.
 pub fn some_before(rows: &Rows, w: Set, j: usize) -> bool
     requires { j < elements }
-    ensures { result ≡ someBefore rows.now w j }
+    ensures { result ≡ some_before rows.now w j }
 {
     let mut left = w;
     while !left.is_empty() {

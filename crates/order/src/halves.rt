@@ -1,7 +1,7 @@
 // The places of a list that are not 0, as a word. Its two halves are found in one loop, each in as many bits as an
 // entry of the list has: so the compiler makes vector code of it, which took a fifth of the time in a copy in C.
 ghost use Rattle.std.specs.Prelude.{◌≡◌, ◌%◌, ◌^◌, ◌<◌, ◌≤◌, if◌then◌else◌, nat_eq};
-ghost use Rattle.words.specs.Bits.{wordBits};
+ghost use Rattle.words.specs.Bits.{word_bits};
 ghost use Rattle.order.specs.Stored.{elements};
 ghost use Rattle.order.specs.model.Places.{positive};
 
@@ -20,7 +20,7 @@ fn half_bit(x: u32, i: usize) -> u32
 
 // The m lowest bits of a word.
 fn lowest_bits(w: words::Word, m: usize) -> words::Word
-    requires { m ≤ wordBits }
+    requires { m ≤ word_bits }
     ensures { result ≡ w % 2 ^ m }
 {
     if m == 64 {

@@ -1,12 +1,12 @@
 // Which element comes before which, and sets of elements.
 ghost use Rattle.std.specs.Prelude.{◌≡◌, ◌%◌, ◌^◌, ◌<◌, ◌≤◌, length, ◌==◌};
-ghost use Rattle.order.specs.Stored.{elements, bound, cells, row, putRow, setOf, number_of, RowsFit};
-ghost use Rattle.order.specs.Sets.{member, emptySet, withElement, withoutElement, unionOf, meet_of, minusOf};
-ghost use Rattle.order.specs.Sets.{size_of, lowestOf, withoutLowest};
+ghost use Rattle.order.specs.Stored.{elements, bound, cells, row, put_row, set_of, number_of, RowsFit};
+ghost use Rattle.order.specs.Sets.{member, empty_set, with_element, without_element, union_of, meet_of, minus_of};
+ghost use Rattle.order.specs.Sets.{size_of, lowest_of, without_lowest};
 ghost use Rattle.order.specs.model.Warshall.{passed};
 ghost use Rattle.order.specs.model.Places.{positive};
-ghost use Rattle.order.specs.Orders.{emptyOrder, extended, extended_by, isBefore, after_of, afterRows, circleOf};
-ghost use Rattle.order.specs.Orders.{order_in, joinedRows};
+ghost use Rattle.order.specs.Orders.{empty_order, extended, extended_by, is_before, after_of, after_rows, circle_of};
+ghost use Rattle.order.specs.Orders.{order_in, joined_rows};
 
 pub use fewer::{some_before, without_arc};
 use halves::places_word;
@@ -59,7 +59,7 @@ impl Set {
     // The set with the member i.
     pub fn with(self, i: usize) -> Set
         requires { i < elements }
-        ensures { result ≡ withElement self i }
+        ensures { result ≡ with_element self i }
     {
         Set {
             word: words::with_bit(self.word, i),
@@ -69,7 +69,7 @@ impl Set {
     // The set without the member i.
     pub fn without(self, i: usize) -> Set
         requires { i < elements }
-        ensures { result ≡ withoutElement self i }
+        ensures { result ≡ without_element self i }
     {
         Set {
             word: words::without_bit(self.word, i),
@@ -79,14 +79,14 @@ impl Set {
     // The set of one element.
     pub fn single(i: usize) -> Set
         requires { i < elements }
-        ensures { result ≡ withElement emptySet i }
+        ensures { result ≡ with_element empty_set i }
     {
         Set::EMPTY.with(i)
     }
 
     // The members of either set.
     pub fn union(self, other: Set) -> Set
-        ensures { result ≡ unionOf self other }
+        ensures { result ≡ union_of self other }
     {
         Set {
             word: self.word | other.word,
@@ -104,7 +104,7 @@ impl Set {
 
     // The members of this set that the other does not have.
     pub fn minus(self, other: Set) -> Set
-        ensures { result ≡ minusOf self other }
+        ensures { result ≡ minus_of self other }
     {
         Set {
             word: words::without(self.word, other.word),
@@ -139,14 +139,14 @@ impl Set {
 
     // The lowest member, and ELEMENTS where there is none.
     pub fn lowest(self) -> usize
-        ensures { result ≡ lowestOf self }
+        ensures { result ≡ lowest_of self }
     {
         words::lowest(self.word)
     }
 
     // The set without its lowest member; where there is none, the same set.
     pub fn without_lowest(self) -> Set
-        ensures { result ≡ withoutLowest self }
+        ensures { result ≡ without_lowest self }
     {
         let word = self.word;
         if word == 0 {
@@ -171,7 +171,7 @@ pub fn places(a: &[u32; ELEMENTS], m: usize) -> Set
 // The set in row i.
 pub fn row(rows: &Rows, i: usize) -> Set
     requires { i < elements }
-    ensures { result ≡ setOf (row rows.now i) }
+    ensures { result ≡ set_of (row rows.now i) }
 {
     Set { word: rows[i] }
 }
@@ -179,7 +179,7 @@ pub fn row(rows: &Rows, i: usize) -> Set
 // The set in row i becomes s.
 pub fn put_row(rows: &mut Rows, i: usize, s: Set)
     requires { i < elements }
-    ensures { rows.new ≡ putRow rows.old i (number_of s) }
+    ensures { rows.new ≡ put_row rows.old i (number_of s) }
 {
     rows[i] = s.word;
 }
@@ -193,7 +193,7 @@ pub struct Order {
 impl Order {
     // The order without arcs.
     pub fn empty() -> Self
-        ensures { result ≡ emptyOrder }
+        ensures { result ≡ empty_order }
     {
         Order { rows: [0; CELLS] }
     }
@@ -228,7 +228,7 @@ impl Order {
     // Whether i is before j.
     pub fn before(self, i: usize, j: usize) -> bool
         requires { (i < elements) × (j < elements) }
-        ensures { result ≡ isBefore self i j }
+        ensures { result ≡ is_before self i j }
     {
         row(&self.rows, i).has(j)
     }
@@ -243,14 +243,14 @@ impl Order {
 
     // The sets of all that each element is before.
     pub fn after_rows(self) -> Rows
-        ensures { result ≡ afterRows self }
+        ensures { result ≡ after_rows self }
     {
         self.rows
     }
 
     // The lowest element that is before itself, and ELEMENTS where there is none.
     pub fn circle(self) -> usize
-        ensures { result ≡ circleOf self }
+        ensures { result ≡ circle_of self }
     {
         for i in 0..ELEMENTS {
             if row(&self.rows, i).has(i) {
@@ -274,7 +274,7 @@ impl Order {
     pub fn closing(arcs: &mut Rows) -> Self
         requires { (length arcs.old ≡ cells elements) × RowsFit elements arcs.old }
         ensures value { result ≡ order_in arcs.old }
-        ensures arcs_after { arcs.new ≡ afterRows (order_in arcs.old) }
+        ensures arcs_after { arcs.new ≡ after_rows (order_in arcs.old) }
     {
         close(arcs);
         Order { rows: *arcs }
@@ -283,7 +283,7 @@ impl Order {
 
 // Two tables of arcs together.
 pub fn joined(a: Rows, b: Rows) -> Rows
-    ensures { result ≡ joinedRows a b }
+    ensures { result ≡ joined_rows a b }
 {
     let mut rows = a;
     for i in 0..ELEMENTS {

@@ -2,16 +2,16 @@
 // order's rows, with further arcs.
 ghost use Rattle.std.specs.Prelude.{◌≡◌, ◌<◌, length};
 ghost use Rattle.order.specs.Stored.{elements, number_of, cells, RowsFit};
-ghost use Rattle.order.specs.model.Growing.{growFrom};
-ghost use Rattle.order.specs.model.Warshall.{passingBy, gaining, passing, endsIn, passingOver};
-ghost use Rattle.order.specs.Orders.{afterRows, order_in};
+ghost use Rattle.order.specs.model.Growing.{grow_from};
+ghost use Rattle.order.specs.model.Warshall.{passing_by, gaining, passing, ends_in, passing_over};
+ghost use Rattle.order.specs.Orders.{after_rows, order_in};
 
 use crate::{ELEMENTS, Rows, Set, put_row, row};
 
 // What is before k becomes before all of `gain`.
 fn pass_by(rows: &mut Rows, k: usize, gain: Set)
     requires { k < elements }
-    ensures { rows.new ≡ passingBy elements k (number_of gain) rows.old }
+    ensures { rows.new ≡ passing_by elements k (number_of gain) rows.old }
 {
     for i in 0..ELEMENTS {
         let r = row(rows, i).with_pass(k, gain);
@@ -40,7 +40,7 @@ fn pass(rows: &mut Rows, k: usize)
 
 // The elements at which an arc ends.
 fn ends_of(rows: &Rows) -> Set
-    ensures { number_of result ≡ endsIn elements rows.now }
+    ensures { number_of result ≡ ends_in elements rows.now }
 {
     let mut ends = Set::EMPTY;
     for i in 0..ELEMENTS {
@@ -52,7 +52,7 @@ fn ends_of(rows: &Rows) -> Set
 // The same as `pass`, where an arc ends at k and k leads somewhere; else there is nothing to do.
 fn pass_over(rows: &mut Rows, ends: Set, k: usize)
     requires { k < elements }
-    ensures { rows.new ≡ passingOver elements (number_of ends) k rows.old }
+    ensures { rows.new ≡ passing_over elements (number_of ends) k rows.old }
 {
     if row(rows, k).is_empty() {
         return;
@@ -67,7 +67,7 @@ fn pass_over(rows: &mut Rows, ends: Set, k: usize)
 // so that no rows are copied.)
 pub fn close(rows: &mut Rows)
     requires { (length rows.old ≡ cells elements) × RowsFit elements rows.old }
-    ensures { rows.new ≡ afterRows (order_in rows.old) }
+    ensures { rows.new ≡ after_rows (order_in rows.old) }
 {
     let ends = ends_of(rows);
     for k in 0..ELEMENTS {
@@ -80,7 +80,7 @@ pub fn close(rows: &mut Rows)
 // i gains is found: what an arc would have added to them is gained already.)
 pub fn add_row(rows: &mut Rows, i: usize, to: Set)
     requires { (i < elements) × (length rows.old ≡ cells elements) × RowsFit elements rows.old }
-    ensures { rows.new ≡ growFrom elements rows.old i (number_of to) }
+    ensures { rows.new ≡ grow_from elements rows.old i (number_of to) }
 {
     let mut w = to.minus(row(rows, i));
     if w.is_empty() {

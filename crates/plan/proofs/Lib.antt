@@ -1,7 +1,7 @@
 -- Laws of the definitions of `specs/`. Callers cite Said, Refused, Milestones, RepeatedArcs, Differing (files that
 -- differ only in waits are read alike), Selected and Filtered (a file without some of its arc records is readable, and
--- says the same but for those), FreeArcs (the extra arcs with wait 0), and `readable-is` of Refusals; the proofs of the
--- code cite ReaderLoops, Staying, `looked-up` of RepeatedArcs and `file-read` of Phases; the others lead up to these.
+-- says the same but for those), FreeArcs (the extra arcs with wait 0), and `readable_is` of Refusals; the proofs of the
+-- code cite ReaderLoops, Staying, `looked_up` of RepeatedArcs and `file_read` of Phases; the others lead up to these.
 pub mod Refusals
 pub mod Places
 pub mod RecordRules

@@ -9,17 +9,17 @@ use lib.Seq.{drop-drop}
 use lib.Dec.{eqb}
 use borrow.Author.Tests.{eqb-true, eqb-false}
 use Rattle.records.specs.Bytes.{byte}
-use Rattle.plan.specs.Records.{recordAt, leading}
+use Rattle.plan.specs.Records.{record_at, leading}
 
 -- record i of the part of the file from record a on
-pub record-on : (s : List ℕ) (a i : ℕ) → recordAt (recordAt s a) i ≡ recordAt s (a + i)
-record-on s a i =
+pub record_on : (s : List ℕ) (a i : ℕ) → record_at (record_at s a) i ≡ record_at s (a + i)
+record_on s a i =
     let e : 24 * a + 24 * i ≡ 24 * (a + i) = omega arith in
     drop-drop (24 * i) (24 * a) s ∙ ap (λ (x : ℕ). drop x s) e
 
 -- what follows record a
-pub record-next : (s : List ℕ) (a : ℕ) → drop 24 (recordAt s a) ≡ recordAt s (a + 1)
-record-next s a =
+pub record_next : (s : List ℕ) (a : ℕ) → drop 24 (record_at s a) ≡ record_at s (a + 1)
+record_next s a =
     let e : 24 * a + 24 ≡ 24 * (a + 1) = omega arith in
     drop-drop 24 (24 * a) s ∙ ap (λ (x : ℕ). drop x s) e
 
@@ -34,10 +34,10 @@ leading_le type (suc n) t = go (eqb (byte t 0) type) (leading_le type n (drop 24
     go true h = omega arith
     go false h = omega arith
 
-pub leading-typed : (type n : ℕ) (t : List ℕ) (i : ℕ) → i < leading type n t → byte (recordAt t i) 0 ≡ type
+pub leading_typed : (type n : ℕ) (t : List ℕ) (i : ℕ) → i < leading type n t → byte (record_at t i) 0 ≡ type
 unfolding leading
-leading-typed type zero t i h = absurd (omega arith)
-leading-typed type (suc n) t i h = go (eqb (byte t 0) type) refl i (leading-typed type n (drop 24 t)) h
+leading_typed type zero t i h = absurd (omega arith)
+leading_typed type (suc n) t i h = go (eqb (byte t 0) type) refl i (leading_typed type n (drop 24 t)) h
   where
     go : (b : Bool) → eqb (byte t 0) type ≡ b → (i : ℕ) → ((x : ℕ) → x < leading type n (drop 24 t) → byte (drop (24 * x) (drop 24 t)) 0 ≡ type)
         → i < cond b (suc (leading type n (drop 24 t))) 0 → byte (drop (24 * i) t) 0 ≡ type
@@ -48,10 +48,10 @@ leading-typed type (suc n) t i h = go (eqb (byte t 0) type) refl i (leading-type
     go false e i ih h = absurd (omega arith)
 
 -- the record after them is of another type
-pub leading-ends : (type n : ℕ) (t : List ℕ) → leading type n t < n → byte (recordAt t (leading type n t)) 0 ≡ type → ⊥
+pub leading_ends : (type n : ℕ) (t : List ℕ) → leading type n t < n → byte (record_at t (leading type n t)) 0 ≡ type → ⊥
 unfolding leading
-leading-ends type zero t h = absurd (omega arith)
-leading-ends type (suc n) t h = go (eqb (byte t 0) type) refl (leading-ends type n (drop 24 t)) h
+leading_ends type zero t h = absurd (omega arith)
+leading_ends type (suc n) t h = go (eqb (byte t 0) type) refl (leading_ends type n (drop 24 t)) h
   where
     l : ℕ
     l = leading type n (drop 24 t)
@@ -64,9 +64,9 @@ leading-ends type (suc n) t h = go (eqb (byte t 0) type) refl (leading-ends type
     go false e ih h q = eqb-false (byte t 0) type e q
 
 -- how many there are goes by the first bytes alone
-pub leading-same : (type n : ℕ) (t u : List ℕ) → ((i : ℕ) → byte (recordAt t i) 0 ≡ byte (recordAt u i) 0) → leading type n t ≡ leading type n u
+pub leading_same : (type n : ℕ) (t u : List ℕ) → ((i : ℕ) → byte (record_at t i) 0 ≡ byte (record_at u i) 0) → leading type n t ≡ leading type n u
 unfolding leading
-leading-same type zero t u same = refl
-leading-same type (suc n) t u same =
-    let rest = leading-same type n (drop 24 t) (drop 24 u) (λ i. rw (record-on t 1 i, record-on u 1 i) (same (1 + i))) in
+leading_same type zero t u same = refl
+leading_same type (suc n) t u same =
+    let rest = leading_same type n (drop 24 t) (drop 24 u) (λ i. rw (record_on t 1 i, record_on u 1 i) (same (1 + i))) in
     ap₂ (λ (b m : ℕ). cond (eqb b type) (suc m) 0) (same 0) rest

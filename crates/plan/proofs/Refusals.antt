@@ -5,117 +5,117 @@ use Prim.Native.Nat.{ℕ, zero, suc, ◌+◌, ◌<◌}
 use native.Mathlib.Nat.{zero-add, suc-add}
 use native.Mathlib.Omega.{arith}
 use lib.Dec.{ltb, leb-suc-suc}
-use borrow.Author.Tests.{lt-ltb, ltb-true, not-false}
+use borrow.Author.Tests.{lt-ltb, ltb-true, not_false}
 use Rattle.words.specs.Members.{first}
-use Rattle.words.proofs.Tests.{by-test, clash, holds, cond-true, cond-false}
-use Rattle.words.proofs.Firsts.{before-first}
+use Rattle.words.proofs.Tests.{by_test, clash, holds, cond_true, cond_false}
+use Rattle.words.proofs.Firsts.{before_first}
 use Rattle.plan.specs.declared.Answer.{Answer}
 use Rattle.plan.specs.declared.Answer.TheVariants.{Readable, Refused}
-use Rattle.plan.specs.Causes.{isReadable, firstRefusal, followedBy}
+use Rattle.plan.specs.Causes.{is_readable, first_refusal, followed_by}
 
 -- ---- one answer after another
 
-pub readable-is : (a : Answer) → isReadable a ≡ true → a ≡ Readable
-readable-is Readable e = refl
-readable-is (Refused c) e = absurd (false≢true e)
+pub readable_is : (a : Answer) → is_readable a ≡ true → a ≡ Readable
+readable_is Readable e = refl
+readable_is (Refused c) e = absurd (false≢true e)
 
-pub followed-left : (a b : Answer) → isReadable (followedBy a b) ≡ true → isReadable a ≡ true
-followed-left Readable b e = refl
-followed-left (Refused c) b e = e
+pub followed_left : (a b : Answer) → is_readable (followed_by a b) ≡ true → is_readable a ≡ true
+followed_left Readable b e = refl
+followed_left (Refused c) b e = e
 
-pub followed-right : (a b : Answer) → isReadable (followedBy a b) ≡ true → isReadable b ≡ true
-followed-right Readable b e = e
-followed-right (Refused c) b e = absurd (false≢true e)
+pub followed_right : (a b : Answer) → is_readable (followed_by a b) ≡ true → is_readable b ≡ true
+followed_right Readable b e = e
+followed_right (Refused c) b e = absurd (false≢true e)
 
-pub followed-assoc : (a b c : Answer) → followedBy (followedBy a b) c ≡ followedBy a (followedBy b c)
-followed-assoc Readable b c = refl
-followed-assoc (Refused x) b c = refl
+pub followed_assoc : (a b c : Answer) → followed_by (followed_by a b) c ≡ followed_by a (followed_by b c)
+followed_assoc Readable b c = refl
+followed_assoc (Refused x) b c = refl
 
-pub followed-none : (a : Answer) → followedBy a Readable ≡ a
-followed-none Readable = refl
-followed-none (Refused x) = refl
+pub followed_none : (a : Answer) → followed_by a Readable ≡ a
+followed_none Readable = refl
+followed_none (Refused x) = refl
 
 -- it matters only where nothing was refused before
-pub followed-cong : (a : Answer) {b c : Answer} → (isReadable a ≡ true → b ≡ c) → followedBy a b ≡ followedBy a c
-followed-cong Readable h = h refl
-followed-cong (Refused x) h = refl
+pub followed_cong : (a : Answer) {b c : Answer} → (is_readable a ≡ true → b ≡ c) → followed_by a b ≡ followed_by a c
+followed_cong Readable h = h refl
+followed_cong (Refused x) h = refl
 
 -- ---- the first refusal, as a recursion
 
-pub refusal-zero : (f : ℕ → Answer) → firstRefusal 0 f ≡ Readable
-unfolding firstRefusal first
-refusal-zero f = refl
+pub refusal_zero : (f : ℕ → Answer) → first_refusal 0 f ≡ Readable
+unfolding first_refusal first
+refusal_zero f = refl
 
-pub refusal-suc : (n : ℕ) (f : ℕ → Answer) → firstRefusal (suc n) f ≡ followedBy (f 0) (firstRefusal n (λ i. f (suc i)))
-unfolding firstRefusal first
-refusal-suc n f = go (f 0) refl
+pub refusal_suc : (n : ℕ) (f : ℕ → Answer) → first_refusal (suc n) f ≡ followed_by (f 0) (first_refusal n (λ i. f (suc i)))
+unfolding first_refusal first
+refusal_suc n f = go (f 0) refl
   where
     more : ℕ → Answer
     more i = f (suc i)
 
     q : ℕ
-    q = first n (λ i. not (isReadable (f (suc i))))
+    q = first n (λ i. not (is_readable (f (suc i))))
 
     at : Bool → ℕ
-    at b = elim b [ true ↦ 0 | false ↦ suc (first n (λ i. not (isReadable (f (suc i))))) ]
+    at b = elim b [ true ↦ 0 | false ↦ suc (first n (λ i. not (is_readable (f (suc i))))) ]
 
     chosen : ℕ → Answer
     chosen p = cond (ltb p (suc n)) (f p) Readable
 
-    go : (a : Answer) → f 0 ≡ a → chosen (at (not (isReadable (f 0)))) ≡ followedBy a (cond (ltb q n) (f (suc q)) Readable)
-    go Readable e = ap (λ (x : Answer). chosen (at (not (isReadable x)))) e ∙ ap (λ (b : Bool). cond b (f (suc q)) Readable) (leb-suc-suc (suc q) n)
-    go (Refused c) e = ap (λ (x : Answer). chosen (at (not (isReadable x)))) e ∙ ap (λ (b : Bool). cond b (f 0) Readable) (lt-ltb 0 (suc n) (omega arith)) ∙ e
+    go : (a : Answer) → f 0 ≡ a → chosen (at (not (is_readable (f 0)))) ≡ followed_by a (cond (ltb q n) (f (suc q)) Readable)
+    go Readable e = ap (λ (x : Answer). chosen (at (not (is_readable x)))) e ∙ ap (λ (b : Bool). cond b (f (suc q)) Readable) (leb-suc-suc (suc q) n)
+    go (Refused c) e = ap (λ (x : Answer). chosen (at (not (is_readable x)))) e ∙ ap (λ (b : Bool). cond b (f 0) Readable) (lt-ltb 0 (suc n) (omega arith)) ∙ e
 
 -- it goes by the answers alone
-pub refusal-cong : (n : ℕ) (f g : ℕ → Answer) → ((i : ℕ) → i < n → f i ≡ g i) → firstRefusal n f ≡ firstRefusal n g
-refusal-cong zero f g e = refusal-zero f ∙ sym (refusal-zero g)
-refusal-cong (suc n) f g e =
-    let rest = refusal-cong n (λ i. f (suc i)) (λ i. g (suc i)) (λ i l. e (suc i) (omega arith)) in
-    refusal-suc n f
-    ∙ ap (λ (a : Answer). followedBy a (firstRefusal n (λ i. f (suc i)))) (e 0 (omega arith))
-    ∙ ap (followedBy (g 0)) rest
-    ∙ sym (refusal-suc n g)
+pub refusal_cong : (n : ℕ) (f g : ℕ → Answer) → ((i : ℕ) → i < n → f i ≡ g i) → first_refusal n f ≡ first_refusal n g
+refusal_cong zero f g e = refusal_zero f ∙ sym (refusal_zero g)
+refusal_cong (suc n) f g e =
+    let rest = refusal_cong n (λ i. f (suc i)) (λ i. g (suc i)) (λ i l. e (suc i) (omega arith)) in
+    refusal_suc n f
+    ∙ ap (λ (a : Answer). followed_by a (first_refusal n (λ i. f (suc i)))) (e 0 (omega arith))
+    ∙ ap (followed_by (g 0)) rest
+    ∙ sym (refusal_suc n g)
 
 -- of two ranges, one after the other
-pub refusal-split : (a b : ℕ) (f : ℕ → Answer) → firstRefusal (a + b) f ≡ followedBy (firstRefusal a f) (firstRefusal b (λ i. f (a + i)))
-refusal-split zero b f =
-    ap (λ (n : ℕ). firstRefusal n f) (zero-add b)
-    ∙ refusal-cong b f (λ i. f (0 + i)) (λ i l. ap f (sym (zero-add i)))
-    ∙ ap (λ (x : Answer). followedBy x (firstRefusal b (λ i. f (0 + i)))) (sym (refusal-zero f))
-refusal-split (suc a) b f =
-    let ih = refusal-split a b (λ i. f (suc i)) in
-    let shift = refusal-cong b (λ i. f (suc (a + i))) (λ i. f (suc a + i)) (λ i l. ap f (sym (suc-add a i))) in
-    ap (λ (n : ℕ). firstRefusal n f) (suc-add a b)
-    ∙ refusal-suc (a + b) f
-    ∙ ap (followedBy (f 0)) (ih ∙ ap (followedBy (firstRefusal a (λ i. f (suc i)))) shift)
-    ∙ sym (followed-assoc (f 0) (firstRefusal a (λ i. f (suc i))) (firstRefusal b (λ i. f (suc a + i))))
-    ∙ ap (λ (x : Answer). followedBy x (firstRefusal b (λ i. f (suc a + i)))) (sym (refusal-suc a f))
+pub refusal_split : (a b : ℕ) (f : ℕ → Answer) → first_refusal (a + b) f ≡ followed_by (first_refusal a f) (first_refusal b (λ i. f (a + i)))
+refusal_split zero b f =
+    ap (λ (n : ℕ). first_refusal n f) (zero-add b)
+    ∙ refusal_cong b f (λ i. f (0 + i)) (λ i l. ap f (sym (zero-add i)))
+    ∙ ap (λ (x : Answer). followed_by x (first_refusal b (λ i. f (0 + i)))) (sym (refusal_zero f))
+refusal_split (suc a) b f =
+    let ih = refusal_split a b (λ i. f (suc i)) in
+    let shift = refusal_cong b (λ i. f (suc (a + i))) (λ i. f (suc a + i)) (λ i l. ap f (sym (suc-add a i))) in
+    ap (λ (n : ℕ). first_refusal n f) (suc-add a b)
+    ∙ refusal_suc (a + b) f
+    ∙ ap (followed_by (f 0)) (ih ∙ ap (followed_by (first_refusal a (λ i. f (suc i)))) shift)
+    ∙ sym (followed_assoc (f 0) (first_refusal a (λ i. f (suc i))) (first_refusal b (λ i. f (suc a + i))))
+    ∙ ap (λ (x : Answer). followed_by x (first_refusal b (λ i. f (suc a + i)))) (sym (refusal_suc a f))
 
-pub refusal-one : (f : ℕ → Answer) → firstRefusal 1 f ≡ f 0
-refusal-one f = refusal-suc 0 f ∙ ap (followedBy (f 0)) (refusal-zero (λ i. f (suc i))) ∙ followed-none (f 0)
+pub refusal_one : (f : ℕ → Answer) → first_refusal 1 f ≡ f 0
+refusal_one f = refusal_suc 0 f ∙ ap (followed_by (f 0)) (refusal_zero (λ i. f (suc i))) ∙ followed_none (f 0)
 
 -- ---- what it says
 
 -- no refusal: every answer is no refusal
-pub all-readable : (n : ℕ) (f : ℕ → Answer) → isReadable (firstRefusal n f) ≡ true → (i : ℕ) → i < n → isReadable (f i) ≡ true
-all-readable zero f e i l = absurd (omega arith)
-all-readable (suc n) f e zero l = followed-left (f 0) (firstRefusal n (λ i. f (suc i))) (rw (refusal-suc n f) at e)
-all-readable (suc n) f e (suc i) l =
-    all-readable n (λ x. f (suc x)) (followed-right (f 0) (firstRefusal n (λ x. f (suc x))) (rw (refusal-suc n f) at e)) i (omega arith)
+pub all_readable : (n : ℕ) (f : ℕ → Answer) → is_readable (first_refusal n f) ≡ true → (i : ℕ) → i < n → is_readable (f i) ≡ true
+all_readable zero f e i l = absurd (omega arith)
+all_readable (suc n) f e zero l = followed_left (f 0) (first_refusal n (λ i. f (suc i))) (rw (refusal_suc n f) at e)
+all_readable (suc n) f e (suc i) l =
+    all_readable n (λ x. f (suc x)) (followed_right (f 0) (first_refusal n (λ x. f (suc x))) (rw (refusal_suc n f) at e)) i (omega arith)
 
 -- a refusal is the answer at some place, and before it there is none
-pub first-refused : (n : ℕ) (f : ℕ → Answer) → isReadable (firstRefusal n f) ≡ false
-    → (p : ℕ) × (p < n) × (firstRefusal n f ≡ f p) × ((i : ℕ) → i < p → isReadable (f i) ≡ true)
-unfolding firstRefusal
-first-refused n f e =
-    let bad : ℕ → Bool = λ i. not (isReadable (f i)) in
+pub first_refused : (n : ℕ) (f : ℕ → Answer) → is_readable (first_refusal n f) ≡ false
+    → (p : ℕ) × (p < n) × (first_refusal n f ≡ f p) × ((i : ℕ) → i < p → is_readable (f i) ≡ true)
+unfolding first_refusal
+first_refused n f e =
+    let bad : ℕ → Bool = λ i. not (is_readable (f i)) in
     let p : ℕ = first n bad in
-    by-test (ltb p n)
-    (λ t. (p, ltb-true p n t, cond-true (f p) Readable t, (λ i h. not-false (isReadable (f i)) (before-first n bad i h))))
-    (λ t. absurd (false≢true (sym e ∙ ap isReadable (cond-false (f p) Readable t))))
+    by_test (ltb p n)
+    (λ t. (p, ltb-true p n t, cond_true (f p) Readable t, (λ i h. not_false (is_readable (f i)) (before_first n bad i h))))
+    (λ t. absurd (false≢true (sym e ∙ ap is_readable (cond_false (f p) Readable t))))
 
 -- so where no answer is a refusal, there is none
-pub none-refused : (n : ℕ) (f : ℕ → Answer) → ((i : ℕ) → i < n → isReadable (f i) ≡ true) → firstRefusal n f ≡ Readable
-none-refused n f h =
-    readable-is (firstRefusal n f)
-    (holds (isReadable (firstRefusal n f)) (λ t. let r = first-refused n f t in clash (h r.0 r.1) (sym (ap isReadable r.2) ∙ t)))
+pub none_refused : (n : ℕ) (f : ℕ → Answer) → ((i : ℕ) → i < n → is_readable (f i) ≡ true) → first_refusal n f ≡ Readable
+none_refused n f h =
+    readable_is (first_refusal n f)
+    (holds (is_readable (first_refusal n f)) (λ t. let r = first_refused n f t in clash (h r.0 r.1) (sym (ap is_readable r.2) ∙ t)))

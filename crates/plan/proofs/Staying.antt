@@ -13,41 +13,41 @@ use lib.ListN.{length, get_or, set, take, drop, length-append, length-drop}
 use lib.Seq.{paste-suc, length-take-le, take_all, take_at, drop_at, drop-drop}
 use borrow.Author.Tests.{eq-eqb, ne_eqb}
 use Rattle.words.specs.Members.{count}
-use Rattle.words.proofs.Counts.{count-le, count-more, count-still}
+use Rattle.words.proofs.Counts.{count_le, count_more, count_still}
 use Rattle.records.specs.Bytes.{byte}
-use Rattle.records.specs.Records.{joined, kept, startingWith, writtenAt}
-use Rattle.records.proofs.Kept.{kept-one, kept-none, kept-length}
-use Rattle.plan.specs.Records.{recordAt, recordCount, type_at, activityCount}
+use Rattle.records.specs.Records.{joined, kept, starting_with, written_at}
+use Rattle.records.proofs.Kept.{kept_one, kept_none, kept_length}
+use Rattle.plan.specs.Records.{record_at, record_count, type_at, activity_count}
 use Rattle.plan.specs.Meaning.{Readable}
 use Rattle.plan.specs.Filtered.{filtered}
-use Rattle.plan.specs.model.ArcRows.{ArcRecord, hasArc}
-use Rattle.plan.proofs.Parts.{Faultless, few, crew-fine, arc-fine, no-arc}
-use Rattle.plan.proofs.Said.{readable-faultless}
+use Rattle.plan.specs.model.ArcRows.{ArcRecord, has_arc}
+use Rattle.plan.proofs.Parts.{Faultless, few, crew_fine, arc_fine, no_arc}
+use Rattle.plan.proofs.Said.{readable_faultless}
 
 -- ---- one record
 
 -- in a readable file it is whole, and where it is an extra arc that can be looked up
-pub record-whole : (s : List ℕ) (p : ℕ) → p < recordCount s → 24 ≤ length (recordAt s p)
-record-whole s p l = omega (arith, length-drop (24 * p) s)
+pub record_whole : (s : List ℕ) (p : ℕ) → p < record_count s → 24 ≤ length (record_at s p)
+record_whole s p l = omega (arith, length-drop (24 * p) s)
 
-pub extra-record : (s : List ℕ) → Readable s → (p : ℕ) → p < recordCount s → type_at s p ≡ 4 → ArcRecord (recordAt s p)
-extra-record s e p l typed = go (dec_lt (activityCount s) p)
+pub extra_record : (s : List ℕ) → Readable s → (p : ℕ) → p < record_count s → type_at s p ≡ 4 → ArcRecord (record_at s p)
+extra_record s e p l typed = go (dec_lt (activity_count s) p)
   where
     F : Faultless s
-    F = readable-faultless s e
+    F = readable_faultless s e
 
-    go : Dec (activityCount s < p) → ArcRecord (recordAt s p)
+    go : Dec (activity_count s < p) → ArcRecord (record_at s p)
     go (yes arc) =
-        let K = arc-fine s F p arc l in
-        (record-whole s p l, K.from_low, omega (arith, K.from-high, few s F), K.to_low, omega (arith, K.to_high, few s F))
-    go (no none) = absurd (no-arc s (crew-fine s F).typed 4 p (omega arith) (omega arith) typed)
+        let K = arc_fine s F p arc l in
+        (record_whole s p l, K.from_low, omega (arith, K.from_high, few s F), K.to_low, omega (arith, K.to_high, few s F))
+    go (no none) = absurd (no_arc s (crew_fine s F).typed 4 p (omega arith) (omega arith) typed)
 
 -- whether it stays, by the test of its type
-pub other-stays : (rows r : List ℕ) → (byte r 0 ≡ 4 → ⊥) → true ≡ (not (eqb (byte r 0) 4) || hasArc rows r)
-other-stays rows r ne = rw (ne_eqb (byte r 0) 4 ne)
+pub other_stays : (rows r : List ℕ) → (byte r 0 ≡ 4 → ⊥) → true ≡ (not (eqb (byte r 0) 4) || has_arc rows r)
+other_stays rows r ne = rw (ne_eqb (byte r 0) 4 ne)
 
-pub extra-stays : (rows r : List ℕ) → byte r 0 ≡ 4 → hasArc rows r ≡ (not (eqb (byte r 0) 4) || hasArc rows r)
-extra-stays rows r e = rw (eq-eqb (byte r 0) 4 e)
+pub extra_stays : (rows r : List ℕ) → byte r 0 ≡ 4 → has_arc rows r ≡ (not (eqb (byte r 0) 4) || has_arc rows r)
+extra_stays rows r e = rw (eq-eqb (byte r 0) 4 e)
 
 -- ---- a list that is copied to the start of another, byte by byte
 
@@ -55,50 +55,50 @@ module _ (r old : List ℕ) where
   pub copy_more : (i : ℕ) → i < length r → i < length old → set (take i r ++ drop i old) i (get_or r i 0) ≡ take (i + 1) r ++ drop (i + 1) old
   copy_more i l h = rw (zero-add i, zero-add (suc i), ← add-one i) at (paste-suc old 0 r i 0 (omega arith) l)
 
-  pub copy-length : (i : ℕ) → i ≤ length r → i ≤ length old → length (take i r ++ drop i old) ≡ length old
-  copy-length i l h = length-append (take i r) (drop i old) ∙ omega (arith, length-take-le i r l, length-drop i old)
+  pub copy_length : (i : ℕ) → i ≤ length r → i ≤ length old → length (take i r ++ drop i old) ≡ length old
+  copy_length i l h = length-append (take i r) (drop i old) ∙ omega (arith, length-take-le i r l, length-drop i old)
 
-  pub copy-all : (i : ℕ) → length r ≡ i → take i r ++ drop i old ≡ startingWith r old
-  copy-all i e = ap (λ (l : List ℕ). l ++ drop i old) (take_all i r (le_of_eq e)) ∙ ap (λ (n : ℕ). r ++ drop n old) (sym e)
+  pub copy_all : (i : ℕ) → length r ≡ i → take i r ++ drop i old ≡ starting_with r old
+  copy_all i e = ap (λ (l : List ℕ). l ++ drop i old) (take_all i r (le_of_eq e)) ∙ ap (λ (n : ℕ). r ++ drop n old) (sym e)
 
 -- ---- THE LOOP OVER THE RECORDS of s, of which a test of places keeps some
 
 module _ (keep : ℕ → Bool) (s old : List ℕ) where
   abbrev record_of : ℕ → List ℕ
-  record_of p = take 24 (recordAt s p)
+  record_of p = take 24 (record_at s p)
 
   abbrev so_far : ℕ → List ℕ
   so_far p = kept keep record_of p
 
   -- p records are looked at, and the n of them that stay are written
   pub record Staying (p n : ℕ) (out : List ℕ) : Type 0 where
-    pub looked : p ≤ recordCount s
+    pub looked : p ≤ record_count s
     pub number : n ≡ count p keep
-    pub written : out ≡ startingWith (so_far p) old
+    pub written : out ≡ starting_with (so_far p) old
 
-  pub staying-none : Staying 0 0 old
+  pub staying_none : Staying 0 0 old
   unfolding joined count
-  staying-none = record { looked = omega arith; number = refl; written = refl }
+  staying_none = record { looked = omega arith; number = refl; written = refl }
 
-  long : (k : ℕ) → k < recordCount s → keep k ≡ true → length (record_of k) ≡ 24
-  long k l t = length-take-le 24 (recordAt s k) (record-whole s k l)
+  long : (k : ℕ) → k < record_count s → keep k ≡ true → length (record_of k) ≡ 24
+  long k l t = length-take-le 24 (record_at s k) (record_whole s k l)
 
-  length_so_far : (p : ℕ) → p ≤ recordCount s → length (so_far p) ≡ 24 * count p keep
-  length_so_far p l = kept-length keep record_of (recordCount s) long p l
+  length_so_far : (p : ℕ) → p ≤ record_count s → length (so_far p) ≡ 24 * count p keep
+  length_so_far p l = kept_length keep record_of (record_count s) long p l
 
   module _ (p n : ℕ) (out : List ℕ) (S : Staying p n out) where
     -- no more are written than are looked at
-    pub staying-few : n ≤ p
-    staying-few = omega (arith, S.number, count-le p keep)
+    pub staying_few : n ≤ p
+    staying_few = omega (arith, S.number, count_le p keep)
 
-    pub staying-length : length s ≤ length old → length out ≡ length old
-    staying-length room =
+    pub staying_length : length s ≤ length old → length out ≡ length old
+    staying_length room =
         ap length S.written
         ∙ length-append (so_far p) (drop (length (so_far p)) old)
-        ∙ omega (arith, length_so_far p S.looked, count-le p keep, S.looked, length-drop (length (so_far p)) old)
+        ∙ omega (arith, length_so_far p S.looked, count_le p keep, S.looked, length-drop (length (so_far p)) old)
 
-    pub staying-one : {m : ℕ} {next : List ℕ} → p < recordCount s → keep p ≡ true → m ≡ n + 1 → next ≡ writtenAt (24 * n) (record_of p) out → Staying (p + 1) m next
-    staying-one l t g e =
+    pub staying_one : {m : ℕ} {next : List ℕ} → p < record_count s → keep p ≡ true → m ≡ n + 1 → next ≡ written_at (24 * n) (record_of p) out → Staying (p + 1) m next
+    staying_one l t g e =
         let x : List ℕ = so_far p in
         let r : List ℕ = record_of p in
         let at : length x ≡ 24 * n = length_so_far p S.looked ∙ ap (λ (k : ℕ). 24 * k) (sym S.number) in
@@ -111,29 +111,29 @@ module _ (keep : ℕ → Bool) (s old : List ℕ) where
         ∙ ap (λ (k : ℕ). drop k old) (sym (length-append x r)) in
         record {
           looked = omega arith;
-          number = omega (arith, g, S.number, count-more keep p t, ap (λ (k : ℕ). count k keep) (add-one p));
+          number = omega (arith, g, S.number, count_more keep p t, ap (λ (k : ℕ). count k keep) (add-one p));
           written =
               e
               ∙ ap (λ (l : List ℕ). l ++ r ++ drop (24 * n + length r) out) front
               ∙ ap (λ (l : List ℕ). x ++ r ++ l) back
-              ∙ ap (λ (l : List ℕ). startingWith l old) (sym (ap so_far (add-one p) ∙ kept-one keep record_of p t));
+              ∙ ap (λ (l : List ℕ). starting_with l old) (sym (ap so_far (add-one p) ∙ kept_one keep record_of p t));
         }
 
-    pub staying-skip : {m : ℕ} {next : List ℕ} → p < recordCount s → keep p ≡ false → m ≡ n → next ≡ out → Staying (p + 1) m next
-    staying-skip l t g e =
+    pub staying_skip : {m : ℕ} {next : List ℕ} → p < record_count s → keep p ≡ false → m ≡ n → next ≡ out → Staying (p + 1) m next
+    staying_skip l t g e =
         record {
           looked = omega arith;
-          number = g ∙ S.number ∙ sym (ap (λ (k : ℕ). count k keep) (add-one p) ∙ count-still keep p t);
-          written = e ∙ S.written ∙ ap (λ (l : List ℕ). startingWith l old) (sym (ap so_far (add-one p) ∙ kept-none keep record_of p t));
+          number = g ∙ S.number ∙ sym (ap (λ (k : ℕ). count k keep) (add-one p) ∙ count_still keep p t);
+          written = e ∙ S.written ∙ ap (λ (l : List ℕ). starting_with l old) (sym (ap so_far (add-one p) ∙ kept_none keep record_of p t));
         }
 
-    module _ (end : recordCount s ≤ p) where
-      whole : p ≡ recordCount s
+    module _ (end : record_count s ≤ p) where
+      whole : p ≡ record_count s
       whole = omega (arith, S.looked)
 
-      pub staying-number : n ≡ count (recordCount s) keep
-      staying-number = S.number ∙ ap (λ (k : ℕ). count k keep) whole
+      pub staying_number : n ≡ count (record_count s) keep
+      staying_number = S.number ∙ ap (λ (k : ℕ). count k keep) whole
 
-      pub staying-all : out ≡ startingWith (filtered keep s) old
+      pub staying_all : out ≡ starting_with (filtered keep s) old
       unfolding filtered
-      staying-all = S.written ∙ ap (λ (k : ℕ). startingWith (so_far k) old) whole
+      staying_all = S.written ∙ ap (λ (k : ℕ). starting_with (so_far k) old) whole

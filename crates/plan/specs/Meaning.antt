@@ -7,45 +7,45 @@
 use Rattle.std.specs.Prelude.{◌≡◌, Bool, true, cond, ◌&&◌, List, ℕ, zero, suc, ◌+◌, ◌<◌, max, eqb}
 use Rattle.order.specs.Before.{Joined}
 use Rattle.records.specs.Bytes.{byte}
-use Rattle.plan.specs.Records.{recordAt, recordCount, type_at, activityCount}
-use Rattle.plan.specs.Records.{durationIn, demandIn, availableIn, waitIn}
-use Rattle.plan.specs.Causes.{isReadable, answer_of}
+use Rattle.plan.specs.Records.{record_at, record_count, type_at, activity_count}
+use Rattle.plan.specs.Records.{duration_in, demand_in, available_in, wait_in}
+use Rattle.plan.specs.Causes.{is_readable, answer_of}
 
 -- "It is readable when it meets none of causes 1 to 4", nor 12 and 13 of document 02
 abbrev pub Readable : List ℕ → Type 0
-Readable s = isReadable (answer_of s) ≡ true
+Readable s = is_readable (answer_of s) ≡ true
 
 -- ---- the activities and the crew of a file
 
 -- which record speaks for element i: its own, the one at place i
-abbrev pub activityRecord : List ℕ → ℕ → List ℕ
-activityRecord s i = recordAt s i
+abbrev pub activity_record : List ℕ → ℕ → List ℕ
+activity_record s i = record_at s i
 
 -- the crew record follows the activities
-abbrev pub crewRecord : List ℕ → List ℕ
-crewRecord s = recordAt s (activityCount s)
+abbrev pub crew_record : List ℕ → List ℕ
+crew_record s = record_at s (activity_count s)
 
 -- "2–3 duration": that of element i
-unfoldable pub fileDuration : List ℕ → ℕ → ℕ
-fileDuration s i = durationIn (activityRecord s i)
+unfoldable pub file_duration : List ℕ → ℕ → ℕ
+file_duration s i = duration_in (activity_record s i)
 
 -- A MILESTONE: "takes no time" (02, change 2). It is one by its duration in the file, not by its demands:
--- that it has none, is what 12 sees to (`milestone-idle` of proofs/Milestones.antt), and an activity without
+-- that it has none, is what 12 sees to (`milestone_idle` of proofs/Milestones.antt), and an activity without
 -- demands that takes time is none.
 abbrev pub Milestone : List ℕ → ℕ → Type 0
-Milestone s i = fileDuration s i ≡ 0
+Milestone s i = file_duration s i ≡ 0
 
 -- "4–19 eight demands of two bytes, kinds 1 to 8": what element i demands of kind k
-unfoldable pub fileDemand : List ℕ → ℕ → ℕ → ℕ
-fileDemand s k i = demandIn (activityRecord s i) k
+unfoldable pub file_demand : List ℕ → ℕ → ℕ → ℕ
+file_demand s k i = demand_in (activity_record s i) k
 
 -- "byte 1 the count K of kinds"
-unfoldable pub fileKinds : List ℕ → ℕ
-fileKinds s = byte (crewRecord s) 1
+unfoldable pub file_kinds : List ℕ → ℕ
+file_kinds s = byte (crew_record s) 1
 
 -- "4–19 eight availabilities": how much of kind k is available
-unfoldable pub fileAvailable : List ℕ → ℕ → ℕ
-fileAvailable s k = availableIn (crewRecord s) k
+unfoldable pub file_available : List ℕ → ℕ → ℕ
+file_available s k = available_in (crew_record s) k
 
 -- ---- the arcs of a file
 
@@ -55,16 +55,16 @@ pub record Names (s : List ℕ) (n type i j : ℕ) : Type 0 where
   pub place : ℕ
   pub there : place < n
   pub typed : type_at s place ≡ type
-  pub from : byte (recordAt s place) 1 ≡ i + 1
-  pub to : byte (recordAt s place) 2 ≡ j + 1
+  pub from : byte (record_at s place) 1 ≡ i + 1
+  pub to : byte (record_at s place) 2 ≡ j + 1
 
 -- a job arc record names the pair
 unfoldable pub JobArc : List ℕ → ℕ → ℕ → Type 0
-JobArc s i j = Names s (recordCount s) 3 i j
+JobArc s i j = Names s (record_count s) 3 i j
 
 -- an extra arc record names the pair
 unfoldable pub ExtraArc : List ℕ → ℕ → ℕ → Type 0
-ExtraArc s i j = Names s (recordCount s) 4 i j
+ExtraArc s i j = Names s (record_count s) 4 i j
 
 abbrev pub FileArc : List ℕ → ℕ → ℕ → Type 0
 FileArc s = Joined (JobArc s) (ExtraArc s)
@@ -75,21 +75,21 @@ FileArc s = Joined (JobArc s) (ExtraArc s)
 abbrev pub names_at : List ℕ → ℕ → ℕ → ℕ → ℕ → Bool
 names_at s type i j p =
     eqb (type_at s p) type
-    && (eqb (byte (recordAt s p) 1) (i + 1) && eqb (byte (recordAt s p) 2) (j + 1))
+    && (eqb (byte (record_at s p) 1) (i + 1) && eqb (byte (record_at s p) 2) (j + 1))
 
 -- the wait that the first n records give the arc of a type from i to j: that of the last that names it, and 0
--- where none does. (In a readable file one at most does, by 13: `wait-of` of proofs/Waits.antt.)
-unfoldable pub waitUpTo : List ℕ → ℕ → ℕ → ℕ → ℕ → ℕ
-waitUpTo s type i j zero = 0
-waitUpTo s type i j (suc n) = cond (names_at s type i j n) (waitIn (recordAt s n)) (waitUpTo s type i j n)
+-- where none does. (In a readable file one at most does, by 13: `wait_of` of proofs/Waits.antt.)
+unfoldable pub wait_up_to : List ℕ → ℕ → ℕ → ℕ → ℕ → ℕ
+wait_up_to s type i j zero = 0
+wait_up_to s type i j (suc n) = cond (names_at s type i j n) (wait_in (record_at s n)) (wait_up_to s type i j n)
 
 -- the wait on the job arc from i to j, and that on the extra arc
-unfoldable pub jobWait : List ℕ → ℕ → ℕ → ℕ
-jobWait s i j = waitUpTo s 3 i j (recordCount s)
+unfoldable pub job_wait : List ℕ → ℕ → ℕ → ℕ
+job_wait s i j = wait_up_to s 3 i j (record_count s)
 
-unfoldable pub extraWait : List ℕ → ℕ → ℕ → ℕ
-extraWait s i j = waitUpTo s 4 i j (recordCount s)
+unfoldable pub extra_wait : List ℕ → ℕ → ℕ → ℕ
+extra_wait s i j = wait_up_to s 4 i j (record_count s)
 
 -- "Where a job arc and an extra arc share a pair, both waits bind.": that is, the longer does
-abbrev pub fileWait : List ℕ → ℕ → ℕ → ℕ
-fileWait s i j = max (jobWait s i j) (extraWait s i j)
+abbrev pub file_wait : List ℕ → ℕ → ℕ → ℕ
+file_wait s i j = max (job_wait s i j) (extra_wait s i j)

@@ -11,10 +11,10 @@ abbrev pub at_place : ℕ → ℕ → Told
 at_place number p = record { number = number; values = 1; place = p }
 
 -- the number, and what is returned with it
-abbrev pub toldBy : Cause → Told
-toldBy Length = record { number = 1; values = 0; place = 0 }
-toldBy (RecordType p) = at_place 2 p
-toldBy (Field p) = at_place 3 p
-toldBy (MilestoneDemand p) = at_place 12 p
-toldBy (Spare p) = at_place 4 p
-toldBy (RepeatedArc p) = at_place 13 p
+abbrev pub told_by : Cause → Told
+told_by Length = record { number = 1; values = 0; place = 0 }
+told_by (RecordType p) = at_place 2 p
+told_by (Field p) = at_place 3 p
+told_by (MilestoneDemand p) = at_place 12 p
+told_by (Spare p) = at_place 4 p
+told_by (RepeatedArc p) = at_place 13 p

@@ -2,9 +2,9 @@
 ghost use Rattle.std.specs.Prelude.{◌≡◌, ◌*◌, ◌≤◌, ◌<◌, length};
 ghost use Rattle.words.specs.model.Loops.{upto};
 ghost use Rattle.order.specs.Stored.{elements};
-ghost use Rattle.plan.specs.Records.{activityFields, demandsSome, activityTimed, recordAt};
-ghost use Rattle.plan.specs.Causes.{activityCause, firstRefusal};
-ghost use Rattle.plan.specs.model.Phases.{putDuration, putDemand, putDemands};
+ghost use Rattle.plan.specs.Records.{activity_fields, demands_some, activity_timed, record_at};
+ghost use Rattle.plan.specs.Causes.{activity_cause, first_refusal};
+ghost use Rattle.plan.specs.model.Phases.{put_duration, put_demand, put_demands};
 
 use crate::checks::{is_readable, rule};
 use crate::field::{all_zero, half};
@@ -14,7 +14,7 @@ use order::ELEMENTS;
 // Whether an activity record's fields keep their rules.
 fn activity_fields(r: &[u8], place: usize) -> bool
     requires { 24 ≤ length r.now }
-    ensures { result ≡ activityFields place r.now }
+    ensures { result ≡ activity_fields place r.now }
 {
     if ACTIVITIES <= place {
         return false;
@@ -26,7 +26,7 @@ fn activity_fields(r: &[u8], place: usize) -> bool
 // Whether an activity record demands something of one of the eight kinds.
 fn demands_some(r: &[u8]) -> bool
     requires { 24 ≤ length r.now }
-    ensures { result ≡ demandsSome r.now }
+    ensures { result ≡ demands_some r.now }
 {
     for k in 0..8usize {
         if half(r, 4 + 2 * k) != 0 {
@@ -39,7 +39,7 @@ fn demands_some(r: &[u8]) -> bool
 // Whether an activity record demands something only if it takes time. (A milestone takes none.)
 fn activity_timed(r: &[u8]) -> bool
     requires { 24 ≤ length r.now }
-    ensures { result ≡ activityTimed r.now }
+    ensures { result ≡ activity_timed r.now }
 {
     if half(r, 2) != 0 {
         return true;
@@ -50,7 +50,7 @@ fn activity_timed(r: &[u8]) -> bool
 // The cause of an activity record, by its type known to be one.
 fn activity_cause(r: &[u8], place: usize) -> Answer
     requires { 24 ≤ length r.now }
-    ensures { result ≡ activityCause place r.now }
+    ensures { result ≡ activity_cause place r.now }
 {
     let fields = rule(
         Answer::Readable,
@@ -64,7 +64,7 @@ fn activity_cause(r: &[u8], place: usize) -> Answer
 // The first cause among the first m records, which are activities.
 pub fn activities_cause(s: &[u8], m: usize) -> Answer
     requires { 24 * m ≤ length s.now }
-    ensures { result ≡ firstRefusal m (λ i. activityCause i (recordAt s.now i)) }
+    ensures { result ≡ first_refusal m (λ i. activity_cause i (record_at s.now i)) }
 {
     let mut i: usize = 0;
     while i < m {
@@ -80,7 +80,7 @@ pub fn activities_cause(s: &[u8], m: usize) -> Answer
 // The durations of the first m records.
 pub fn store_durations(s: &[u8], m: usize, durations: &mut [u32; ELEMENTS])
     requires { (24 * m ≤ length s.now) × (m ≤ elements) }
-    ensures { durations.new ≡ upto (putDuration s.now) m durations.old }
+    ensures { durations.new ≡ upto (put_duration s.now) m durations.old }
 {
     let mut i: usize = 0;
     while i < m {
@@ -92,7 +92,7 @@ pub fn store_durations(s: &[u8], m: usize, durations: &mut [u32; ELEMENTS])
 // The eight demands of element i.
 fn store_demands_of(r: &[u8], i: usize, demands: &mut [u32; 8 * ELEMENTS])
     requires { (24 ≤ length r.now) × (i < elements) }
-    ensures { demands.new ≡ upto (putDemand r.now i) 8 demands.old }
+    ensures { demands.new ≡ upto (put_demand r.now i) 8 demands.old }
 {
     let mut k: usize = 0;
     while k < 8 {
@@ -104,7 +104,7 @@ fn store_demands_of(r: &[u8], i: usize, demands: &mut [u32; 8 * ELEMENTS])
 // The demands of the first m records.
 pub fn store_demands(s: &[u8], m: usize, demands: &mut [u32; 8 * ELEMENTS])
     requires { (24 * m ≤ length s.now) × (m ≤ elements) }
-    ensures { demands.new ≡ upto (putDemands s.now) m demands.old }
+    ensures { demands.new ≡ upto (put_demands s.now) m demands.old }
 {
     let mut i: usize = 0;
     while i < m {

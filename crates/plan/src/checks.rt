@@ -1,6 +1,6 @@
 // The rules of a record, in turn.
 ghost use Rattle.std.specs.Prelude.{◌≡◌};
-ghost use Rattle.plan.specs.Causes.{rule, isReadable};
+ghost use Rattle.plan.specs.Causes.{rule, is_readable};
 
 use crate::{Answer, Cause};
 
@@ -19,7 +19,7 @@ pub fn rule(answer: Answer, kept: bool, cause: Cause) -> Answer
 }
 
 pub fn is_readable(answer: Answer) -> bool
-    ensures { result ≡ isReadable answer }
+    ensures { result ≡ is_readable answer }
 {
     match answer {
         Answer::Readable => true,

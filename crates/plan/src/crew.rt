@@ -4,8 +4,8 @@ ghost use Rattle.std.proofs.Math.Seq.{slice};
 ghost use Rattle.words.specs.Tables.{table};
 ghost use Rattle.records.specs.Bytes.{zeros};
 ghost use Rattle.order.specs.Stored.{elements};
-ghost use Rattle.plan.specs.Records.{crewFields, crewSpare, availableIn};
-ghost use Rattle.plan.specs.Causes.{crewCause};
+ghost use Rattle.plan.specs.Records.{crew_fields, crew_spare, available_in};
+ghost use Rattle.plan.specs.Causes.{crew_cause};
 
 use crate::checks::rule;
 use crate::field::{all_zero, half};
@@ -33,7 +33,7 @@ fn no_demand_from(demand: &[u32; 8 * ELEMENTS], from: usize) -> bool
 // Whether a crew record's fields keep their rules, and the demands beyond its kinds are zero.
 fn crew_fields(demand: &[u32; 8 * ELEMENTS], r: &[u8]) -> bool
     requires { 24 ≤ length r.now }
-    ensures { result ≡ crewFields demand.now r.now }
+    ensures { result ≡ crew_fields demand.now r.now }
 {
     let k = r[1] as usize;
     if k == 0 {
@@ -51,7 +51,7 @@ fn crew_fields(demand: &[u32; 8 * ELEMENTS], r: &[u8]) -> bool
 // Whether a crew record's spare bytes are zero.
 fn crew_spare(r: &[u8]) -> bool
     requires { 24 ≤ length r.now }
-    ensures { result ≡ crewSpare r.now }
+    ensures { result ≡ crew_spare r.now }
 {
     if !all_zero(r, 2, 4) {
         return false;
@@ -62,7 +62,7 @@ fn crew_spare(r: &[u8]) -> bool
 // The cause of the record that has to be the crew record.
 pub fn crew_cause(demand: &[u32; 8 * ELEMENTS], r: &[u8], place: usize) -> Answer
     requires { 24 ≤ length r.now }
-    ensures { result ≡ crewCause place demand.now r.now }
+    ensures { result ≡ crew_cause place demand.now r.now }
 {
     let typed = rule(Answer::Readable, r[0] == 2, Cause::RecordType(place));
     let fields = rule(typed, crew_fields(demand, r), Cause::Field(place));
@@ -72,7 +72,7 @@ pub fn crew_cause(demand: &[u32; 8 * ELEMENTS], r: &[u8], place: usize) -> Answe
 // The eight availabilities.
 pub fn available(r: &[u8]) -> [u32; 8]
     requires { 24 ≤ length r.now }
-    ensures { result ≡ table 8 (availableIn r.now) }
+    ensures { result ≡ table 8 (available_in r.now) }
 {
     let mut a = [0u32; 8];
     let mut k: usize = 0;

@@ -2,9 +2,9 @@
 ghost use Rattle.std.specs.Prelude.{◌≡◌, ◌+◌, ◌*◌, ◌≤◌, length};
 ghost use Rattle.order.specs.Stored.{elements};
 ghost use Rattle.plan.specs.Records.{leading};
-ghost use Rattle.plan.specs.model.Plans.{emptyPlan};
-ghost use Rattle.plan.specs.model.Phases.{fileOf, rest_of, refusalOf};
-ghost use Rattle.plan.specs.Causes.{isLength};
+ghost use Rattle.plan.specs.model.Plans.{empty_plan};
+ghost use Rattle.plan.specs.model.Phases.{file_of, rest_of, refusal_of};
+ghost use Rattle.plan.specs.Causes.{is_length};
 
 use crate::activity::{activities_cause, store_demands, store_durations};
 use crate::arc::read_arcs;
@@ -15,7 +15,7 @@ use crate::{Answer, Cause, Plan, Reading};
 use order::{CELLS, ELEMENTS};
 
 fn empty_plan() -> Plan
-    ensures { result ≡ emptyPlan }
+    ensures { result ≡ empty_plan }
 {
     Plan {
         count: 0,
@@ -30,7 +30,7 @@ fn empty_plan() -> Plan
 
 // A refusal: no plan stands beside it.
 pub fn refusal(answer: Answer) -> Reading
-    ensures { result ≡ refusalOf answer }
+    ensures { result ≡ refusal_of answer }
 {
     Reading {
         plan: empty_plan(),
@@ -102,7 +102,7 @@ fn read_rest(
 // A file of n records.
 pub fn read_file(s: &[u8], n: usize) -> Reading
     requires { (24 * n ≤ length s.now) × (n ≤ 2048) }
-    ensures { result ≡ fileOf n s.now }
+    ensures { result ≡ file_of n s.now }
 {
     let m = leading_records(s, 1, n);
     let activities = activities_cause(s, m);
@@ -118,7 +118,7 @@ pub fn read_file(s: &[u8], n: usize) -> Reading
 }
 
 pub fn is_length(n: usize) -> bool
-    ensures { result ≡ isLength n }
+    ensures { result ≡ is_length n }
 {
     if n == 0 {
         return false;

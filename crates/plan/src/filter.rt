@@ -4,11 +4,11 @@ ghost use Rattle.words.specs.Members.{count};
 ghost use Rattle.words.specs.model.Loops.{upto};
 ghost use Rattle.order.specs.Stored.{elements, cells};
 ghost use Rattle.records.specs.Bytes.{byte};
-ghost use Rattle.records.specs.Records.{startingWith};
-ghost use Rattle.plan.specs.Records.{recordCount};
+ghost use Rattle.records.specs.Records.{starting_with};
+ghost use Rattle.plan.specs.Records.{record_count};
 ghost use Rattle.plan.specs.Meaning.{Readable};
 ghost use Rattle.plan.specs.Filtered.{filtered};
-ghost use Rattle.plan.specs.model.ArcRows.{ArcRecord, withArc, hasArc, staysBy, isFree, putFree, freeRows};
+ghost use Rattle.plan.specs.model.ArcRows.{ArcRecord, with_arc, has_arc, stays_by, is_free, put_free, free_rows};
 ghost use Rattle.plan.specs.model.Waits.{ArcRecords};
 
 use crate::arc::{has_arc, store_arc};
@@ -20,7 +20,7 @@ use order::Rows;
 fn store_if_free(r: &[u8], rows: &mut Rows)
     requires { ArcRecord r.now }
     ensures { rows.new
-        ≡ cond (isFree r.now) (withArc r.now rows.old) rows.old }
+        ≡ cond (is_free r.now) (with_arc r.now rows.old) rows.old }
 {
     if r[0] != 4 {
         return;
@@ -34,7 +34,7 @@ fn store_if_free(r: &[u8], rows: &mut Rows)
 // Those of the first n records of t, which are arcs.
 fn store_each_free(t: &[u8], n: usize, rows: &mut Rows)
     requires { (24 * n ≤ length t.now) × ArcRecords n t.now }
-    ensures { rows.new ≡ upto (putFree t.now) n rows.old }
+    ensures { rows.new ≡ upto (put_free t.now) n rows.old }
 {
     let mut p: usize = 0;
     while p < n {
@@ -46,7 +46,7 @@ fn store_each_free(t: &[u8], n: usize, rows: &mut Rows)
 // The extra arcs with wait 0 of a file, into rows without arcs.
 pub fn store_free(s: &[u8], rows: &mut Rows)
     requires { Readable s.now × (rows.old ≡ replicate (cells elements) 0) }
-    ensures { rows.new ≡ freeRows s.now }
+    ensures { rows.new ≡ free_rows s.now }
 {
     let n = s.len() / 24;
     let m = leading_records(s, 1, n);
@@ -57,7 +57,7 @@ pub fn store_free(s: &[u8], rows: &mut Rows)
 // Whether a record stays where the extra arcs of the file become those of the rows.
 fn stays(r: &[u8], extra: &Rows) -> bool
     requires { (24 ≤ length r.now) × (byte r.now 0 ≡ 4 → ArcRecord r.now) }
-    ensures { result ≡ (not (eqb (byte r.now 0) 4) || hasArc extra.now r.now) }
+    ensures { result ≡ (not (eqb (byte r.now 0) 4) || has_arc extra.now r.now) }
 {
     if r[0] != 4 {
         return true;
@@ -83,7 +83,7 @@ fn record_bytes(r: &[u8]) -> [u8; 24]
 // moves, and not one for each byte.)
 fn write_record(r: &[u8], out: &mut [u8])
     requires { (24 ≤ length r.now) × (24 ≤ length out.old) }
-    ensures { out.new ≡ startingWith (take 24 r.now) out.old }
+    ensures { out.new ≡ starting_with (take 24 r.now) out.old }
 {
     let b = record_bytes(r);
     let mut i: usize = 0;
@@ -96,9 +96,9 @@ fn write_record(r: &[u8], out: &mut [u8])
 // Writes the records of a file that stay, in their order, to the front of the lent bytes; gives their number.
 pub fn write_staying(s: &[u8], extra: &Rows, out: &mut [u8]) -> usize
     requires { Readable s.now × (length s.now ≤ length out.old) }
-    ensures value { result ≡ count (recordCount s.now) (staysBy extra.now s.now) }
-    ensures out_after { out.new ≡ startingWith
-        (filtered (staysBy extra.now s.now) s.now) out.old }
+    ensures value { result ≡ count (record_count s.now) (stays_by extra.now s.now) }
+    ensures out_after { out.new ≡ starting_with
+        (filtered (stays_by extra.now s.now) s.now) out.old }
 {
     let all = s.len() / 24;
     let mut n: usize = 0;

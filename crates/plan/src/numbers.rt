@@ -1,6 +1,6 @@
 // The causes' numbers.
 ghost use Rattle.std.specs.Prelude.{◌≡◌};
-ghost use Rattle.plan.specs.Numbers.{at_place, toldBy};
+ghost use Rattle.plan.specs.Numbers.{at_place, told_by};
 
 use crate::{Cause, Told};
 
@@ -15,9 +15,9 @@ fn at_place(number: u64, place: usize) -> Told
     }
 }
 
-// What a cause tells. (A new cause has its line here and in `toldBy`; whoever shows causes goes by these.)
+// What a cause tells. (A new cause has its line here and in `told_by`; whoever shows causes goes by these.)
 pub fn told_by(c: Cause) -> Told
-    ensures { result ≡ toldBy c }
+    ensures { result ≡ told_by c }
 {
     match c {
         Cause::Length => Told {

@@ -5,7 +5,7 @@ ghost use Rattle.words.specs.model.Loops.{upto};
 ghost use Rattle.order.specs.Stored.{elements};
 ghost use Rattle.plan.specs.Meaning.{Readable};
 ghost use Rattle.plan.specs.model.ArcRows.{ArcRecord};
-ghost use Rattle.plan.specs.model.Waits.{waitTable, withWait, putWait, ArcRecords};
+ghost use Rattle.plan.specs.model.Waits.{wait_table, with_wait, put_wait, ArcRecords};
 
 use crate::field::{half, index};
 use crate::file::leading_records;
@@ -14,7 +14,7 @@ use order::ELEMENTS;
 // The wait of an arc record, where none that is longer stands: both bind where a job arc and an extra arc share a pair.
 fn raise_wait(r: &[u8], waits: &mut [u32; ELEMENTS * ELEMENTS])
     requires { ArcRecord r.now }
-    ensures { waits.new ≡ withWait r.now waits.old }
+    ensures { waits.new ≡ with_wait r.now waits.old }
 {
     let i = index(r[1]) - 1;
     let j = index(r[2]) - 1;
@@ -25,7 +25,7 @@ fn raise_wait(r: &[u8], waits: &mut [u32; ELEMENTS * ELEMENTS])
 // The waits of the first n records of t, which are arcs.
 fn raise_waits(t: &[u8], n: usize, waits: &mut [u32; ELEMENTS * ELEMENTS])
     requires { (24 * n ≤ length t.now) × ArcRecords n t.now }
-    ensures { waits.new ≡ upto (putWait t.now) n waits.old }
+    ensures { waits.new ≡ upto (put_wait t.now) n waits.old }
 {
     let mut p: usize = 0;
     while p < n {
@@ -37,7 +37,7 @@ fn raise_waits(t: &[u8], n: usize, waits: &mut [u32; ELEMENTS * ELEMENTS])
 // The waits of a file's arcs, into a table of zeros.
 pub fn store_waits(s: &[u8], waits: &mut [u32; ELEMENTS * ELEMENTS])
     requires { Readable s.now × (waits.old ≡ replicate (elements * elements) 0) }
-    ensures { waits.new ≡ waitTable s.now }
+    ensures { waits.new ≡ wait_table s.now }
 {
     let n = s.len() / 24;
     let m = leading_records(s, 1, n);

@@ -14,91 +14,91 @@ use Rattle.records.specs.Bytes.{AreBytes}
 use Rattle.order.specs.Stored.{elements}
 use Rattle.order.specs.Before.{Acyclic}
 use Rattle.order.specs.Arcs.{StrictOrder}
-use Rattle.order.specs.Orders.{isBefore, Direct, order_in, joinedRows}
-use Rattle.order.proofs.Before.{before-map, acyclic-joined, before_same, strict-first}
-use Rattle.order.proofs.Orders.{order-means, order-strict, direct-order, direct-joined}
+use Rattle.order.specs.Orders.{is_before, Direct, order_in, joined_rows}
+use Rattle.order.proofs.Before.{before_map, acyclic_joined, before_same, strict_first}
+use Rattle.order.proofs.Orders.{order_means, order_strict, direct_order, direct_joined}
 use Rattle.plan.specs.Meaning.{Readable}
-use Rattle.plan.specs.model.Plans.{withExtra}
+use Rattle.plan.specs.model.Plans.{with_extra}
 use Rattle.plan.specs.declared.Plan.{Plan}
-use Rattle.flow_math.proofs.Theorems.{need-fewer}
-use Rattle.planner.specs.Faults.{isFine, orCause}
-use Rattle.planner.specs.Open.{planIn, rowsFor, rows_of, jobOrderFor, orderFor, planOrder, orCircle, Opens}
-use Rattle.planner.specs.Need.{demandFor, availableFor, needFor, overKind, isOverloaded, overCause, orOverloaded}
-use Rattle.planner.specs.Verdict.{planFault, isAccepted, verdictFault}
-use Rattle.planner.specs.model.Opening.{overloadIn}
+use Rattle.flow_math.proofs.Theorems.{need_fewer}
+use Rattle.planner.specs.Faults.{is_fine, or_cause}
+use Rattle.planner.specs.Open.{plan_in, rows_for, rows_of, job_order_for, order_for, plan_order, or_circle, Opens}
+use Rattle.planner.specs.Need.{demand_for, available_for, need_for, over_kind, is_overloaded, over_cause, or_overloaded}
+use Rattle.planner.specs.Verdict.{plan_fault, is_accepted, verdict_fault}
+use Rattle.planner.specs.model.Opening.{overload_in}
 use Rattle.planner.specs.model.Trimming.{fits_by}
 use Rattle.planner.specs.declared.Cause.{Cause}
 use Rattle.planner.specs.declared.Cause.TheVariants.{JobCircle, PlanCircle}
 use Rattle.planner.specs.declared.Fault.{Fault}
 use Rattle.planner.specs.declared.Fault.TheVariants.{Fine}
-use Rattle.planner.proofs.OpenLaws.{read_none, round-none}
-use Rattle.planner.proofs.FileOrders.{plan-arcs, opens-when}
+use Rattle.planner.proofs.OpenLaws.{read_none, round_none}
+use Rattle.planner.proofs.FileOrders.{plan_arcs, opens_when}
 use Rattle.planner.proofs.QuotedNeeds.{weighed}
 
 -- the next cause in turn, after none: it is fine where the test does not hold
-turn-fine : (b : Bool) (c : Cause) → isFine (orCause Fine b c) ≡ not b
-turn-fine true c = refl
-turn-fine false c = refl
+turn_fine : (b : Bool) (c : Cause) → is_fine (or_cause Fine b c) ≡ not b
+turn_fine true c = refl
+turn_fine false c = refl
 
 -- of a readable file, Verdict's fault is the plan's
-pub verdict-by-plan : (s : List ℕ) → Readable s → isFine (verdictFault s) ≡ isAccepted (planIn s)
-unfolding verdictFault isAccepted
-verdict-by-plan s e = ap (λ (f : Fault). isFine (planFault f (planIn s))) (read_none s e)
+pub verdict_by_plan : (s : List ℕ) → Readable s → is_fine (verdict_fault s) ≡ is_accepted (plan_in s)
+unfolding verdict_fault is_accepted
+verdict_by_plan s e = ap (λ (f : Fault). is_fine (plan_fault f (plan_in s))) (read_none s e)
 
 -- where the arcs lead nothing back to itself, the plan is accepted exactly where it is not overloaded
-pub accepted-by : (q : Plan) → Acyclic (Direct (rowsFor q)) → isAccepted q ≡ not (isOverloaded q)
-unfolding isAccepted
-accepted-by q free =
-    let job : Acyclic (Direct q.job) = acyclic-joined (λ i b. free i ((before_same (direct-joined q.job q.extra) i i).1 b)) in
-    let five = round-none Fine (jobOrderFor q) JobCircle (direct-order q.job) refl job in
-    let six = round-none (orCircle Fine (jobOrderFor q) JobCircle) (orderFor q) PlanCircle (direct-order (rowsFor q)) (ap isFine five) free in
-    ap (λ (f : Fault). isFine (orOverloaded f q)) six ∙ turn-fine (isOverloaded q) (overCause q)
+pub accepted_by : (q : Plan) → Acyclic (Direct (rows_for q)) → is_accepted q ≡ not (is_overloaded q)
+unfolding is_accepted
+accepted_by q free =
+    let job : Acyclic (Direct q.job) = acyclic_joined (λ i b. free i ((before_same (direct_joined q.job q.extra) i i).1 b)) in
+    let five = round_none Fine (job_order_for q) JobCircle (direct_order q.job) refl job in
+    let six = round_none (or_circle Fine (job_order_for q) JobCircle) (order_for q) PlanCircle (direct_order (rows_for q)) (ap is_fine five) free in
+    ap (λ (f : Fault). is_fine (or_overloaded f q)) six ∙ turn_fine (is_overloaded q) (over_cause q)
 
 -- ---- the plan of a file, without a circle
 
 module _ (s : List ℕ) (bytes : AreBytes s) (e : Readable s) (free : Acyclic (Direct (rows_of s))) where
   opens : Opens s
-  opens = (opens-when s).1 (e, λ i b. free i ((before_same (plan-arcs s e) i i).1 b))
+  opens = (opens_when s).1 (e, λ i b. free i ((before_same (plan_arcs s e) i i).1 b))
 
   -- what the search finds says whether it is accepted
-  pub accepted-fits : isAccepted (planIn s) ≡ fits_by (planIn s).count (planOrder s) (planIn s).demand (planIn s).available (planIn s).kinds
+  pub accepted_fits : is_accepted (plan_in s) ≡ fits_by (plan_in s).count (plan_order s) (plan_in s).demand (plan_in s).available (plan_in s).kinds
   unfolding fits_by
-  accepted-fits =
-      accepted-by (planIn s) free
-      ∙ sym (turn-fine (isOverloaded (planIn s)) (overCause (planIn s)))
-      ∙ ap isFine (sym (weighed s bytes Fine (λ t. opens)))
-      ∙ turn-fine (ltb (overloadIn (planOrder s) (planIn s)).kind (planIn s).kinds) _
+  accepted_fits =
+      accepted_by (plan_in s) free
+      ∙ sym (turn_fine (is_overloaded (plan_in s)) (over_cause (plan_in s)))
+      ∙ ap is_fine (sym (weighed s bytes Fine (λ t. opens)))
+      ∙ turn_fine (ltb (overload_in (plan_order s) (plan_in s)).kind (plan_in s).kinds) _
 
 -- ---- FEWER ARCS, NO SMALLER NEED: a plan that is accepted with some extra arcs is accepted with more, if these make no circle
 
-module _ (q : Plan) (a b : List ℕ) (few : q.count ≤ elements) (free : Acyclic (Direct (joinedRows q.job a)))
-    (fewer : (i j : ℕ) → Direct (joinedRows q.job b) i j → Direct (joinedRows q.job a) i j) where
-  strict : (rows : List ℕ) → Acyclic (Direct rows) → StrictOrder q.count (isBefore (order_in rows))
-  strict rows free = strict-first q.count elements (isBefore (order_in rows)) few (order-strict (direct-order rows) free)
+module _ (q : Plan) (a b : List ℕ) (few : q.count ≤ elements) (free : Acyclic (Direct (joined_rows q.job a)))
+    (fewer : (i j : ℕ) → Direct (joined_rows q.job b) i j → Direct (joined_rows q.job a) i j) where
+  strict : (rows : List ℕ) → Acyclic (Direct rows) → StrictOrder q.count (is_before (order_in rows))
+  strict rows free = strict_first q.count elements (is_before (order_in rows)) few (order_strict (direct_order rows) free)
 
-  acyclic-fewer : Acyclic (Direct (joinedRows q.job b))
-  acyclic-fewer i h = free i (before-map fewer h)
+  acyclic_fewer : Acyclic (Direct (joined_rows q.job b))
+  acyclic_fewer i h = free i (before_map fewer h)
 
-  pub need-more : (k : ℕ) → needFor (withExtra q a) k ≤ needFor (withExtra q b) k
-  unfolding needFor
-  need-more k =
-      need-fewer q.count (isBefore (order_in (joinedRows q.job a))) (isBefore (order_in (joinedRows q.job b))) (demandFor q k)
-      (strict (joinedRows q.job a) free) (strict (joinedRows q.job b) acyclic-fewer)
+  pub need_more : (k : ℕ) → need_for (with_extra q a) k ≤ need_for (with_extra q b) k
+  unfolding need_for
+  need_more k =
+      need_fewer q.count (is_before (order_in (joined_rows q.job a))) (is_before (order_in (joined_rows q.job b))) (demand_for q k)
+      (strict (joined_rows q.job a) free) (strict (joined_rows q.job b) acyclic_fewer)
       (λ i j li lj t.
-      (order-means (direct-order (joinedRows q.job a)) i j).1 (before-map fewer ((order-means (direct-order (joinedRows q.job b)) i j).0 t)))
+      (order_means (direct_order (joined_rows q.job a)) i j).1 (before_map fewer ((order_means (direct_order (joined_rows q.job b)) i j).0 t)))
 
-  overloaded-fewer : isOverloaded (withExtra q a) ≡ true → isOverloaded (withExtra q b) ≡ true
-  unfolding isOverloaded overKind
-  overloaded-fewer t =
-      let over : List ℕ → ℕ → Bool = λ rows k. ltb (availableFor q k) (needFor (withExtra q rows) k) in
+  overloaded_fewer : is_overloaded (with_extra q a) ≡ true → is_overloaded (with_extra q b) ≡ true
+  unfolding is_overloaded over_kind
+  overloaded_fewer t =
+      let over : List ℕ → ℕ → Bool = λ rows k. ltb (available_for q k) (need_for (with_extra q rows) k) in
       let k : ℕ = first q.kinds (over a) in
       let l = ltb-true k q.kinds t in
-      let here = ltb-true (availableFor q k) (needFor (withExtra q a) k) (at_first q.kinds (over a) l) in
-      let low = first_below q.kinds (over b) k (lt-ltb (availableFor q k) (needFor (withExtra q b) k) (omega (arith, here, need-more k))) in
+      let here = ltb-true (available_for q k) (need_for (with_extra q a) k) (at_first q.kinds (over a) l) in
+      let low = first_below q.kinds (over b) k (lt-ltb (available_for q k) (need_for (with_extra q b) k) (omega (arith, here, need_more k))) in
       lt-ltb (first q.kinds (over b)) q.kinds (omega (arith, low, l))
 
-  pub accepted-more : isAccepted (withExtra q b) ≡ true → isAccepted (withExtra q a) ≡ true
-  accepted-more t =
-      accepted-by (withExtra q a) free
-      ∙ ap not (fails (isOverloaded (withExtra q a))
-      (λ h. clash (sym (accepted-by (withExtra q b) acyclic-fewer) ∙ t) (ap not (overloaded-fewer h))))
+  pub accepted_more : is_accepted (with_extra q b) ≡ true → is_accepted (with_extra q a) ≡ true
+  accepted_more t =
+      accepted_by (with_extra q a) free
+      ∙ ap not (fails (is_overloaded (with_extra q a))
+      (λ h. clash (sym (accepted_by (with_extra q b) acyclic_fewer) ∙ t) (ap not (overloaded_fewer h))))

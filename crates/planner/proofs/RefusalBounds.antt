@@ -1,7 +1,7 @@
 -- What an operation refuses with is small, whatever the plan's bytes are and whatever is lent: the cause's number has 8
 -- bits, its two values have 32, and its set holds activities alone.
 --
---   open-refuses, verdict-refuses, needs-refuses, starts-refuses, overload-refuses, flow-refuses, sheet-refuses, trim-refuses, crew-refuses    what every operation does first, and the eight
+--   open_refuses, verdict_refuses, needs_refuses, starts_refuses, overload_refuses, flow_refuses, sheet_refuses, trim_refuses, crew_refuses    what every operation does first, and the eight
 use mathlib.Core.Path.{◌≡◌}
 use mathlib.Core.Bool.{Bool, true, not}
 use mathlib.Core.List.{List}
@@ -12,34 +12,34 @@ use lib.ListN.{length}
 use lib.Pow.{pow_pos}
 use Rattle.records.specs.Bytes.{AreBytes}
 use Rattle.order.specs.Stored.{number_of}
-use Rattle.order.proofs.Stored.{number-none}
-use Rattle.crew_sheet.specs.Sheet.{pageBytes}
+use Rattle.order.proofs.Stored.{number_none}
+use Rattle.crew_sheet.specs.Sheet.{page_bytes}
 use Rattle.plan.specs.Records.{activities}
-use Rattle.plan.proofs.CausePlaces.{told-small}
-use Rattle.solver.proofs.QuoteSound.{need-small}
-use Rattle.kinds.specs.Needs.{demandsFor}
-use Rattle.planner.specs.Numbers.{plain, refusalOf}
-use Rattle.planner.specs.Open.{planIn, planOrder, faultOf, Opens}
-use Rattle.planner.specs.Faults.{isFine, orCause, orShort}
-use Rattle.planner.specs.Need.{overKind, isOverloaded, overCause}
-use Rattle.planner.specs.Verdict.{verdictFault}
-use Rattle.planner.specs.Needs.{needsFault}
-use Rattle.planner.specs.Starts.{needed, startsFault}
-use Rattle.planner.specs.File.{flowLength}
-use Rattle.planner.specs.Flow.{isKind, kindFault, flowFault}
-use Rattle.planner.specs.Sheet.{isPage, sheetPages, sheetFault}
-use Rattle.planner.specs.Trim.{trimFault}
-use Rattle.planner.specs.Overload.{overloadFault}
-use Rattle.planner.specs.CrewCheck.{badLists, crewCheckFault}
+use Rattle.plan.proofs.CausePlaces.{told_small}
+use Rattle.solver.proofs.QuoteSound.{need_small}
+use Rattle.kinds.specs.Needs.{demands_for}
+use Rattle.planner.specs.Numbers.{plain, refusal_of}
+use Rattle.planner.specs.Open.{plan_in, plan_order, fault_of, Opens}
+use Rattle.planner.specs.Faults.{is_fine, or_cause, or_short}
+use Rattle.planner.specs.Need.{over_kind, is_overloaded, over_cause}
+use Rattle.planner.specs.Verdict.{verdict_fault}
+use Rattle.planner.specs.Needs.{needs_fault}
+use Rattle.planner.specs.Starts.{needed, starts_fault}
+use Rattle.planner.specs.File.{flow_length}
+use Rattle.planner.specs.Flow.{is_kind, kind_fault, flow_fault}
+use Rattle.planner.specs.Sheet.{is_page, sheet_pages, sheet_fault}
+use Rattle.planner.specs.Trim.{trim_fault}
+use Rattle.planner.specs.Overload.{overload_fault}
+use Rattle.planner.specs.CrewCheck.{bad_lists, crew_check_fault}
 use Rattle.planner.specs.declared.Cause.{Cause}
 use Rattle.planner.specs.declared.Cause.TheVariants.{NoKind, Short, Lists, NoPage}
 use Rattle.planner.specs.declared.Fault.{Fault}
 use Rattle.planner.specs.declared.Refusal.{Refusal}
-use Rattle.planner.proofs.FaultLaws.{cause-fine, short-fine, Every, every-turn}
-use Rattle.planner.proofs.OpenLaws.{count-few, count-within, opens-short, every-open}
-use Rattle.planner.proofs.QuotedNeeds.{kinds-few, need-quoted, quotable, over_below, set-fits}
-use Rattle.planner.proofs.FlowUnits.{length-few}
-use Rattle.planner.proofs.SheetLaws.{pages-small}
+use Rattle.planner.proofs.FaultLaws.{cause_fine, short_fine, Every, every_turn}
+use Rattle.planner.proofs.OpenLaws.{count_few, count_within, opens_short, every_open}
+use Rattle.planner.proofs.QuotedNeeds.{kinds_few, need_quoted, quotable, over_below, set_fits}
+use Rattle.planner.proofs.FlowUnits.{length_few}
+use Rattle.planner.proofs.SheetLaws.{pages_small}
 
 pub record Small (r : Refusal) : Type 0 where
   pub number : r.number < 256
@@ -47,100 +47,100 @@ pub record Small (r : Refusal) : Type 0 where
   pub second : r.second < 2 ^ 32
   pub members : number_of r.set < 2 ^ activities
 
-plain-small : (number values first : ℕ) → number < 256 → first < 2 ^ 32 → Small (plain number values first 0)
-plain-small number values first h l = record { number = h; first = l; second = omega arith; members = rw number-none (pow_pos activities) }
+plain_small : (number values first : ℕ) → number < 256 → first < 2 ^ 32 → Small (plain number values first 0)
+plain_small number values first h l = record { number = h; first = l; second = omega arith; members = rw number_none (pow_pos activities) }
 
 -- ---- a fault whose refusal is small, and the next cause in turn
 
 abbrev pub SmallFault : Fault → Type 0
-SmallFault f = Every (λ (c : Cause). Small (refusalOf c)) f
+SmallFault f = Every (λ (c : Cause). Small (refusal_of c)) f
 
-small-turn : (f : Fault) (t : Bool) (c : Cause) → SmallFault f → (isFine f ≡ true → t ≡ true → Small (refusalOf c)) → SmallFault (orCause f t c)
-small-turn = every-turn (λ (c : Cause). Small (refusalOf c))
+small_turn : (f : Fault) (t : Bool) (c : Cause) → SmallFault f → (is_fine f ≡ true → t ≡ true → Small (refusal_of c)) → SmallFault (or_cause f t c)
+small_turn = every_turn (λ (c : Cause). Small (refusal_of c))
 
 -- ---- the causes of the opening
 
-pub open-refuses : (s : List ℕ) → SmallFault (faultOf s)
-open-refuses s =
-    every-open (λ (c : Cause). Small (refusalOf c)) s
-    (λ u e. let w = told-small s u e in plain-small _ _ _ w.number (omega (arith, w.place)))
-    (λ i h. plain-small 5 1 _ (omega arith) (omega arith))
-    (λ i h. plain-small 6 1 _ (omega arith) (omega arith))
+pub open_refuses : (s : List ℕ) → SmallFault (fault_of s)
+open_refuses s =
+    every_open (λ (c : Cause). Small (refusal_of c)) s
+    (λ u e. let w = told_small s u e in plain_small _ _ _ w.number (omega (arith, w.place)))
+    (λ i h. plain_small 5 1 _ (omega arith) (omega arith))
+    (λ i h. plain_small 6 1 _ (omega arith) (omega arith))
 
 -- ---- 7, where the plan opens: the kind is at most 8, and no element demands more than 65,535
 
-over-small : (s : List ℕ) → AreBytes s → Opens s → isOverloaded (planIn s) ≡ true → Small (refusalOf (overCause (planIn s)))
-unfolding overCause
-over-small s small o e =
-    let k = overKind (planIn s) in
-    let l : k < 8 = omega (arith, over_below s small o e, kinds-few s) in
-    let n = need-small (planIn s).count (planOrder s) (demandsFor (planIn s).demand k) (quotable s small o k l) in
-    record { number = omega arith; first = omega arith; second = omega (arith, n, need-quoted s small o k l); members = set-fits s small o k l }
+over_small : (s : List ℕ) → AreBytes s → Opens s → is_overloaded (plan_in s) ≡ true → Small (refusal_of (over_cause (plan_in s)))
+unfolding over_cause
+over_small s small o e =
+    let k = over_kind (plan_in s) in
+    let l : k < 8 = omega (arith, over_below s small o e, kinds_few s) in
+    let n = need_small (plan_in s).count (plan_order s) (demands_for (plan_in s).demand k) (quotable s small o k l) in
+    record { number = omega arith; first = omega arith; second = omega (arith, n, need_quoted s small o k l); members = set_fits s small o k l }
 
 -- ---- Verdict, Needs, Starts, Overload
 
-pub verdict-refuses : (s : List ℕ) → AreBytes s → SmallFault (verdictFault s)
-unfolding verdictFault faultOf
-verdict-refuses s small = small-turn (faultOf s) (isOverloaded (planIn s)) (overCause (planIn s)) (open-refuses s) (over-small s small)
+pub verdict_refuses : (s : List ℕ) → AreBytes s → SmallFault (verdict_fault s)
+unfolding verdict_fault fault_of
+verdict_refuses s small = small_turn (fault_of s) (is_overloaded (plan_in s)) (over_cause (plan_in s)) (open_refuses s) (over_small s small)
 
-short-small : (f : Fault) (t : Bool) (n : ℕ) → n < 2 ^ 32 → SmallFault f → SmallFault (orCause f t (Short n))
-short-small f t n l small = small-turn f t (Short n) small (λ o e. plain-small 9 1 n (omega arith) l)
+short_small : (f : Fault) (t : Bool) (n : ℕ) → n < 2 ^ 32 → SmallFault f → SmallFault (or_cause f t (Short n))
+short_small f t n l small = small_turn f t (Short n) small (λ o e. plain_small 9 1 n (omega arith) l)
 
-pub needs-refuses : (s : List ℕ) (n : ℕ) → SmallFault (needsFault s n)
-unfolding needsFault
-needs-refuses s n = short-small (faultOf s) (ltb n (planIn s).kinds) (planIn s).kinds (omega (arith, kinds-few s)) (open-refuses s)
+pub needs_refuses : (s : List ℕ) (n : ℕ) → SmallFault (needs_fault s n)
+unfolding needs_fault
+needs_refuses s n = short_small (fault_of s) (ltb n (plan_in s).kinds) (plan_in s).kinds (omega (arith, kinds_few s)) (open_refuses s)
 
-pub starts-refuses : (s : List ℕ) (n : ℕ) → SmallFault (startsFault s n)
-unfolding startsFault
-starts-refuses s n = short-small (faultOf s) (ltb n (needed s)) (needed s) (omega (arith, count-few s)) (open-refuses s)
+pub starts_refuses : (s : List ℕ) (n : ℕ) → SmallFault (starts_fault s n)
+unfolding starts_fault
+starts_refuses s n = short_small (fault_of s) (ltb n (needed s)) (needed s) (omega (arith, count_few s)) (open_refuses s)
 
-pub overload-refuses : (s : List ℕ) (n : ℕ) → SmallFault (overloadFault s n)
-unfolding overloadFault
-overload-refuses s n = short-small (faultOf s) (ltb n 24) 24 (omega arith) (open-refuses s)
+pub overload_refuses : (s : List ℕ) (n : ℕ) → SmallFault (overload_fault s n)
+unfolding overload_fault
+overload_refuses s n = short_small (fault_of s) (ltb n 24) 24 (omega arith) (open_refuses s)
 
 -- ---- the operations on one kind, and Flow
 
-pub kind-refuses : (s : List ℕ) → AreBytes s → (kind n needed : ℕ) → needed < 2 ^ 32 → SmallFault (kindFault s kind n needed)
-kind-refuses s small kind n needed few =
-    small-turn roomy (isOverloaded (planIn s)) (overCause (planIn s))
-    (short-small known (ltb n needed) needed few
-    (small-turn (faultOf s) none (NoKind (planIn s).kinds) (open-refuses s) (λ o e. plain-small 8 1 _ (omega arith) (omega (arith, kinds-few s)))))
-    (λ e. over-small s small (cause-fine (faultOf s) none (NoKind (planIn s).kinds) (cause-fine known (ltb n needed) (Short needed) e).0).0)
+pub kind_refuses : (s : List ℕ) → AreBytes s → (kind n needed : ℕ) → needed < 2 ^ 32 → SmallFault (kind_fault s kind n needed)
+kind_refuses s small kind n needed few =
+    small_turn roomy (is_overloaded (plan_in s)) (over_cause (plan_in s))
+    (short_small known (ltb n needed) needed few
+    (small_turn (fault_of s) none (NoKind (plan_in s).kinds) (open_refuses s) (λ o e. plain_small 8 1 _ (omega arith) (omega (arith, kinds_few s)))))
+    (λ e. over_small s small (cause_fine (fault_of s) none (NoKind (plan_in s).kinds) (cause_fine known (ltb n needed) (Short needed) e).0).0)
   where
     none : Bool
-    none = not (isKind kind (planIn s).kinds)
+    none = not (is_kind kind (plan_in s).kinds)
 
     known : Fault
-    known = orCause (faultOf s) none (NoKind (planIn s).kinds)
+    known = or_cause (fault_of s) none (NoKind (plan_in s).kinds)
 
     roomy : Fault
-    roomy = orCause known (ltb n needed) (Short needed)
+    roomy = or_cause known (ltb n needed) (Short needed)
 
-pub flow-refuses : (s : List ℕ) → AreBytes s → (kind n : ℕ) → SmallFault (flowFault s kind n)
-unfolding flowFault
-flow-refuses s small kind n = kind-refuses s small kind n (flowLength (planIn s).count) (omega (arith, length-few (planIn s).count (count-within s)))
+pub flow_refuses : (s : List ℕ) → AreBytes s → (kind n : ℕ) → SmallFault (flow_fault s kind n)
+unfolding flow_fault
+flow_refuses s small kind n = kind_refuses s small kind n (flow_length (plan_in s).count) (omega (arith, length_few (plan_in s).count (count_within s)))
 
 -- ---- Sheet
 
-pub sheet-refuses : (s : List ℕ) → AreBytes s → (kind page n : ℕ) → SmallFault (sheetFault s kind page n)
-unfolding sheetFault
-sheet-refuses s small kind page n =
-    small-turn (kindFault s kind n pageBytes) (not (isPage page (sheetPages s kind))) (NoPage (sheetPages s kind)) (kind-refuses s small kind n pageBytes (omega arith))
-    (λ o e. plain-small 11 1 _ (omega arith) (omega (arith, pages-small s small kind n o)))
+pub sheet_refuses : (s : List ℕ) → AreBytes s → (kind page n : ℕ) → SmallFault (sheet_fault s kind page n)
+unfolding sheet_fault
+sheet_refuses s small kind page n =
+    small_turn (kind_fault s kind n page_bytes) (not (is_page page (sheet_pages s kind))) (NoPage (sheet_pages s kind)) (kind_refuses s small kind n page_bytes (omega arith))
+    (λ o e. plain_small 11 1 _ (omega arith) (omega (arith, pages_small s small kind n o)))
 
 -- ---- Trim
 
-pub trim-refuses : (s : List ℕ) → AreBytes s → (n : ℕ) → SmallFault (trimFault s n)
-unfolding trimFault
-trim-refuses s small n =
-    small-turn (orShort (faultOf s) n (length s)) (isOverloaded (planIn s)) (overCause (planIn s))
-    (small-turn (faultOf s) (ltb n (length s)) (Short (length s)) (open-refuses s) (λ o e. plain-small 9 1 (length s) (omega arith) (omega (arith, opens-short s o))))
-    (λ e. over-small s small (short-fine (faultOf s) n (length s) e).0)
+pub trim_refuses : (s : List ℕ) → AreBytes s → (n : ℕ) → SmallFault (trim_fault s n)
+unfolding trim_fault
+trim_refuses s small n =
+    small_turn (or_short (fault_of s) n (length s)) (is_overloaded (plan_in s)) (over_cause (plan_in s))
+    (small_turn (fault_of s) (ltb n (length s)) (Short (length s)) (open_refuses s) (λ o e. plain_small 9 1 (length s) (omega arith) (omega (arith, opens_short s o))))
+    (λ e. over_small s small (short_fine (fault_of s) n (length s) e).0)
 
 -- ---- Crew check
 
-pub crew-refuses : (s starts worked : List ℕ) → SmallFault (crewCheckFault s starts worked)
-unfolding crewCheckFault
-crew-refuses s starts worked =
-    small-turn (faultOf s) (badLists (planIn s).count (planIn s).duration starts worked) (Lists (planIn s).count) (open-refuses s)
-    (λ o e. plain-small 10 1 _ (omega arith) (omega (arith, count-few s)))
+pub crew_refuses : (s starts worked : List ℕ) → SmallFault (crew_check_fault s starts worked)
+unfolding crew_check_fault
+crew_refuses s starts worked =
+    small_turn (fault_of s) (bad_lists (plan_in s).count (plan_in s).duration starts worked) (Lists (plan_in s).count) (open_refuses s)
+    (λ o e. plain_small 10 1 _ (omega arith) (omega (arith, count_few s)))

@@ -5,137 +5,137 @@ use mathlib.Core.List.{List, ◌++◌}
 use Prim.Native.Nat.{ℕ, zero, suc, ◌+◌, ◌*◌, ◌-◌, ◌≤◌}
 use native.Mathlib.Omega.{arith}
 use lib.ListN.{length, drop, replicate, length-replicate, length-append}
-use borrow.Author.Tests.{not-false}
-use Rattle.words.proofs.Tables.{over-all}
+use borrow.Author.Tests.{not_false}
+use Rattle.words.proofs.Tables.{over_all}
 use Rattle.order.specs.Stored.{elements}
 use Rattle.order.specs.Before.{Acyclic}
 use Rattle.order.specs.Orders.{Direct}
 use Rattle.records.specs.Bytes.{AreBytes}
-use Rattle.records.specs.Records.{startingWith}
-use Rattle.crew_sheet.specs.Sheet.{pageBytes, pagesOf, sheetPage, mostLines}
-use Rattle.crew_sheet.proofs.Fronts.{page-front}
+use Rattle.records.specs.Records.{starting_with}
+use Rattle.crew_sheet.specs.Sheet.{page_bytes, pages_of, sheet_page, most_lines}
+use Rattle.crew_sheet.proofs.Fronts.{page_front}
 use Rattle.plan.specs.Meaning.{Readable}
 use Rattle.schedule.specs.model.Arrays.{AllAtMost}
 use Rattle.kinds.specs.model.Writing.{lent}
-use Rattle.planner.specs.Faults.{isFine, orCause}
-use Rattle.planner.specs.Open.{planIn, rows_of, Opens}
-use Rattle.planner.specs.Output.{outputOf, lentAfter}
-use Rattle.planner.specs.Need.{isOverloaded}
-use Rattle.planner.specs.File.{flowLength}
-use Rattle.planner.specs.Flow.{isKind, mostRecords, kindFault, flowFault, flowCount, recordBytes}
-use Rattle.planner.specs.Starts.{needed, startNumbers}
-use Rattle.planner.specs.Sheet.{isPage, pageFault, sheetPages, sheetFault, sheetAnswer, sheetOut}
+use Rattle.planner.specs.Faults.{is_fine, or_cause}
+use Rattle.planner.specs.Open.{plan_in, rows_of, Opens}
+use Rattle.planner.specs.Output.{output_of, lent_after}
+use Rattle.planner.specs.Need.{is_overloaded}
+use Rattle.planner.specs.File.{flow_length}
+use Rattle.planner.specs.Flow.{is_kind, most_records, kind_fault, flow_fault, flow_count, record_bytes}
+use Rattle.planner.specs.Starts.{needed, start_numbers}
+use Rattle.planner.specs.Sheet.{is_page, page_fault, sheet_pages, sheet_fault, sheet_answer, sheet_out}
 use Rattle.planner.specs.model.Opening.{opened_of}
-use Rattle.planner.specs.model.Records.{FlowAsked, flowPut}
-use Rattle.planner.specs.model.Sheets.{startsIn}
+use Rattle.planner.specs.model.Records.{FlowAsked, flow_put}
+use Rattle.planner.specs.model.Sheets.{starts_in}
 use Rattle.planner.specs.declared.Cause.TheVariants.{NoPage}
 use Rattle.planner.specs.declared.Fault.{Fault}
 use Rattle.planner.specs.declared.Fault.TheVariants.{Fine}
 use Rattle.planner.specs.declared.Output.{Output}
 use Rattle.planner.specs.declared.open.Opened.{Opened}
-use Rattle.planner.proofs.FaultLaws.{fine-is, cause-fine, cause-kept}
+use Rattle.planner.proofs.FaultLaws.{fine_is, cause_fine, cause_kept}
 use Rattle.planner.proofs.OutputLaws.{Ends, stops}
-use Rattle.planner.proofs.OpenLaws.{count-few, count-within, opens-readable, opens-plan, opens_small}
-use Rattle.planner.proofs.StartsLaws.{length-numbers}
-use Rattle.planner.proofs.FlowUnits.{length-few, records-length}
-use Rattle.planner.proofs.FlowLaws.{kind-within, kind-fine, fine-flow, records-few, flow-asked, written}
+use Rattle.planner.proofs.OpenLaws.{count_few, count_within, opens_readable, opens_plan, opens_small}
+use Rattle.planner.proofs.StartsLaws.{length_numbers}
+use Rattle.planner.proofs.FlowUnits.{length_few, records_length}
+use Rattle.planner.proofs.FlowLaws.{kind_within, kind_fine, fine_flow, records_few, flow_asked, written}
 
 -- ---- 11 in its turn, of a sheet of n records
 
-pub pages-few : (n k : ℕ) → n ≤ k → 1 ≤ k → pagesOf n ≤ k
-unfolding pagesOf
-pages-few n k h l = omega arith
+pub pages_few : (n k : ℕ) → n ≤ k → 1 ≤ k → pages_of n ≤ k
+unfolding pages_of
+pages_few n k h l = omega arith
 
 module _ (n page : ℕ) where
-  pub page-ends : {pages : ℕ} {t b : Bool} {f : Fault} → pages ≡ pagesOf n → t ≡ isPage page pages → f ≡ orCause Fine (not t) (NoPage pages) → b ≡ isFine f → Ends (pageFault n page) f b
-  page-ends p q e test = record { fault = e ∙ rw (q, p) refl; test = test }
+  pub page_ends : {pages : ℕ} {t b : Bool} {f : Fault} → pages ≡ pages_of n → t ≡ is_page page pages → f ≡ or_cause Fine (not t) (NoPage pages) → b ≡ is_fine f → Ends (page_fault n page) f b
+  page_ends p q e test = record { fault = e ∙ rw (q, p) refl; test = test }
 
-  pub page-there : isFine (pageFault n page) ≡ true → (1 ≤ page) × (page ≤ pagesOf n)
-  page-there e = kind-within page (pagesOf n) (not-false (isPage page (pagesOf n)) (cause-fine Fine (not (isPage page (pagesOf n))) (NoPage (pagesOf n)) e).1)
+  pub page_there : is_fine (page_fault n page) ≡ true → (1 ≤ page) × (page ≤ pages_of n)
+  page_there e = kind_within page (pages_of n) (not_false (is_page page (pages_of n)) (cause_fine Fine (not (is_page page (pages_of n))) (NoPage (pages_of n)) e).1)
 
 -- where 8, 9 and 7 are no cause, there are few pages
-pub pages-small : (s : List ℕ) → AreBytes s → (kind n : ℕ) → isFine (kindFault s kind n pageBytes) ≡ true → sheetPages s kind ≤ mostRecords
-pages-small s bytes kind n e = pages-few (flowCount (planIn s) (kind - 1)) mostRecords (records-few s bytes kind n pageBytes e) (omega arith)
+pub pages_small : (s : List ℕ) → AreBytes s → (kind n : ℕ) → is_fine (kind_fault s kind n page_bytes) ≡ true → sheet_pages s kind ≤ most_records
+pages_small s bytes kind n e = pages_few (flow_count (plan_in s) (kind - 1)) most_records (records_few s bytes kind n page_bytes e) (omega arith)
 
-pub sheet-few : (s : List ℕ) → AreBytes s → (kind page n : ℕ) → isFine (sheetFault s kind page n) ≡ true → sheetPages s kind ≤ mostRecords
-unfolding sheetFault
-sheet-few s bytes kind page n e =
-    pages-small s bytes kind n (cause-fine (kindFault s kind n pageBytes) (not (isPage page (sheetPages s kind))) (NoPage (sheetPages s kind)) e).0
+pub sheet_few : (s : List ℕ) → AreBytes s → (kind page n : ℕ) → is_fine (sheet_fault s kind page n) ≡ true → sheet_pages s kind ≤ most_records
+unfolding sheet_fault
+sheet_few s bytes kind page n e =
+    pages_small s bytes kind n (cause_fine (kind_fault s kind n page_bytes) (not (is_page page (sheet_pages s kind))) (NoPage (sheet_pages s kind)) e).0
 
 -- ---- the starts, with zeros behind them
 
-zeros-left : (k n : ℕ) → drop {A = ℕ} n (replicate k 0) ≡ replicate (k - n) 0
-zeros-left k zero = ap (λ (x : ℕ). replicate x 0) (let e : k ≡ k - 0 = omega arith in e)
-zeros-left zero (suc n) = ap (λ (x : ℕ). replicate x 0) (let e : 0 ≡ 0 - suc n = omega arith in e)
-zeros-left (suc k) (suc n) = zeros-left k n ∙ ap (λ (x : ℕ). replicate x 0) (let e : k - n ≡ suc k - suc n = omega arith in e)
+zeros_left : (k n : ℕ) → drop {A = ℕ} n (replicate k 0) ≡ replicate (k - n) 0
+zeros_left k zero = ap (λ (x : ℕ). replicate x 0) (let e : k ≡ k - 0 = omega arith in e)
+zeros_left zero (suc n) = ap (λ (x : ℕ). replicate x 0) (let e : 0 ≡ 0 - suc n = omega arith in e)
+zeros_left (suc k) (suc n) = zeros_left k n ∙ ap (λ (x : ℕ). replicate x 0) (let e : k - n ≡ suc k - suc n = omega arith in e)
 
-pub starts-room : (s : List ℕ) → startsIn s (rows_of s) (planIn s) ≡ startNumbers s ++ replicate (elements + 1 - needed s) 0
-unfolding startNumbers
-starts-room s =
-    over-all (needed s) (startNumbers s) (replicate (elements + 1) 0) (length-numbers s)
-    ∙ ap (λ (n : ℕ). startNumbers s ++ drop n (replicate (elements + 1) 0)) (length-numbers s)
-    ∙ ap (λ (l : List ℕ). startNumbers s ++ l) (zeros-left (elements + 1) (needed s))
+pub starts_room : (s : List ℕ) → starts_in s (rows_of s) (plan_in s) ≡ start_numbers s ++ replicate (elements + 1 - needed s) 0
+unfolding start_numbers
+starts_room s =
+    over_all (needed s) (start_numbers s) (replicate (elements + 1) 0) (length_numbers s)
+    ∙ ap (λ (n : ℕ). start_numbers s ++ drop n (replicate (elements + 1) 0)) (length_numbers s)
+    ∙ ap (λ (l : List ℕ). start_numbers s ++ l) (zeros_left (elements + 1) (needed s))
 
 -- ---- what the code holds: `o` is the plan that was opened
 
 module _ (s : List ℕ) (kind page : ℕ) (out : List ℕ) where
   -- 8, 9 or 7 it was: 11 has no turn
-  pub stopped : {f : Fault} {b : Bool} → (e : Ends (kindFault s kind (length out) pageBytes) f b) → not b ≡ true → Ends (sheetFault s kind page (length out)) f b
-  unfolding sheetFault
-  stopped e h = record { fault = e.fault ∙ cause-kept (kindFault s kind (length out) pageBytes) (not (isPage page (sheetPages s kind))) (NoPage (sheetPages s kind)) (stops e h); test = e.test }
+  pub stopped : {f : Fault} {b : Bool} → (e : Ends (kind_fault s kind (length out) page_bytes) f b) → not b ≡ true → Ends (sheet_fault s kind page (length out)) f b
+  unfolding sheet_fault
+  stopped e h = record { fault = e.fault ∙ cause_kept (kind_fault s kind (length out) page_bytes) (not (is_page page (sheet_pages s kind))) (NoPage (sheet_pages s kind)) (stops e h); test = e.test }
 
-  module _ (bytes : AreBytes s) {o : Opened} (held : o ≡ opened_of s) (e : isFine (kindFault s kind (length out) pageBytes) ≡ true) where
-    goes : Opens s × (isKind kind (planIn s).kinds ≡ true) × (pageBytes ≤ length out) × (isOverloaded (planIn s) ≡ false)
-    goes = kind-fine s kind (length out) pageBytes e
+  module _ (bytes : AreBytes s) {o : Opened} (held : o ≡ opened_of s) (e : is_fine (kind_fault s kind (length out) page_bytes) ≡ true) where
+    goes : Opens s × (is_kind kind (plan_in s).kinds ≡ true) × (page_bytes ≤ length out) × (is_overloaded (plan_in s) ≡ false)
+    goes = kind_fine s kind (length out) page_bytes e
 
     pub counts : 1 ≤ kind
-    counts = (kind-within kind (planIn s).kinds goes.1).0
+    counts = (kind_within kind (plan_in s).kinds goes.1).0
 
-    pub starts-asked : (o.plan.count ≤ elements) × Readable s × Acyclic (Direct o.rows) × AllAtMost 65535 o.plan.duration
-    starts-asked = rw held (count-few s, opens-readable s goes.0, opens-plan s goes.0, opens_small s bytes goes.0)
+    pub starts_asked : (o.plan.count ≤ elements) × Readable s × Acyclic (Direct o.rows) × AllAtMost 65535 o.plan.duration
+    starts_asked = rw held (count_few s, opens_readable s goes.0, opens_plan s goes.0, opens_small s bytes goes.0)
 
     -- the room for the records of any flow
     abbrev room : List ℕ
-    room = replicate (24 * mostRecords) 0
+    room = replicate (24 * most_records) 0
 
-    roomy : flowLength (planIn s).count ≤ length room
-    roomy = rw (length-replicate {A = ℕ} (24 * mostRecords) 0) (length-few (planIn s).count (count-within s))
+    roomy : flow_length (plan_in s).count ≤ length room
+    roomy = rw (length-replicate {A = ℕ} (24 * most_records) 0) (length_few (plan_in s).count (count_within s))
 
-    flows : isFine (flowFault s kind (length room)) ≡ true
-    flows = ap isFine (fine-flow s kind (length room) goes.0 goes.1 roomy goes.3)
+    flows : is_fine (flow_fault s kind (length room)) ≡ true
+    flows = ap is_fine (fine_flow s kind (length room) goes.0 goes.1 roomy goes.3)
 
-    pub records-asked : FlowAsked o.order o.plan (kind - 1) room
-    records-asked = flow-asked s kind room bytes held flows
+    pub records_asked : FlowAsked o.order o.plan (kind - 1) room
+    records_asked = flow_asked s kind room bytes held flows
 
     -- `n` records are in `records`, the starts in `starts`
-    module _ {n : ℕ} {records starts : List ℕ} (put : lent n records ≡ flowPut o.order o.job o.plan (kind - 1) room) (begin : starts ≡ startsIn s o.rows o.plan) where
-      has : (n ≡ flowCount (planIn s) (kind - 1)) × (records ≡ startingWith (recordBytes (planIn s) (kind - 1)) room)
+    module _ {n : ℕ} {records starts : List ℕ} (put : lent n records ≡ flow_put o.order o.job o.plan (kind - 1) room) (begin : starts ≡ starts_in s o.rows o.plan) where
+      has : (n ≡ flow_count (plan_in s) (kind - 1)) × (records ≡ starting_with (record_bytes (plan_in s) (kind - 1)) room)
       has = written s kind room bytes held flows put
 
-      pub print-asked : (pageBytes ≤ length out) × (n ≤ mostLines) × (24 * n ≤ length records)
-      print-asked = (
+      pub print_asked : (page_bytes ≤ length out) × (n ≤ most_lines) × (24 * n ≤ length records)
+      print_asked = (
         goes.2,
-        omega (arith, has.0, records-few s bytes kind (length out) pageBytes e),
-        omega (arith, has.0, ap length has.1, length-append (recordBytes (planIn s) (kind - 1)) (drop (length (recordBytes (planIn s) (kind - 1))) room), records-length (planIn s) (kind - 1)),
+        omega (arith, has.0, records_few s bytes kind (length out) page_bytes e),
+        omega (arith, has.0, ap length has.1, length-append (record_bytes (plan_in s) (kind - 1)) (drop (length (record_bytes (plan_in s) (kind - 1))) room), records_length (plan_in s) (kind - 1)),
       )
 
       -- the page is that of Flow's records and Starts' numbers: what stands behind them does not matter
-      same : sheetPage records starts n kind page ≡ sheetPage (recordBytes (planIn s) (kind - 1)) (startNumbers s) (flowCount (planIn s) (kind - 1)) kind page
+      same : sheet_page records starts n kind page ≡ sheet_page (record_bytes (plan_in s) (kind - 1)) (start_numbers s) (flow_count (plan_in s) (kind - 1)) kind page
       same =
-          rw (has.0, has.1, begin, held, starts-room s)
-          (page-front (recordBytes (planIn s) (kind - 1)) (drop (length (recordBytes (planIn s) (kind - 1))) room) (startNumbers s) (elements + 1 - needed s) (flowCount (planIn s) (kind - 1)) kind page
-          (omega (arith, records-length (planIn s) (kind - 1))))
+          rw (has.0, has.1, begin, held, starts_room s)
+          (page_front (record_bytes (plan_in s) (kind - 1)) (drop (length (record_bytes (plan_in s) (kind - 1))) room) (start_numbers s) (elements + 1 - needed s) (flow_count (plan_in s) (kind - 1)) kind page
+          (omega (arith, records_length (plan_in s) (kind - 1))))
 
-      fault : pageFault n page ≡ sheetFault s kind page (length out)
-      unfolding sheetFault
+      fault : page_fault n page ≡ sheet_fault s kind page (length out)
+      unfolding sheet_fault
       fault =
-          ap (λ (x : ℕ). pageFault x page) has.0
-          ∙ ap (λ (f : Fault). orCause f (not (isPage page (sheetPages s kind))) (NoPage (sheetPages s kind))) (sym (fine-is (kindFault s kind (length out) pageBytes) e))
+          ap (λ (x : ℕ). page_fault x page) has.0
+          ∙ ap (λ (f : Fault). or_cause f (not (is_page page (sheet_pages s kind))) (NoPage (sheet_pages s kind))) (sym (fine_is (kind_fault s kind (length out) page_bytes) e))
 
-      pub printed : {r : Output} {after : List ℕ} → r ≡ outputOf (pageFault n page) (pagesOf n) → after ≡ lentAfter (pageFault n page) (sheetPage records starts n kind page) out
-          → (r ≡ sheetAnswer s kind page (length out)) × (after ≡ sheetOut s kind page out)
-      unfolding sheetOut
+      pub printed : {r : Output} {after : List ℕ} → r ≡ output_of (page_fault n page) (pages_of n) → after ≡ lent_after (page_fault n page) (sheet_page records starts n kind page) out
+          → (r ≡ sheet_answer s kind page (length out)) × (after ≡ sheet_out s kind page out)
+      unfolding sheet_out
       printed q w = (
-        q ∙ ap₂ outputOf fault (ap pagesOf has.0),
-        w ∙ ap₂ (λ (f : Fault) (l : List ℕ). lentAfter f l out) fault same,
+        q ∙ ap₂ output_of fault (ap pages_of has.0),
+        w ∙ ap₂ (λ (f : Fault) (l : List ℕ). lent_after f l out) fault same,
       )

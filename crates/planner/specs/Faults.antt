@@ -5,15 +5,15 @@ use Rattle.planner.specs.declared.Cause.TheVariants.{Short}
 use Rattle.planner.specs.declared.Fault.{Fault}
 use Rattle.planner.specs.declared.Fault.TheVariants.{Fine, Refused}
 
-abbrev pub isFine : Fault → Bool
-isFine Fine = true
-isFine (Refused c) = false
+abbrev pub is_fine : Fault → Bool
+is_fine Fine = true
+is_fine (Refused c) = false
 
 -- the next cause in turn is the fault where there is none yet and its test holds
-abbrev pub orCause : Fault → Bool → Cause → Fault
-orCause Fine test cause = cond test (Refused cause) Fine
-orCause (Refused c) test cause = Refused c
+abbrev pub or_cause : Fault → Bool → Cause → Fault
+or_cause Fine test cause = cond test (Refused cause) Fine
+or_cause (Refused c) test cause = Refused c
 
 -- 9, "lent slice too short", with the "length needed"
-abbrev pub orShort : Fault → ℕ → ℕ → Fault
-orShort f lent needed = orCause f (ltb lent needed) (Short needed)
+abbrev pub or_short : Fault → ℕ → ℕ → Fault
+or_short f lent needed = or_cause f (ltb lent needed) (Short needed)

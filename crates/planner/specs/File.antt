@@ -3,8 +3,8 @@
 use Rattle.std.specs.Prelude.{◌≡◌, Bool, true, cond, List, ◌⊎◌, ℕ, zero, suc, ◌+◌, ◌-◌, ◌*◌, ◌/◌, ◌≤◌, ◌<◌}
 use Rattle.order.specs.Before.{Before}
 use Rattle.words.specs.Sums.{sum}
-use Rattle.plan.specs.Records.{activityCount}
-use Rattle.plan.specs.Meaning.{JobArc, FileArc, fileDemand, fileAvailable}
+use Rattle.plan.specs.Records.{activity_count}
+use Rattle.plan.specs.Meaning.{JobArc, FileArc, file_demand, file_available}
 
 -- ---- need: "Two activities are ordered when one is before the other in the plan order"
 -- (01, Need and overload)
@@ -14,25 +14,25 @@ abbrev pub Unrelated : List ℕ → (ℕ → Bool) → Type 0
 Unrelated s S = (i j : ℕ) → S i ≡ true → S j ≡ true → Before (FileArc s) i j → ⊥
 
 -- the sum of the demands of kind k over a set of activities
-abbrev pub demandSum : List ℕ → ℕ → (ℕ → Bool) → ℕ
-demandSum s k S = sum (activityCount s) (λ i. cond (S i) (fileDemand s k i) 0)
+abbrev pub demand_sum : List ℕ → ℕ → (ℕ → Bool) → ℕ
+demand_sum s k S = sum (activity_count s) (λ i. cond (S i) (file_demand s k i) 0)
 
 -- ---- a flow of kind k: g u v units pass from node u to node v (01, Flow)
 
 -- "0 is the start and m+1 the end: .. 0 before all others and m+1 after all others." (01, Order)
 abbrev pub NodeBefore : List ℕ → ℕ → ℕ → Type 0
 NodeBefore s zero zero = ⊥
-NodeBefore s zero (suc j) = j ≤ activityCount s
+NodeBefore s zero (suc j) = j ≤ activity_count s
 NodeBefore s (suc i) zero = ⊥
-NodeBefore s (suc i) (suc j) = (i < activityCount s) × ((j ≡ activityCount s) ⊎ Before (FileArc s) i j)
+NodeBefore s (suc i) (suc j) = (i < activity_count s) × ((j ≡ activity_count s) ⊎ Before (FileArc s) i j)
 
 pub record FileFlow (s : List ℕ) (k : ℕ) (g : ℕ → ℕ → ℕ) : Type 0 where
   -- the paper's equation (1): "Into and out of each activity goes its demand"
-  pub into : (j : ℕ) → j < activityCount s → sum (activityCount s + 2) (λ u. g u (j + 1)) ≡ fileDemand s k j
-  pub out : (i : ℕ) → i < activityCount s → sum (activityCount s + 2) (λ v. g (i + 1) v) ≡ fileDemand s k i
+  pub into : (j : ℕ) → j < activity_count s → sum (activity_count s + 2) (λ u. g u (j + 1)) ≡ file_demand s k j
+  pub out : (i : ℕ) → i < activity_count s → sum (activity_count s + 2) (λ v. g (i + 1) v) ≡ file_demand s k i
   -- equation (2): "out of 0 and into m+1 goes the availability"
-  pub start : sum (activityCount s + 2) (λ v. g 0 v) ≡ fileAvailable s k
-  pub finish : sum (activityCount s + 2) (λ u. g u (activityCount s + 1)) ≡ fileAvailable s k
+  pub start : sum (activity_count s + 2) (λ v. g 0 v) ≡ file_available s k
+  pub finish : sum (activity_count s + 2) (λ u. g u (activity_count s + 1)) ≡ file_available s k
   -- "Positive units pass only where i is before j in the plan order, so none into 0, none out of m+1 and
   -- none from a node to itself."
   pub along : (u v : ℕ) → 0 < g u v → NodeBefore s u v
@@ -43,9 +43,9 @@ pub record FileFlow (s : List ℕ) (k : ℕ) (g : ℕ → ℕ → ℕ) : Type 0 
 abbrev pub Added : List ℕ → ℕ → ℕ → Type 0
 Added s zero v = ⊥
 Added s (suc i) zero = ⊥
-Added s (suc i) (suc j) = (i < activityCount s) × (j < activityCount s) × (Before (JobArc s) i j → ⊥)
+Added s (suc i) (suc j) = (i < activity_count s) × (j < activity_count s) × (Before (JobArc s) i j → ⊥)
 
 -- "for Flow 24 × (m(m−1)/2 + 2m + 1) bytes" (01, Operations and causes): how much has to be lent
 -- for the flow of m activities
-unfoldable pub flowLength : ℕ → ℕ
-flowLength m = 24 * (m * (m - 1) / 2 + 2 * m + 1)
+unfoldable pub flow_length : ℕ → ℕ
+flow_length m = 24 * (m * (m - 1) / 2 + 2 * m + 1)

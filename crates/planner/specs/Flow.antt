@@ -1,66 +1,66 @@
 -- Flow: what it answers, and what the lent bytes then hold.
 use Rattle.std.specs.Prelude.{Bool, not, ◌&&◌, List, ℕ, ◌+◌, ◌-◌, ◌*◌, ◌/◌, ltb, leb, length}
-use Rattle.order.specs.Orders.{isBefore}
+use Rattle.order.specs.Orders.{is_before}
 use Rattle.plan.specs.Records.{activities}
 use Rattle.plan.specs.declared.Plan.{Plan}
-use Rattle.flow_math.specs.Flow.{nodeFlow}
+use Rattle.flow_math.specs.Flow.{node_flow}
 use Rattle.solver.specs.model.Network.{handed}
 use Rattle.solver.specs.model.Quote.{flow_of}
-use Rattle.kinds.specs.Needs.{demandsFor}
-use Rattle.kinds.specs.Flows.{mark_of, flowBytes, pairsOf}
-use Rattle.planner.specs.File.{flowLength}
-use Rattle.planner.specs.Faults.{orCause, orShort}
-use Rattle.planner.specs.Open.{planIn, jobOrderFor, orderFor, faultOf}
-use Rattle.planner.specs.Output.{outputOf, lentAfter}
-use Rattle.planner.specs.Need.{demandFor, availableFor, needFor, orOverloaded}
+use Rattle.kinds.specs.Needs.{demands_for}
+use Rattle.kinds.specs.Flows.{mark_of, flow_bytes, pairs_of}
+use Rattle.planner.specs.File.{flow_length}
+use Rattle.planner.specs.Faults.{or_cause, or_short}
+use Rattle.planner.specs.Open.{plan_in, job_order_for, order_for, fault_of}
+use Rattle.planner.specs.Output.{output_of, lent_after}
+use Rattle.planner.specs.Need.{demand_for, available_for, need_for, or_overloaded}
 use Rattle.planner.specs.declared.Cause.TheVariants.{NoKind}
 use Rattle.planner.specs.declared.Fault.{Fault}
 use Rattle.planner.specs.declared.Output.{Output}
 
 -- "kind not 1 to K"
-abbrev pub isKind : ℕ → ℕ → Bool
-isKind kind n = ltb 0 kind && leb kind n
+abbrev pub is_kind : ℕ → ℕ → Bool
+is_kind kind n = ltb 0 kind && leb kind n
 
 -- no file's flow has more records
-abbrev pub mostRecords : ℕ
-mostRecords = activities * (activities - 1) / 2 + 2 * activities + 1
+abbrev pub most_records : ℕ
+most_records = activities * (activities - 1) / 2 + 2 * activities + 1
 
 -- "8, 9, 7 (any kind's overload)", of an operation on one kind: n bytes are lent, and so many are needed
-abbrev pub kindFault : List ℕ → ℕ → ℕ → ℕ → Fault
-kindFault s kind n needed =
-    let q = planIn s in
-    let known = orCause (faultOf s) (not (isKind kind q.kinds)) (NoKind q.kinds) in
-    orOverloaded (orShort known n needed) q
+abbrev pub kind_fault : List ℕ → ℕ → ℕ → ℕ → Fault
+kind_fault s kind n needed =
+    let q = plan_in s in
+    let known = or_cause (fault_of s) (not (is_kind kind q.kinds)) (NoKind q.kinds) in
+    or_overloaded (or_short known n needed) q
 
 -- "Flow: 8, 9, 7 (any kind's overload)."
-unfoldable pub flowFault : List ℕ → ℕ → ℕ → Fault
-flowFault s kind n = kindFault s kind n (flowLength (planIn s).count)
+unfoldable pub flow_fault : List ℕ → ℕ → ℕ → Fault
+flow_fault s kind n = kind_fault s kind n (flow_length (plan_in s).count)
 
 -- THE FLOW SHOWN is free: it is what the solver hands over from activity to activity, with what the start and
--- the end then pass and take. That it is a flow of the paper's is `file-flow` of
+-- the end then pass and take. That it is a flow of the paper's is `file_flow` of
 -- promises/proofs/FileFlows.antt. From node u to node v, where node 0 is the start and m + 1 the end, pass
-unfoldable pub flowUnits : Plan → ℕ → ℕ → ℕ → ℕ
-flowUnits q k u v =
-    nodeFlow q.count (demandFor q k)
-    (handed (flow_of q.count (orderFor q) (demandsFor q.demand k)))
-    (needFor q k) (availableFor q k) u v
+unfoldable pub flow_units : Plan → ℕ → ℕ → ℕ → ℕ
+flow_units q k u v =
+    node_flow q.count (demand_for q k)
+    (handed (flow_of q.count (order_for q) (demands_for q.demand k)))
+    (need_for q k) (available_for q k) u v
 
 -- the added mark of a pair of nodes, by the job order. (In the file's own terms it is `Added` of File:
--- `mark-added` of proofs/MarkLaws.antt.)
-abbrev pub flowMark : Plan → ℕ → ℕ → ℕ
-flowMark q = mark_of (isBefore (jobOrderFor q)) q.count
+-- `mark_added` of proofs/MarkLaws.antt.)
+abbrev pub flow_mark : Plan → ℕ → ℕ → ℕ
+flow_mark q = mark_of (is_before (job_order_for q)) q.count
 
 -- "One record for each pair with positive units": how many, and their bytes
-unfoldable pub flowCount : Plan → ℕ → ℕ
-flowCount q k = pairsOf (flowUnits q k) (q.count + 2)
+unfoldable pub flow_count : Plan → ℕ → ℕ
+flow_count q k = pairs_of (flow_units q k) (q.count + 2)
 
-unfoldable pub recordBytes : Plan → ℕ → List ℕ
-recordBytes q k = flowBytes (k + 1) (flowUnits q k) (flowMark q) (q.count + 2)
+unfoldable pub record_bytes : Plan → ℕ → List ℕ
+record_bytes q k = flow_bytes (k + 1) (flow_units q k) (flow_mark q) (q.count + 2)
 
 -- THE ANSWER: "Flow returns its record count"
-abbrev pub flowAnswer : List ℕ → ℕ → ℕ → Output
-flowAnswer s kind n = outputOf (flowFault s kind n) (flowCount (planIn s) (kind - 1))
+abbrev pub flow_answer : List ℕ → ℕ → ℕ → Output
+flow_answer s kind n = output_of (flow_fault s kind n) (flow_count (plan_in s) (kind - 1))
 
 -- THE LENT BYTES
-unfoldable pub flowOut : List ℕ → ℕ → List ℕ → List ℕ
-flowOut s kind out = lentAfter (flowFault s kind (length out)) (recordBytes (planIn s) (kind - 1)) out
+unfoldable pub flow_out : List ℕ → ℕ → List ℕ → List ℕ
+flow_out s kind out = lent_after (flow_fault s kind (length out)) (record_bytes (plan_in s) (kind - 1)) out

@@ -2,33 +2,33 @@
 use Rattle.std.specs.Prelude.{cond, List, [], ℕ, ◌+◌, length}
 use Rattle.order.specs.Stored.{number_of}
 use Rattle.order.specs.Sets.{size_of}
-use Rattle.records.specs.Records.{overloadRecord}
+use Rattle.records.specs.Records.{overload_record}
 use Rattle.plan.specs.declared.Plan.{Plan}
-use Rattle.planner.specs.Faults.{orShort}
-use Rattle.planner.specs.Open.{planIn, faultOf}
-use Rattle.planner.specs.Output.{outputOf, lentAfter}
-use Rattle.planner.specs.Need.{needFor, overKind, isOverloaded, shownSet}
+use Rattle.planner.specs.Faults.{or_short}
+use Rattle.planner.specs.Open.{plan_in, fault_of}
+use Rattle.planner.specs.Output.{output_of, lent_after}
+use Rattle.planner.specs.Need.{need_for, over_kind, is_overloaded, shown_set}
 use Rattle.planner.specs.declared.Fault.{Fault}
 use Rattle.planner.specs.declared.Output.{Output}
 
 -- "Needs, Starts, Overload: 9.": "24 bytes for Overload", also where the plan is accepted; n bytes are lent
-unfoldable pub overloadFault : List ℕ → ℕ → Fault
-overloadFault s n = orShort (faultOf s) n 24
+unfoldable pub overload_fault : List ℕ → ℕ → Fault
+overload_fault s n = or_short (fault_of s) n 24
 
 -- "Overload: its record, or "none" when accepted.": how many records that are, and their bytes
-unfoldable pub overCount : Plan → ℕ
-overCount q = cond (isOverloaded q) 1 0
+unfoldable pub over_count : Plan → ℕ
+over_count q = cond (is_overloaded q) 1 0
 
-unfoldable pub overBytes : Plan → List ℕ
-overBytes q =
-    let bytes = overloadRecord (overKind q + 1) (size_of (shownSet q (overKind q)))
-    (needFor q (overKind q)) (number_of (shownSet q (overKind q))) in
-    cond (isOverloaded q) bytes []
+unfoldable pub over_bytes : Plan → List ℕ
+over_bytes q =
+    let bytes = overload_record (over_kind q + 1) (size_of (shown_set q (over_kind q)))
+    (need_for q (over_kind q)) (number_of (shown_set q (over_kind q))) in
+    cond (is_overloaded q) bytes []
 
 -- THE ANSWER
-abbrev pub overloadAnswer : List ℕ → ℕ → Output
-overloadAnswer s n = outputOf (overloadFault s n) (overCount (planIn s))
+abbrev pub overload_answer : List ℕ → ℕ → Output
+overload_answer s n = output_of (overload_fault s n) (over_count (plan_in s))
 
 -- THE LENT BYTES
-unfoldable pub overloadOut : List ℕ → List ℕ → List ℕ
-overloadOut s out = lentAfter (overloadFault s (length out)) (overBytes (planIn s)) out
+unfoldable pub overload_out : List ℕ → List ℕ → List ℕ
+overload_out s out = lent_after (overload_fault s (length out)) (over_bytes (plan_in s)) out

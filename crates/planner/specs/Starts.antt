@@ -2,42 +2,42 @@
 use Rattle.std.specs.Prelude.{cond, List, ℕ, ◌+◌, ltb, length, get_or}
 use Rattle.words.specs.Tables.{table}
 use Rattle.schedule.specs.Starts.{end_of}
-use Rattle.schedule.specs.model.Arrays.{startsOf}
+use Rattle.schedule.specs.model.Arrays.{starts_of}
 use Rattle.schedule.specs.Lists.{at}
-use Rattle.planner.specs.Faults.{orShort}
-use Rattle.planner.specs.Open.{planIn, rows_of, faultOf}
-use Rattle.planner.specs.Times.{arcWeight}
-use Rattle.planner.specs.Output.{outputOf, lentAfter}
+use Rattle.planner.specs.Faults.{or_short}
+use Rattle.planner.specs.Open.{plan_in, rows_of, fault_of}
+use Rattle.planner.specs.Times.{arc_weight}
+use Rattle.planner.specs.Output.{output_of, lent_after}
 use Rattle.planner.specs.declared.Fault.{Fault}
 use Rattle.planner.specs.declared.Output.{Output}
 
 -- "Starts: m+1 numbers, activities 1 to m and then the end."
 abbrev pub needed : List ℕ → ℕ
-needed s = (planIn s).count + 1
+needed s = (plan_in s).count + 1
 
 -- "Needs, Starts, Overload: 9."; n numbers are lent
-unfoldable pub startsFault : List ℕ → ℕ → Fault
-startsFault s n = orShort (faultOf s) n (needed s)
+unfoldable pub starts_fault : List ℕ → ℕ → Fault
+starts_fault s n = or_short (fault_of s) n (needed s)
 
 -- THE ANSWER
-abbrev pub startsAnswer : List ℕ → ℕ → Output
-startsAnswer s n = outputOf (startsFault s n) (needed s)
+abbrev pub starts_answer : List ℕ → ℕ → Output
+starts_answer s n = output_of (starts_fault s n) (needed s)
 
 -- the earliest starts of all elements, by the plan's arcs, and the file's durations and waits
-abbrev pub firstStarts : List ℕ → List ℕ
-firstStarts s = startsOf (rows_of s) (arcWeight s (at (planIn s).duration))
+abbrev pub first_starts : List ℕ → List ℕ
+first_starts s = starts_of (rows_of s) (arc_weight s (at (plan_in s).duration))
 
 -- the start of the end: "the end still follows the last finish" (02, change 5)
-abbrev pub endStart : List ℕ → ℕ
-endStart s = end_of (planIn s).count (at (firstStarts s)) (at (planIn s).duration)
+abbrev pub end_start : List ℕ → ℕ
+end_start s = end_of (plan_in s).count (at (first_starts s)) (at (plan_in s).duration)
 
 -- the first m of the starts, and one number more
-unfoldable pub withEnd : ℕ → List ℕ → ℕ → List ℕ
-withEnd m starts end = table (m + 1) (λ i. cond (ltb i m) (get_or starts i 0) end)
+unfoldable pub with_end : ℕ → List ℕ → ℕ → List ℕ
+with_end m starts end = table (m + 1) (λ i. cond (ltb i m) (get_or starts i 0) end)
 
-unfoldable pub startNumbers : List ℕ → List ℕ
-startNumbers s = withEnd (planIn s).count (firstStarts s) (endStart s)
+unfoldable pub start_numbers : List ℕ → List ℕ
+start_numbers s = with_end (plan_in s).count (first_starts s) (end_start s)
 
 -- THE LENT NUMBERS
-unfoldable pub startsOut : List ℕ → List ℕ → List ℕ
-startsOut s out = lentAfter (startsFault s (length out)) (startNumbers s) out
+unfoldable pub starts_out : List ℕ → List ℕ → List ℕ
+starts_out s out = lent_after (starts_fault s (length out)) (start_numbers s) out

@@ -1,9 +1,9 @@
 -- When a plan is accepted, and Verdict: what it answers.
 use Rattle.std.specs.Prelude.{Bool, List, ℕ}
 use Rattle.plan.specs.declared.Plan.{Plan}
-use Rattle.planner.specs.Faults.{isFine}
-use Rattle.planner.specs.Open.{planIn, jobOrderFor, orderFor, readFault, orCircles}
-use Rattle.planner.specs.Need.{orOverloaded}
+use Rattle.planner.specs.Faults.{is_fine}
+use Rattle.planner.specs.Open.{plan_in, job_order_for, order_for, read_fault, or_circles}
+use Rattle.planner.specs.Need.{or_overloaded}
 use Rattle.planner.specs.declared.Fault.{Fault}
 use Rattle.planner.specs.declared.Fault.TheVariants as fault
 use Rattle.planner.specs.declared.Fault.TheVariants.{Fine}
@@ -11,22 +11,22 @@ use Rattle.planner.specs.declared.Decision.{Decision}
 use Rattle.planner.specs.declared.Decision.TheVariants.{Accepted, Refused}
 
 -- THE CAUSES OF A PLAN, apart from the bytes that say it: 5, 6 and 7 in their turn, after a fault
-abbrev pub planFault : Fault → Plan → Fault
-planFault f q = orOverloaded (orCircles f (jobOrderFor q) (orderFor q)) q
+abbrev pub plan_fault : Fault → Plan → Fault
+plan_fault f q = or_overloaded (or_circles f (job_order_for q) (order_for q)) q
 
 -- A PLAN IS ACCEPTED when it meets none of them
-unfoldable pub isAccepted : Plan → Bool
-isAccepted q = isFine (planFault Fine q)
+unfoldable pub is_accepted : Plan → Bool
+is_accepted q = is_fine (plan_fault Fine q)
 
 -- "After that Verdict: 7."
-unfoldable pub verdictFault : List ℕ → Fault
-verdictFault s = planFault (readFault s) (planIn s)
+unfoldable pub verdict_fault : List ℕ → Fault
+verdict_fault s = plan_fault (read_fault s) (plan_in s)
 
 -- "Verdict: accepted with m and K, or 1–7."
-abbrev pub verdictOf : Fault → ℕ → ℕ → Decision
-verdictOf fault.Fine m n = Accepted m n
-verdictOf (fault.Refused c) m n = Refused c
+abbrev pub verdict_of : Fault → ℕ → ℕ → Decision
+verdict_of fault.Fine m n = Accepted m n
+verdict_of (fault.Refused c) m n = Refused c
 
 -- THE ANSWER
-abbrev pub verdictAnswer : List ℕ → Decision
-verdictAnswer s = verdictOf (verdictFault s) (planIn s).count (planIn s).kinds
+abbrev pub verdict_answer : List ℕ → Decision
+verdict_answer s = verdict_of (verdict_fault s) (plan_in s).count (plan_in s).kinds

@@ -1,14 +1,14 @@
 // Faults, and the causes that operations share, each in its turn.
 ghost use Rattle.std.specs.Prelude.{◌≡◌, ◌≤◌};
 ghost use Rattle.order.specs.Stored.{elements};
-ghost use Rattle.planner.specs.Faults.{isFine, orCause, orShort};
-ghost use Rattle.planner.specs.model.Opening.{overloadIn, orFound};
+ghost use Rattle.planner.specs.Faults.{is_fine, or_cause, or_short};
+ghost use Rattle.planner.specs.model.Opening.{overload_in, or_found};
 
 use crate::{Cause, Fault};
 use order::Order;
 
 pub fn is_fine(fault: Fault) -> bool
-    ensures { result ≡ isFine fault }
+    ensures { result ≡ is_fine fault }
 {
     match fault {
         Fault::Fine => true,
@@ -18,7 +18,7 @@ pub fn is_fine(fault: Fault) -> bool
 
 // The next cause in turn: it is the fault where there is none yet and the test holds.
 pub fn or_cause(fault: Fault, test: bool, cause: Cause) -> Fault
-    ensures { result ≡ orCause fault test cause }
+    ensures { result ≡ or_cause fault test cause }
 {
     match fault {
         Fault::Fine => if test {
@@ -32,7 +32,7 @@ pub fn or_cause(fault: Fault, test: bool, cause: Cause) -> Fault
 
 // 9 in its turn: fewer numbers or bytes are lent than are needed.
 pub fn or_short(fault: Fault, lent: usize, needed: usize) -> Fault
-    ensures { result ≡ orShort fault lent needed }
+    ensures { result ≡ or_short fault lent needed }
 {
     or_cause(fault, lent < needed, Cause::Short(needed))
 }
@@ -40,7 +40,7 @@ pub fn or_short(fault: Fault, lent: usize, needed: usize) -> Fault
 // The lowest kind of a plan that needs more than there is, by the plan's order.
 pub fn lowest_of(order: Order, q: plan::Plan) -> kinds::Overload
     requires { (q.count ≤ elements) × (q.kinds ≤ 8) }
-    ensures { result ≡ overloadIn order q }
+    ensures { result ≡ overload_in order q }
 {
     let demand = q.demand;
     let available = q.available;
@@ -50,7 +50,7 @@ pub fn lowest_of(order: Order, q: plan::Plan) -> kinds::Overload
 // 7 in its turn: a kind needs more than there is. Nothing is weighed where there is a fault already.
 pub fn or_overloaded(fault: Fault, order: Order, q: plan::Plan) -> Fault
     requires { (q.count ≤ elements) × (q.kinds ≤ 8) }
-    ensures { result ≡ orFound fault (overloadIn order q) q.kinds }
+    ensures { result ≡ or_found fault (overload_in order q) q.kinds }
 {
     if !is_fine(fault) {
         return fault;

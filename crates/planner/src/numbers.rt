@@ -1,6 +1,6 @@
 // The causes' numbers.
 ghost use Rattle.std.specs.Prelude.{◌≡◌};
-ghost use Rattle.planner.specs.Numbers.{plain, refusalOf};
+ghost use Rattle.planner.specs.Numbers.{plain, refusal_of};
 
 use crate::{Cause, Refusal};
 use order::Set;
@@ -18,9 +18,9 @@ fn plain(number: u64, values: usize, first: usize, second: usize) -> Refusal
     }
 }
 
-// What a refusal tells. (A new cause has its line here and in `refusalOf`; whoever shows causes goes by these.)
+// What a refusal tells. (A new cause has its line here and in `refusal_of`; whoever shows causes goes by these.)
 pub fn refusal_of(c: Cause) -> Refusal
-    ensures { result ≡ refusalOf c }
+    ensures { result ≡ refusal_of c }
 {
     match c {
         Cause::Unreadable(u) => {

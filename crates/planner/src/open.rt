@@ -1,8 +1,8 @@
 // What every operation does first, in two steps: it reads the plan's bytes, and then builds the orders and
 // looks for a circle in each.
 ghost use Rattle.std.specs.Prelude.{◌≡◌};
-ghost use Rattle.planner.specs.Open.{planIn, unreadFault, orCircles};
-ghost use Rattle.planner.specs.model.Opening.{readPlan, orderedOf, opened_of};
+ghost use Rattle.planner.specs.Open.{plan_in, unread_fault, or_circles};
+ghost use Rattle.planner.specs.model.Opening.{read_plan, ordered_of, opened_of};
 
 use crate::faults::or_cause;
 use crate::{Cause, Fault};
@@ -28,7 +28,7 @@ pub struct Opened {
 
 // The reader's cause, as a fault.
 fn unread_fault(answer: plan::Answer) -> Fault
-    ensures { result ≡ unreadFault answer }
+    ensures { result ≡ unread_fault answer }
 {
     match answer {
         plan::Answer::Readable => Fault::Fine,
@@ -38,7 +38,7 @@ fn unread_fault(answer: plan::Answer) -> Fault
 
 // The first step: reads a plan.
 pub fn read_plan(s: &[u8]) -> Read
-    ensures { result ≡ readPlan s.now }
+    ensures { result ≡ read_plan s.now }
 {
     let reading = plan::read(s);
     let plan = reading.plan;
@@ -49,7 +49,7 @@ pub fn read_plan(s: &[u8]) -> Read
 
 // A circle in the job order, and then one in the plan order, in their turn.
 fn or_circles(fault: Fault, job: Order, whole: Order) -> Fault
-    ensures { result ≡ orCircles fault job whole }
+    ensures { result ≡ or_circles fault job whole }
 {
     let i = job.circle();
     let five = or_cause(fault, i < ELEMENTS, Cause::JobCircle(i + 1));
@@ -59,7 +59,7 @@ fn or_circles(fault: Fault, job: Order, whole: Order) -> Fault
 
 // The second step: builds the orders of a plan, and looks for circles, after what was found before.
 pub fn ordered(q: plan::Plan, found: Fault) -> Opened
-    ensures { result ≡ orderedOf q found }
+    ensures { result ≡ ordered_of q found }
 {
     let arcs = q.job;
     let extra = q.extra;
@@ -90,7 +90,7 @@ pub fn open_plan(s: &[u8]) -> Opened
 // `open_plan`, which all operations call: a second caller of `plan::read` would make that a function of its own, and
 // every operation would pay for the copy of a plan.)
 pub fn available(s: &[u8]) -> [u32; 8]
-    ensures { result ≡ (planIn s.now).available }
+    ensures { result ≡ (plan_in s.now).available }
 {
     let opened = open_plan(s);
     let q = opened.plan;

@@ -11,127 +11,127 @@ use lib.ListN.{length, get_or, replicate}
 use Rattle.words.specs.Bits.{digit, bit}
 use Rattle.words.specs.Members.{first, some, count}
 use Rattle.words.specs.Tables.{table}
-use Rattle.words.proofs.Firsts.{some-here}
-use Rattle.words.proofs.Tests.{fails, clash, cond-false}
-use Rattle.order.specs.Stored.{elements, row, putRow, rowTable, cells, number_of, setOf}
-use Rattle.order.specs.Rows.{after, grow, arcsFrom, arcsIn, circleIn}
-use Rattle.order.specs.Orders.{extended, circleOf, order_of, order_in, joinedRows, withoutArc}
+use Rattle.words.proofs.Firsts.{some_here}
+use Rattle.words.proofs.Tests.{fails, clash, cond_false}
+use Rattle.order.specs.Stored.{elements, row, put_row, row_table, cells, number_of, set_of}
+use Rattle.order.specs.Rows.{after, grow, arcs_from, arcs_in, circle_in}
+use Rattle.order.specs.Orders.{extended, circle_of, order_of, order_in, joined_rows, without_arc}
 use Rattle.records.specs.Bytes.{field}
 use Rattle.records.specs.Records.{joined}
-use Rattle.plan.specs.Records.{recordCount}
-use Rattle.plan.specs.Meaning.{extraWait, waitUpTo}
+use Rattle.plan.specs.Records.{record_count}
+use Rattle.plan.specs.Meaning.{extra_wait, wait_up_to}
 use Rattle.plan.specs.Filtered.{filtered}
-use Rattle.plan.specs.model.ArcRows.{staysBy}
-use Rattle.plan.specs.model.Plans.{withExtra}
+use Rattle.plan.specs.model.ArcRows.{stays_by}
+use Rattle.plan.specs.model.Plans.{with_extra}
 use Rattle.plan.specs.declared.Plan.{Plan}
 use Rattle.flow_math.specs.Heaviest.{heaviest, need_of}
-use Rattle.kinds.specs.Needs.{demandsFor}
-use Rattle.planner.specs.Faults.{orShort}
-use Rattle.planner.specs.Open.{planIn}
-use Rattle.planner.specs.Need.{needFor, overKind, isOverloaded, overCause, orOverloaded}
-use Rattle.planner.specs.Output.{outputOf, lentAfter}
-use Rattle.planner.specs.Answers.{outputNumbers}
-use Rattle.planner.specs.Verdict.{isAccepted}
-use Rattle.planner.specs.Trim.{pairFrom, pairTo, mayGo, trimStep, trimUpTo, trimmedRows, trimmedFile, trimFault, trimOut}
+use Rattle.kinds.specs.Needs.{demands_for}
+use Rattle.planner.specs.Faults.{or_short}
+use Rattle.planner.specs.Open.{plan_in}
+use Rattle.planner.specs.Need.{need_for, over_kind, is_overloaded, over_cause, or_overloaded}
+use Rattle.planner.specs.Output.{output_of, lent_after}
+use Rattle.planner.specs.Answers.{output_numbers}
+use Rattle.planner.specs.Verdict.{is_accepted}
+use Rattle.planner.specs.Trim.{pair_from, pair_to, may_go, trim_step, trim_up_to, trimmed_rows, trimmed_file, trim_fault, trim_out}
 use Rattle.planner.specs.declared.Fault.{Fault}
-use Rattle.promises.specs.Ours.{ourTrim}
-use Rattle.promises.specs.Cases.{planD, planABoth, planAJobWaits, TrimCases}
-use Rattle.promises.proofs.CasePlans.{inABoth, in_d, OpenedAs, all-opened}
+use Rattle.promises.specs.Ours.{our_trim}
+use Rattle.promises.specs.Cases.{plan_d, plan_aBoth, plan_aJob_waits, TrimCases}
+use Rattle.promises.proofs.CasePlans.{in_aBoth, in_d, OpenedAs, all_opened}
 
 module _ (s : List ℕ) (q : Plan) where
   -- the pair x is an extra arc of the plan
   abbrev drawn : ℕ → Bool
-  drawn x = after q.extra (pairFrom x) (pairTo x)
+  drawn x = after q.extra (pair_from x) (pair_to x)
 
   -- what becomes of pair x, by the plan
   abbrev turned : ℕ → List ℕ → List ℕ
   turned x rows =
-      let less = withoutArc rows (pairFrom x) (pairTo x) in
-      cond ((drawn x && eqb (extraWait s (pairFrom x) (pairTo x)) 0) && isAccepted (withExtra q less)) less rows
+      let less = without_arc rows (pair_from x) (pair_to x) in
+      cond ((drawn x && eqb (extra_wait s (pair_from x) (pair_to x)) 0) && is_accepted (with_extra q less)) less rows
 
-module _ (s : List ℕ) (q : Plan) (e : planIn s ≡ q) where
-  step_is : (x : ℕ) (rows : List ℕ) → trimStep s x rows ≡ turned s q x rows
-  unfolding trimStep mayGo
+module _ (s : List ℕ) (q : Plan) (e : plan_in s ≡ q) where
+  step_is : (x : ℕ) (rows : List ℕ) → trim_step s x rows ≡ turned s q x rows
+  unfolding trim_step may_go
   step_is x rows = rw e
 
   -- the next pair, from rows to rows
-  next : (x : ℕ) {rows left : List ℕ} → trimUpTo s x ≡ rows → turned s q x rows ≡ left → trimUpTo s (suc x) ≡ left
-  unfolding trimUpTo
-  next x {rows} h t = ap (trimStep s x) h ∙ step_is x rows ∙ t
+  next : (x : ℕ) {rows left : List ℕ} → trim_up_to s x ≡ rows → turned s q x rows ≡ left → trim_up_to s (suc x) ≡ left
+  unfolding trim_up_to
+  next x {rows} h t = ap (trim_step s x) h ∙ step_is x rows ∙ t
 
   -- n pairs that are none
-  past : (a n : ℕ) → some n (λ k. drawn s q (a + k)) ≡ false → trimUpTo s (a + n) ≡ trimUpTo s a
-  past a n none = go n (λ k l. fails (drawn s q (a + k)) (λ t. clash (some-here n (λ k. drawn s q (a + k)) k l t) none))
+  past : (a n : ℕ) → some n (λ k. drawn s q (a + k)) ≡ false → trim_up_to s (a + n) ≡ trim_up_to s a
+  past a n none = go n (λ k l. fails (drawn s q (a + k)) (λ t. clash (some_here n (λ k. drawn s q (a + k)) k l t) none))
     where
-      go : (k : ℕ) → ((i : ℕ) → i < k → drawn s q (a + i) ≡ false) → trimUpTo s (a + k) ≡ trimUpTo s a
-      go zero h = ap (trimUpTo s) (add-zero a)
+      go : (k : ℕ) → ((i : ℕ) → i < k → drawn s q (a + i) ≡ false) → trim_up_to s (a + k) ≡ trim_up_to s a
+      go zero h = ap (trim_up_to s) (add-zero a)
       go (suc k) h =
-          ap (trimUpTo s) (add-suc a k)
+          ap (trim_up_to s) (add-suc a k)
           ∙ next (a + k) (go k (λ i l. h i (omega arith)))
-          (cond-false (withoutArc (trimUpTo s a) (pairFrom (a + k)) (pairTo (a + k))) (trimUpTo s a)
-          (ap (λ (b : Bool). (b && eqb (extraWait s (pairFrom (a + k)) (pairTo (a + k))) 0) && isAccepted (withExtra q (withoutArc (trimUpTo s a) (pairFrom (a + k)) (pairTo (a + k))))) (h k (omega arith))))
+          (cond_false (without_arc (trim_up_to s a) (pair_from (a + k)) (pair_to (a + k))) (trim_up_to s a)
+          (ap (λ (b : Bool). (b && eqb (extra_wait s (pair_from (a + k)) (pair_to (a + k))) 0) && is_accepted (with_extra q (without_arc (trim_up_to s a) (pair_from (a + k)) (pair_to (a + k))))) (h k (omega arith))))
 
-  begin : trimUpTo s 0 ≡ q.extra
-  unfolding trimUpTo
+  begin : trim_up_to s 0 ≡ q.extra
+  unfolding trim_up_to
   begin = ap (λ (x : Plan). x.extra) e
 
 -- rows of four elements
 abbrev four : List ℕ → List ℕ
-four sets = rowTable elements (λ i. get_or sets i 0)
+four sets = row_table elements (λ i. get_or sets i 0)
 
 -- ---- the rows that are left
 
-d-rows : trimmedRows planD ≡ four (8 ∷ 4 ∷ [])
-unfolding trimmedRows digit bit first some count table row putRow rowTable cells number_of setOf grow arcsFrom arcsIn circleIn extended circleOf order_of order_in joinedRows withoutArc field extraWait waitUpTo heaviest need_of demandsFor needFor overKind isOverloaded overCause isAccepted
-d-rows =
-    let e : planIn planD ≡ in_d = all-opened.d.plan in
-    let a : trimUpTo planD 3 ≡ four (8 ∷ 12 ∷ []) = next planD in_d e 2 (past planD in_d e 0 2 refl ∙ begin planD in_d e) refl in
-    let b : trimUpTo planD 4 ≡ four (8 ∷ 12 ∷ []) = next planD in_d e 3 a refl in
-    let c : trimUpTo planD 67 ≡ four (8 ∷ 12 ∷ []) = next planD in_d e 66 (past planD in_d e 4 62 refl ∙ b) refl in
-    let d : trimUpTo planD 68 ≡ four (8 ∷ 4 ∷ []) = next planD in_d e 67 c refl in
-    ap (λ (x : Plan). trimUpTo planD (elements * x.count)) e ∙ past planD in_d e 68 188 refl ∙ d
+d_rows : trimmed_rows plan_d ≡ four (8 ∷ 4 ∷ [])
+unfolding trimmed_rows digit bit first some count table row put_row row_table cells number_of set_of grow arcs_from arcs_in circle_in extended circle_of order_of order_in joined_rows without_arc field extra_wait wait_up_to heaviest need_of demands_for need_for over_kind is_overloaded over_cause is_accepted
+d_rows =
+    let e : plan_in plan_d ≡ in_d = all_opened.d.plan in
+    let a : trim_up_to plan_d 3 ≡ four (8 ∷ 12 ∷ []) = next plan_d in_d e 2 (past plan_d in_d e 0 2 refl ∙ begin plan_d in_d e) refl in
+    let b : trim_up_to plan_d 4 ≡ four (8 ∷ 12 ∷ []) = next plan_d in_d e 3 a refl in
+    let c : trim_up_to plan_d 67 ≡ four (8 ∷ 12 ∷ []) = next plan_d in_d e 66 (past plan_d in_d e 4 62 refl ∙ b) refl in
+    let d : trim_up_to plan_d 68 ≡ four (8 ∷ 4 ∷ []) = next plan_d in_d e 67 c refl in
+    ap (λ (x : Plan). trim_up_to plan_d (elements * x.count)) e ∙ past plan_d in_d e 68 188 refl ∙ d
 
-both-rows : trimmedRows planABoth ≡ four (0 ∷ 8 ∷ [])
-unfolding trimmedRows digit bit first some count table row putRow rowTable cells number_of setOf grow arcsFrom arcsIn circleIn extended circleOf order_of order_in joinedRows withoutArc field extraWait waitUpTo heaviest need_of demandsFor needFor overKind isOverloaded overCause isAccepted
-both-rows =
-    let e : planIn planABoth ≡ inABoth = all-opened.a-both.plan in
-    let a : trimUpTo planABoth 2 ≡ four (0 ∷ 8 ∷ []) = next planABoth inABoth e 1 (past planABoth inABoth e 0 1 refl ∙ begin planABoth inABoth e) refl in
-    let b : trimUpTo planABoth 68 ≡ four (0 ∷ 8 ∷ []) = next planABoth inABoth e 67 (past planABoth inABoth e 2 65 refl ∙ a) refl in
-    ap (λ (x : Plan). trimUpTo planABoth (elements * x.count)) e ∙ past planABoth inABoth e 68 188 refl ∙ b
+both_rows : trimmed_rows plan_aBoth ≡ four (0 ∷ 8 ∷ [])
+unfolding trimmed_rows digit bit first some count table row put_row row_table cells number_of set_of grow arcs_from arcs_in circle_in extended circle_of order_of order_in joined_rows without_arc field extra_wait wait_up_to heaviest need_of demands_for need_for over_kind is_overloaded over_cause is_accepted
+both_rows =
+    let e : plan_in plan_aBoth ≡ in_aBoth = all_opened.a_both.plan in
+    let a : trim_up_to plan_aBoth 2 ≡ four (0 ∷ 8 ∷ []) = next plan_aBoth in_aBoth e 1 (past plan_aBoth in_aBoth e 0 1 refl ∙ begin plan_aBoth in_aBoth e) refl in
+    let b : trim_up_to plan_aBoth 68 ≡ four (0 ∷ 8 ∷ []) = next plan_aBoth in_aBoth e 67 (past plan_aBoth in_aBoth e 2 65 refl ∙ a) refl in
+    ap (λ (x : Plan). trim_up_to plan_aBoth (elements * x.count)) e ∙ past plan_aBoth in_aBoth e 68 188 refl ∙ b
 
-wait-rows : trimmedRows planAJobWaits ≡ four (2 ∷ 8 ∷ [])
-unfolding trimmedRows digit bit first some count table row putRow rowTable cells number_of setOf grow arcsFrom arcsIn circleIn extended circleOf order_of order_in joinedRows withoutArc field extraWait waitUpTo heaviest need_of demandsFor needFor overKind isOverloaded overCause isAccepted
-wait-rows =
-    let e : planIn planAJobWaits ≡ inABoth = all-opened.w-job.plan in
-    let a : trimUpTo planAJobWaits 2 ≡ four (2 ∷ 8 ∷ []) = next planAJobWaits inABoth e 1 (past planAJobWaits inABoth e 0 1 refl ∙ begin planAJobWaits inABoth e) refl in
-    let b : trimUpTo planAJobWaits 68 ≡ four (2 ∷ 8 ∷ []) = next planAJobWaits inABoth e 67 (past planAJobWaits inABoth e 2 65 refl ∙ a) refl in
-    ap (λ (x : Plan). trimUpTo planAJobWaits (elements * x.count)) e ∙ past planAJobWaits inABoth e 68 188 refl ∙ b
+wait_rows : trimmed_rows plan_aJob_waits ≡ four (2 ∷ 8 ∷ [])
+unfolding trimmed_rows digit bit first some count table row put_row row_table cells number_of set_of grow arcs_from arcs_in circle_in extended circle_of order_of order_in joined_rows without_arc field extra_wait wait_up_to heaviest need_of demands_for need_for over_kind is_overloaded over_cause is_accepted
+wait_rows =
+    let e : plan_in plan_aJob_waits ≡ in_aBoth = all_opened.w_job.plan in
+    let a : trim_up_to plan_aJob_waits 2 ≡ four (2 ∷ 8 ∷ []) = next plan_aJob_waits in_aBoth e 1 (past plan_aJob_waits in_aBoth e 0 1 refl ∙ begin plan_aJob_waits in_aBoth e) refl in
+    let b : trim_up_to plan_aJob_waits 68 ≡ four (2 ∷ 8 ∷ []) = next plan_aJob_waits in_aBoth e 67 (past plan_aJob_waits in_aBoth e 2 65 refl ∙ a) refl in
+    ap (λ (x : Plan). trim_up_to plan_aJob_waits (elements * x.count)) e ∙ past plan_aJob_waits in_aBoth e 68 188 refl ∙ b
 
 -- ---- what is answered and left, by the plan and the rows
 
 module _ {s : List ℕ} {q : Plan} {f : Fault} (o : OpenedAs s q f) where
-  answer-as : (n : ℕ) → outputNumbers (ourTrim.answer s n) ≡ outputNumbers (outputOf (orOverloaded (orShort f n (length s)) q) (recordCount (trimmedFile s)))
-  unfolding trimFault
-  answer-as n = rw (o.fault, o.plan)
+  answer_as : (n : ℕ) → output_numbers (our_trim.answer s n) ≡ output_numbers (output_of (or_overloaded (or_short f n (length s)) q) (record_count (trimmed_file s)))
+  unfolding trim_fault
+  answer_as n = rw (o.fault, o.plan)
 
-  module _ {rows : List ℕ} (r : trimmedRows s ≡ rows) where
-    count-as : (n : ℕ) → outputNumbers (ourTrim.answer s n) ≡ outputNumbers (outputOf (orOverloaded (orShort f n (length s)) q) (recordCount (filtered (staysBy rows s) s)))
-    unfolding trimmedFile
-    count-as n = answer-as n ∙ ap (λ (x : List ℕ). outputNumbers (outputOf (orOverloaded (orShort f n (length s)) q) (recordCount (filtered (staysBy x s) s)))) r
+  module _ {rows : List ℕ} (r : trimmed_rows s ≡ rows) where
+    count_as : (n : ℕ) → output_numbers (our_trim.answer s n) ≡ output_numbers (output_of (or_overloaded (or_short f n (length s)) q) (record_count (filtered (stays_by rows s) s)))
+    unfolding trimmed_file
+    count_as n = answer_as n ∙ ap (λ (x : List ℕ). output_numbers (output_of (or_overloaded (or_short f n (length s)) q) (record_count (filtered (stays_by x s) s)))) r
 
-    left_as : (out : List ℕ) → ourTrim.left s out ≡ lentAfter (orOverloaded (orShort f (length out) (length s)) q) (filtered (staysBy rows s) s) out
-    unfolding trimFault trimOut trimmedFile
+    left_as : (out : List ℕ) → our_trim.left s out ≡ lent_after (or_overloaded (or_short f (length out) (length s)) q) (filtered (stays_by rows s) s) out
+    unfolding trim_fault trim_out trimmed_file
     left_as out = rw (o.fault, o.plan, r)
 
-pub trim-cases : TrimCases ourTrim
-unfolding digit bit first some count table row rowTable cells number_of setOf grow arcsFrom arcsIn extended order_of order_in joinedRows joined filtered heaviest need_of demandsFor needFor overKind isOverloaded overCause lentAfter
-trim-cases =
+pub trim_cases : TrimCases our_trim
+unfolding digit bit first some count table row row_table cells number_of set_of grow arcs_from arcs_in extended order_of order_in joined_rows joined filtered heaviest need_of demands_for need_for over_kind is_overloaded over_cause lent_after
+trim_cases =
     record {
-      d-count = count-as all-opened.d d-rows 216;
-      d-left = left_as all-opened.d d-rows (replicate 216 9);
-      both_left = left_as all-opened.a-both both-rows (replicate 192 9);
-      wait-left = left_as all-opened.w-job wait-rows (replicate 192 9);
-      d-short = answer-as all-opened.d 215;
-      e-circle = answer-as all-opened.e 0;
-      b-short = answer-as all-opened.b 191;
+      d_count = count_as all_opened.d d_rows 216;
+      d-left = left_as all_opened.d d_rows (replicate 216 9);
+      both_left = left_as all_opened.a_both both_rows (replicate 192 9);
+      wait_left = left_as all_opened.w_job wait_rows (replicate 192 9);
+      d_short = answer_as all_opened.d 215;
+      e_circle = answer_as all_opened.e 0;
+      b_short = answer_as all_opened.b 191;
     }

@@ -11,140 +11,140 @@ use Rattle.plan.specs.Meaning.{Readable}
 use Rattle.plan.specs.declared.Cause.{Cause as Unread}
 use Rattle.schedule.specs.declared.Checked.{Checked}
 use Rattle.schedule.specs.declared.Checked.TheVariants.{Fits, Broken, Overload}
-use Rattle.planner.specs.Faults.{orCause, orShort}
-use Rattle.planner.specs.Open.{planIn, faultOf}
-use Rattle.planner.specs.Numbers.{numbersOf}
-use Rattle.planner.specs.Answers.{causeNumber, verdictNumbers, outputNumbers, crewCheckNumbers}
-use Rattle.planner.specs.Output.{outputOf}
-use Rattle.planner.specs.Need.{isOverloaded, overCause}
-use Rattle.planner.specs.Verdict.{verdictFault, verdictOf}
-use Rattle.planner.specs.Needs.{needsFault}
-use Rattle.planner.specs.Starts.{needed, startsFault}
-use Rattle.planner.specs.Overload.{overloadFault, overCount}
-use Rattle.planner.specs.Flow.{isKind, flowFault, flowCount}
-use Rattle.planner.specs.File.{flowLength}
-use Rattle.planner.specs.CrewCheck.{badLists, crewCheckFault, crewFound, checkedOf}
+use Rattle.planner.specs.Faults.{or_cause, or_short}
+use Rattle.planner.specs.Open.{plan_in, fault_of}
+use Rattle.planner.specs.Numbers.{numbers_of}
+use Rattle.planner.specs.Answers.{cause_number, verdict_numbers, output_numbers, crew_check_numbers}
+use Rattle.planner.specs.Output.{output_of}
+use Rattle.planner.specs.Need.{is_overloaded, over_cause}
+use Rattle.planner.specs.Verdict.{verdict_fault, verdict_of}
+use Rattle.planner.specs.Needs.{needs_fault}
+use Rattle.planner.specs.Starts.{needed, starts_fault}
+use Rattle.planner.specs.Overload.{overload_fault, over_count}
+use Rattle.planner.specs.Flow.{is_kind, flow_fault, flow_count}
+use Rattle.planner.specs.File.{flow_length}
+use Rattle.planner.specs.CrewCheck.{bad_lists, crew_check_fault, crew_found, checked_of}
 use Rattle.planner.specs.declared.Cause.{Cause}
 use Rattle.planner.specs.declared.Cause.TheVariants.{Unreadable, JobCircle, PlanCircle, NoKind, Short, Lists}
 use Rattle.planner.specs.declared.Fault.{Fault}
 use Rattle.planner.specs.declared.Fault.TheVariants.{Fine, Refused}
-use Rattle.planner.proofs.FaultLaws.{cause-before, Every}
-use Rattle.planner.proofs.OpenLaws.{every-open}
-use Rattle.planner.proofs.SheetFaults.{flow-before}
+use Rattle.planner.proofs.FaultLaws.{cause_before, Every}
+use Rattle.planner.proofs.OpenLaws.{every_open}
+use Rattle.planner.proofs.SheetFaults.{flow_before}
 use Rattle.promises.specs.Ours.{ours}
 use Rattle.promises.specs.EveryInput.{OneOf, reading, opening}
 use Rattle.promises.specs.Paper.{EveryGives, SomeGives, Circles}
-use Rattle.promises.proofs.EveryInputHolds.{isOne, one-after, one-not, unread-one}
-use Rattle.promises.proofs.CircleFaults.{job-circle-means, plan-circle-means, means-job-circle, means-plan-circle}
+use Rattle.promises.proofs.EveryInputHolds.{is_one, one_after, one_not, unread_one}
+use Rattle.promises.proofs.CircleFaults.{job_circle_means, plan_circle_means, means_job_circle, means_plan_circle}
 
 -- ---- a fault of the file is every operation's
 
-module _ (s : List ℕ) (c : Cause) (e : faultOf s ≡ Refused c) where
-  outputs : (f : Fault) (v : ℕ) → f ≡ Refused c → outputNumbers (outputOf f v) ≡ numbersOf c
-  outputs f v p = ap (λ (x : Fault). outputNumbers (outputOf x v)) p
+module _ (s : List ℕ) (c : Cause) (e : fault_of s ≡ Refused c) where
+  outputs : (f : Fault) (v : ℕ) → f ≡ Refused c → output_numbers (output_of f v) ≡ numbers_of c
+  outputs f v p = ap (λ (x : Fault). output_numbers (output_of x v)) p
 
-  pub every-gives : EveryGives ours s (numbersOf c)
-  unfolding verdictFault faultOf needsFault startsFault overloadFault crewCheckFault
-  every-gives =
+  pub every_gives : EveryGives ours s (numbers_of c)
+  unfolding verdict_fault fault_of needs_fault starts_fault overload_fault crew_check_fault
+  every_gives =
       record {
-        verdict = ap (λ (x : Fault). verdictNumbers (verdictOf x (planIn s).count (planIn s).kinds)) (cause-before _ _ _ c e);
-        needs = λ n. outputs (needsFault s n) (planIn s).kinds (cause-before _ _ _ c e);
-        starts = λ n. outputs (startsFault s n) (needed s) (cause-before _ _ _ c e);
-        overload = λ n. outputs (overloadFault s n) (overCount (planIn s)) (cause-before _ _ _ c e);
-        flow = λ kind n. outputs (flowFault s kind n) (flowCount (planIn s) (kind - 1)) (flow-before s c kind n e);
-        crew-check = λ starts worked. ap (λ (x : Fault). crewCheckNumbers (checkedOf x (crewFound s starts worked))) (cause-before _ _ _ c e);
+        verdict = ap (λ (x : Fault). verdict_numbers (verdict_of x (plan_in s).count (plan_in s).kinds)) (cause_before _ _ _ c e);
+        needs = λ n. outputs (needs_fault s n) (plan_in s).kinds (cause_before _ _ _ c e);
+        starts = λ n. outputs (starts_fault s n) (needed s) (cause_before _ _ _ c e);
+        overload = λ n. outputs (overload_fault s n) (over_count (plan_in s)) (cause_before _ _ _ c e);
+        flow = λ kind n. outputs (flow_fault s kind n) (flow_count (plan_in s) (kind - 1)) (flow_before s c kind n e);
+        crew_check = λ starts worked. ap (λ (x : Fault). crew_check_numbers (checked_of x (crew_found s starts worked))) (cause_before _ _ _ c e);
       }
 
 -- ---- and a refusal of any operation by a number of the opening is the file's fault
 
 -- a fault with these numbers
 abbrev pub Gives : Fault → List ℕ → Type 0
-Gives f numbers = (c : Cause) × (f ≡ Refused c) × (numbersOf c ≡ numbers)
+Gives f numbers = (c : Cause) × (f ≡ Refused c) × (numbers_of c ≡ numbers)
 
 pub heads : {x y : ℕ} {xs ys : List ℕ} → x ∷ xs ≡ y ∷ ys → x ≡ y
 heads e = cc
 
 module _ (n : ℕ) (ys : List ℕ) (one : OneOf opening n) where
   -- the number of another answer
-  other : {x : ℕ} {xs : List ℕ} → isOne opening x ≡ false → x ∷ xs ≡ n ∷ ys → ⊥
-  other {x} e q = one-not opening n x one e (sym (heads q))
+  other : {x : ℕ} {xs : List ℕ} → is_one opening x ≡ false → x ∷ xs ≡ n ∷ ys → ⊥
+  other {x} e q = one_not opening n x one e (sym (heads q))
 
-  output-gives : (f : Fault) (v : ℕ) → outputNumbers (outputOf f v) ≡ n ∷ ys → Gives f (n ∷ ys)
-  output-gives Fine v e = absurd (other refl e)
-  output-gives (Refused c) v e = (c, refl, e)
+  output_gives : (f : Fault) (v : ℕ) → output_numbers (output_of f v) ≡ n ∷ ys → Gives f (n ∷ ys)
+  output_gives Fine v e = absurd (other refl e)
+  output_gives (Refused c) v e = (c, refl, e)
 
-  verdict-gives : (f : Fault) (m k : ℕ) → verdictNumbers (verdictOf f m k) ≡ n ∷ ys → Gives f (n ∷ ys)
-  verdict-gives Fine m k e = absurd (other refl e)
-  verdict-gives (Refused c) m k e = (c, refl, e)
+  verdict_gives : (f : Fault) (m k : ℕ) → verdict_numbers (verdict_of f m k) ≡ n ∷ ys → Gives f (n ∷ ys)
+  verdict_gives Fine m k e = absurd (other refl e)
+  verdict_gives (Refused c) m k e = (c, refl, e)
 
-  crew-gives : (f : Fault) (x : Checked) → crewCheckNumbers (checkedOf f x) ≡ n ∷ ys → Gives f (n ∷ ys)
-  crew-gives Fine Fits e = absurd (other refl e)
-  crew-gives Fine (Broken i j) e = absurd (other refl e)
-  crew-gives Fine (Overload t k) e = absurd (other refl e)
-  crew-gives (Refused c) x e = (c, refl, e)
+  crew_gives : (f : Fault) (x : Checked) → crew_check_numbers (checked_of f x) ≡ n ∷ ys → Gives f (n ∷ ys)
+  crew_gives Fine Fits e = absurd (other refl e)
+  crew_gives Fine (Broken i j) e = absurd (other refl e)
+  crew_gives Fine (Overload t k) e = absurd (other refl e)
+  crew_gives (Refused c) x e = (c, refl, e)
 
   -- a later cause has a number of its own
-  turn-gives : (f : Fault) (b : Bool) (d : Cause) → isOne opening (causeNumber d) ≡ false → Gives (orCause f b d) (n ∷ ys) → Gives f (n ∷ ys)
-  turn-gives Fine true d h g = absurd (other h (ap numbersOf (same g.1) ∙ g.2))
+  turn_gives : (f : Fault) (b : Bool) (d : Cause) → is_one opening (cause_number d) ≡ false → Gives (or_cause f b d) (n ∷ ys) → Gives f (n ∷ ys)
+  turn_gives Fine true d h g = absurd (other h (ap numbers_of (same g.1) ∙ g.2))
     where
       same : {c d : Cause} → ◌≡◌ {A = Fault} (Refused c) (Refused d) → c ≡ d
       same e = cc
-  turn-gives Fine false d h g = g
-  turn-gives (Refused c) b d h g = g
+  turn_gives Fine false d h g = g
+  turn_gives (Refused c) b d h g = g
 
   -- of an operation with one cause more, 9
-  nine : (s : List ℕ) (lent length v : ℕ) → outputNumbers (outputOf (orShort (faultOf s) lent length) v) ≡ n ∷ ys → Gives (faultOf s) (n ∷ ys)
-  nine s lent length v e = turn-gives (faultOf s) (ltb lent length) (Short length) refl (output-gives (orShort (faultOf s) lent length) v e)
+  nine : (s : List ℕ) (lent length v : ℕ) → output_numbers (output_of (or_short (fault_of s) lent length) v) ≡ n ∷ ys → Gives (fault_of s) (n ∷ ys)
+  nine s lent length v e = turn_gives (fault_of s) (ltb lent length) (Short length) refl (output_gives (or_short (fault_of s) lent length) v e)
 
-  pub fault-gives : (s : List ℕ) → SomeGives ours s (n ∷ ys) → Gives (faultOf s) (n ∷ ys)
-  unfolding verdictFault faultOf needsFault startsFault overloadFault flowFault crewCheckFault overCause
-  fault-gives s (inl e) =
-      turn-gives (faultOf s) (isOverloaded (planIn s)) (overCause (planIn s)) refl
-      (verdict-gives (verdictFault s) (planIn s).count (planIn s).kinds e)
-  fault-gives s (inr (inl w)) = nine s w.0 (planIn s).kinds (planIn s).kinds w.1
-  fault-gives s (inr (inr (inl w))) = nine s w.0 (needed s) (needed s) w.1
-  fault-gives s (inr (inr (inr (inl w)))) = nine s w.0 24 (overCount (planIn s)) w.1
-  fault-gives s (inr (inr (inr (inr (inl w))))) =
-      let q = planIn s in
-      let known = orCause (faultOf s) (not (isKind w.0 q.kinds)) (NoKind q.kinds) in
-      turn-gives (faultOf s) (not (isKind w.0 q.kinds)) (NoKind q.kinds) refl
-      (turn-gives known (ltb w.1 (flowLength q.count)) (Short (flowLength q.count)) refl
-      (turn-gives (orShort known w.1 (flowLength q.count)) (isOverloaded q) (overCause q) refl
-      (output-gives (flowFault s w.0 w.1) (flowCount q (w.0 - 1)) w.2)))
-  fault-gives s (inr (inr (inr (inr (inr w))))) =
-      turn-gives (faultOf s) (badLists (planIn s).count (planIn s).duration w.0 w.1) (Lists (planIn s).count) refl
-      (crew-gives (crewCheckFault s w.0 w.1) (crewFound s w.0 w.1) w.2)
+  pub fault_gives : (s : List ℕ) → SomeGives ours s (n ∷ ys) → Gives (fault_of s) (n ∷ ys)
+  unfolding verdict_fault fault_of needs_fault starts_fault overload_fault flow_fault crew_check_fault over_cause
+  fault_gives s (inl e) =
+      turn_gives (fault_of s) (is_overloaded (plan_in s)) (over_cause (plan_in s)) refl
+      (verdict_gives (verdict_fault s) (plan_in s).count (plan_in s).kinds e)
+  fault_gives s (inr (inl w)) = nine s w.0 (plan_in s).kinds (plan_in s).kinds w.1
+  fault_gives s (inr (inr (inl w))) = nine s w.0 (needed s) (needed s) w.1
+  fault_gives s (inr (inr (inr (inl w)))) = nine s w.0 24 (over_count (plan_in s)) w.1
+  fault_gives s (inr (inr (inr (inr (inl w))))) =
+      let q = plan_in s in
+      let known = or_cause (fault_of s) (not (is_kind w.0 q.kinds)) (NoKind q.kinds) in
+      turn_gives (fault_of s) (not (is_kind w.0 q.kinds)) (NoKind q.kinds) refl
+      (turn_gives known (ltb w.1 (flow_length q.count)) (Short (flow_length q.count)) refl
+      (turn_gives (or_short known w.1 (flow_length q.count)) (is_overloaded q) (over_cause q) refl
+      (output_gives (flow_fault s w.0 w.1) (flow_count q (w.0 - 1)) w.2)))
+  fault_gives s (inr (inr (inr (inr (inr w))))) =
+      turn_gives (fault_of s) (bad_lists (plan_in s).count (plan_in s).duration w.0 w.1) (Lists (plan_in s).count) refl
+      (crew_gives (crew_check_fault s w.0 w.1) (crew_found s w.0 w.1) w.2)
 
 -- ---- the causes 5 and 6, by their numbers
 
 -- the reader gives neither
-not-read : (u : Unread) (n : ℕ) {values : List ℕ} → isOne reading n ≡ false → numbersOf (Unreadable u) ≡ n ∷ values → ⊥
-not-read u n e q = one-not reading (causeNumber (Unreadable u)) n (unread-one u) e (heads q)
+not_read : (u : Unread) (n : ℕ) {values : List ℕ} → is_one reading n ≡ false → numbers_of (Unreadable u) ≡ n ∷ values → ⊥
+not_read u n e q = one_not reading (cause_number (Unreadable u)) n (unread_one u) e (heads q)
 
-is-five : (s : List ℕ) (i : ℕ) → Every (λ (c : Cause). numbersOf c ≡ 5 ∷ i ∷ [] → c ≡ JobCircle i) (faultOf s)
-is-five s i =
-    every-open (λ (c : Cause). numbersOf c ≡ 5 ∷ i ∷ [] → c ≡ JobCircle i) s
-    (λ u _ e. absurd (not-read u 5 refl e))
+is_five : (s : List ℕ) (i : ℕ) → Every (λ (c : Cause). numbers_of c ≡ 5 ∷ i ∷ [] → c ≡ JobCircle i) (fault_of s)
+is_five s i =
+    every_open (λ (c : Cause). numbers_of c ≡ 5 ∷ i ∷ [] → c ≡ JobCircle i) s
+    (λ u _ e. absurd (not_read u 5 refl e))
     (λ j _ e. let z : j + 1 ≡ i = cc in ap JobCircle z)
     (λ j _ e. absurd (omega (arith, heads e)))
 
-is-six : (s : List ℕ) (i : ℕ) → Every (λ (c : Cause). numbersOf c ≡ 6 ∷ i ∷ [] → c ≡ PlanCircle i) (faultOf s)
-is-six s i =
-    every-open (λ (c : Cause). numbersOf c ≡ 6 ∷ i ∷ [] → c ≡ PlanCircle i) s
-    (λ u _ e. absurd (not-read u 6 refl e))
+is_six : (s : List ℕ) (i : ℕ) → Every (λ (c : Cause). numbers_of c ≡ 6 ∷ i ∷ [] → c ≡ PlanCircle i) (fault_of s)
+is_six s i =
+    every_open (λ (c : Cause). numbers_of c ≡ 6 ∷ i ∷ [] → c ≡ PlanCircle i) s
+    (λ u _ e. absurd (not_read u 6 refl e))
     (λ j _ e. absurd (omega (arith, heads e)))
     (λ j _ e. let z : j + 1 ≡ i = cc in ap PlanCircle z)
 
 pub circles : (s : List ℕ) → Readable s → Circles ours s
 circles s r =
     record {
-      five = λ i L. every-gives s (JobCircle (i + 1)) (means-job-circle s i r L);
-      five-means = λ i g.
-          let w = fault-gives 5 ((i + 1) ∷ []) (one-after reading (5 ∷ 6 ∷ []) 5 (inl refl)) s g in
-          (job-circle-means s i (w.1 ∙ ap Refused (is-five s (i + 1) w.0 w.1 w.2))).1;
-      six = λ i free L. every-gives s (PlanCircle (i + 1)) (means-plan-circle s i r free L);
-      six-means = λ i g.
-          let w = fault-gives 6 ((i + 1) ∷ []) (one-after reading (5 ∷ 6 ∷ []) 6 (inr (inl refl))) s g in
-          let v = plan-circle-means s i (w.1 ∙ ap Refused (is-six s (i + 1) w.0 w.1 w.2)) in
+      five = λ i L. every_gives s (JobCircle (i + 1)) (means_job_circle s i r L);
+      five_means = λ i g.
+          let w = fault_gives 5 ((i + 1) ∷ []) (one_after reading (5 ∷ 6 ∷ []) 5 (inl refl)) s g in
+          (job_circle_means s i (w.1 ∙ ap Refused (is_five s (i + 1) w.0 w.1 w.2))).1;
+      six = λ i free L. every_gives s (PlanCircle (i + 1)) (means_plan_circle s i r free L);
+      six_means = λ i g.
+          let w = fault_gives 6 ((i + 1) ∷ []) (one_after reading (5 ∷ 6 ∷ []) 6 (inr (inl refl))) s g in
+          let v = plan_circle_means s i (w.1 ∙ ap Refused (is_six s (i + 1) w.0 w.1 w.2)) in
           (v.1, v.2);
     }

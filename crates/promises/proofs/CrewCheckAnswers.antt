@@ -9,133 +9,133 @@ use native.Mathlib.Omega.{arith}
 use native.Mathlib.Decide.{dec_lt}
 use lib.ListN.{length}
 use Rattle.words.proofs.Tests.{holds}
-use Rattle.plan.specs.Meaning.{Readable, fileKinds, fileAvailable}
-use Rattle.plan.specs.Records.{activityCount}
-use Rattle.flow_math.proofs.Crew.{none-occupied as none-at-first}
+use Rattle.plan.specs.Meaning.{Readable, file_kinds, file_available}
+use Rattle.plan.specs.Records.{activity_count}
+use Rattle.flow_math.proofs.Crew.{none_occupied as none-at-first}
 use Rattle.schedule.specs.Checks.{Work, occupied, Enough, FirstOver}
 use Rattle.schedule.specs.Lists.{at}
 use Rattle.schedule.specs.declared.Checked.{Checked}
 use Rattle.schedule.specs.declared.Checked.TheVariants.{Fits, Broken, Overload}
-use Rattle.planner.specs.Open.{planIn, Opens}
-use Rattle.planner.specs.CrewCheck.{badLists, crewWork, crewFound, crewCheckAnswer}
-use Rattle.planner.specs.Times.{arcWeight, crewOccupies}
-use Rattle.planner.proofs.OpenLaws.{opens-readable}
-use Rattle.planner.proofs.CrewCheckLaws.{bad-work, lists-fine, works-listed, crew-occupied}
-use Rattle.planner.proofs.QuotedNeeds.{count-in, kinds-in, kind-in, available-in}
+use Rattle.planner.specs.Open.{plan_in, Opens}
+use Rattle.planner.specs.CrewCheck.{bad_lists, crew_work, crew_found, crew_check_answer}
+use Rattle.planner.specs.Times.{arc_weight, crew_occupies}
+use Rattle.planner.proofs.OpenLaws.{opens_readable}
+use Rattle.planner.proofs.CrewCheckLaws.{bad_work, lists_fine, works_listed, crew_occupied}
+use Rattle.planner.proofs.QuotedNeeds.{count_in, kinds_in, kind_in, available_in_lem}
 use Rattle.planner.specs.declared.CrewChecked.TheVariants.{Found}
-use Rattle.planner.specs.Answers.{foundNumbers, crewCheckNumbers}
+use Rattle.planner.specs.Answers.{found_numbers, crew_check_numbers}
 use Rattle.promises.specs.Ours.{ours}
 use Rattle.promises.specs.Paper.{RightLists, NeverOver, FirstOverload, CrewCheck}
-use Rattle.promises.proofs.AnswersWhen.{crew-lists, crew-looks}
-use Rattle.promises.proofs.CrewCheckMeaning.{finds-fits, finds-broken, finds-over, none-occupied, over-kind}
+use Rattle.promises.proofs.AnswersWhen.{crew_lists, crew_looks}
+use Rattle.promises.proofs.CrewCheckMeaning.{finds_fits, finds_broken, finds_over, none_occupied, over_kind_lem}
 
 -- a finding is no refusal as 10
-not-ten : (x : Checked) (m : ℕ) → foundNumbers x ≡ 10 ∷ m ∷ [] → ⊥
-not-ten Fits m e = let z : ◌≡◌ {A = ℕ} 0 10 = cc in omega arith
-not-ten (Broken i j) m e = let z : ◌≡◌ {A = ℕ} 254 10 = cc in omega arith
-not-ten (Overload t k) m e = let z : ◌≡◌ {A = ℕ} 255 10 = cc in omega arith
+not_ten : (x : Checked) (m : ℕ) → found_numbers x ≡ 10 ∷ m ∷ [] → ⊥
+not_ten Fits m e = let z : ◌≡◌ {A = ℕ} 0 10 = cc in omega arith
+not_ten (Broken i j) m e = let z : ◌≡◌ {A = ℕ} 254 10 = cc in omega arith
+not_ten (Overload t k) m e = let z : ◌≡◌ {A = ℕ} 255 10 = cc in omega arith
 
-same-found : {x y : Checked} → Found x ≡ Found y → x ≡ y
-same-found e = cc
+same_found : {x y : Checked} → Found x ≡ Found y → x ≡ y
+same_found e = cc
 
 -- where something is occupied, it is in period 1 or later
-some-period : (c : Work) (t k : ℕ) → 0 < occupied c t k → 1 ≤ t
-some-period c zero k h = absurd (omega (arith, h, none-at-first c.count (c.demand k) c.start c.worked))
-some-period c (suc t) k h = omega arith
+some_period : (c : Work) (t k : ℕ) → 0 < occupied c t k → 1 ≤ t
+some_period c zero k h = absurd (omega (arith, h, none-at-first c.count (c.demand k) c.start c.worked))
+some_period c (suc t) k h = omega arith
 
 module _ (s : List ℕ) (o : Opens s) (starts worked : List ℕ) where
   readable : Readable s
-  readable = opens-readable s o
+  readable = opens_readable s o
 
-  m : (planIn s).count ≡ activityCount s
-  m = count-in s readable
+  m : (plan_in s).count ≡ activity_count s
+  m = count_in s readable
 
   -- ---- the lists are right, or the answer is 10
 
-  lists-right : badLists (planIn s).count (planIn s).duration starts worked ≡ false → RightLists s starts worked
-  lists-right e =
-      let w = lists-fine (planIn s).count (planIn s).duration starts worked e in
-      record { starts-all = w.0 ∙ m; worked-all = w.1 ∙ m; working = (works-listed s worked readable w.1).0 w.2 }
+  lists_right : bad_lists (plan_in s).count (plan_in s).duration starts worked ≡ false → RightLists s starts worked
+  lists_right e =
+      let w = lists_fine (plan_in s).count (plan_in s).duration starts worked e in
+      record { starts_all = w.0 ∙ m; worked_all = w.1 ∙ m; working = (works_listed s worked readable w.1).0 w.2 }
 
   module _ (R : RightLists s starts worked) where
-    starts-count : length starts ≡ (planIn s).count
-    starts-count = R.starts-all ∙ sym m
+    starts_count : length starts ≡ (plan_in s).count
+    starts_count = R.starts_all ∙ sym m
 
-    worked-count : length worked ≡ (planIn s).count
-    worked-count = R.worked-all ∙ sym m
+    worked_count : length worked ≡ (plan_in s).count
+    worked_count = R.worked_all ∙ sym m
 
-    not-bad : badLists (planIn s).count (planIn s).duration starts worked ≡ false
-    not-bad =
-        sym (bad-work (planIn s).count (planIn s).duration starts worked starts-count worked-count (sym ((works-listed s worked readable worked-count).1 R.working)))
+    not_bad : bad_lists (plan_in s).count (plan_in s).duration starts worked ≡ false
+    not_bad =
+        sym (bad_work (plan_in s).count (plan_in s).duration starts worked starts_count worked_count (sym ((works_listed s worked readable worked_count).1 R.working)))
 
     -- what is answered is what is found
-    answers : (x : Checked) → (crewCheckAnswer s starts worked ≡ Found x) ↔ (crewFound s starts worked ≡ x)
+    answers : (x : Checked) → (crew_check_answer s starts worked ≡ Found x) ↔ (crew_found s starts worked ≡ x)
     answers x =
-        let e = crew-looks s starts worked o not-bad in
-        ((λ q. same-found (sym e ∙ q)), (λ q. e ∙ ap Found q))
+        let e = crew_looks s starts worked o not_bad in
+        ((λ q. same_found (sym e ∙ q)), (λ q. e ∙ ap Found q))
 
     -- ---- more is occupied than there is: by the plan's demands, which are the file's
 
-    occupied-in : (t k : ℕ) → k < 8 → occupied (crewWork s starts worked) t k ≡ crewOccupies s k (at starts) (at worked) t
-    occupied-in = crew-occupied s starts worked readable R.starts-all
+    occupied_in : (t k : ℕ) → k < 8 → occupied (crew_work s starts worked) t k ≡ crew_occupies s k (at starts) (at worked) t
+    occupied_in = crew_occupied s starts worked readable R.starts_all
 
-    available-at : (k : ℕ) → k < 8 → at (planIn s).available k ≡ fileAvailable s k
-    available-at = available-in s readable
+    available_at : (k : ℕ) → k < 8 → at (plan_in s).available k ≡ file_available s k
+    available_at = available_in_lem s readable
 
-    never-over : Enough (crewWork s starts worked) → NeverOver s starts worked
-    never-over n t k p h = omega (arith, n t k (kind-in s readable h), occupied-in t k (kind-in s readable h), available-at k (kind-in s readable h))
+    never_over : Enough (crew_work s starts worked) → NeverOver s starts worked
+    never_over n t k p h = omega (arith, n t k (kind_in s readable h), occupied_in t k (kind_in s readable h), available_at k (kind_in s readable h))
 
     -- what is not over in the periods from 1 on and the file's kinds is not over at all
-    not-over : (t : ℕ) → (1 ≤ t → (k : ℕ) → k < fileKinds s → crewOccupies s k (at starts) (at worked) t ≤ fileAvailable s k)
-        → (k : ℕ) → k < 8 → occupied (crewWork s starts worked) t k ≤ at (planIn s).available k
-    not-over zero n k h =
-        let c = crewWork s starts worked in
+    not_over : (t : ℕ) → (1 ≤ t → (k : ℕ) → k < file_kinds s → crew_occupies s k (at starts) (at worked) t ≤ file_available s k)
+        → (k : ℕ) → k < 8 → occupied (crew_work s starts worked) t k ≤ at (plan_in s).available k
+    not_over zero n k h =
+        let c = crew_work s starts worked in
         omega (arith, none-at-first c.count (c.demand k) c.start c.worked)
-    not-over (suc t) n k h =
-        by_cases (dec_lt k (fileKinds s))
-        (λ l. omega (arith, n (omega arith) k l, occupied-in (suc t) k h, available-at k h))
-        (λ l. omega (arith, none-occupied s starts worked o starts-count (suc t) k (omega (arith, l, kinds-in s readable)) h))
+    not_over (suc t) n k h =
+        by_cases (dec_lt k (file_kinds s))
+        (λ l. omega (arith, n (omega arith) k l, occupied_in (suc t) k h, available_at k h))
+        (λ l. omega (arith, none_occupied s starts worked o starts_count (suc t) k (omega (arith, l, kinds_in s readable)) h))
 
-    first-overload : (t k : ℕ) → FirstOver (crewWork s starts worked) t k → FirstOverload s starts worked t k
-    first-overload t k F =
-        let p : 1 ≤ t = some-period (crewWork s starts worked) t k (omega (arith, F.over)) in
-        let h : k < fileKinds s = omega (arith, over-kind s starts worked o starts-count t k F, kinds-in s readable) in
+    first_overload : (t k : ℕ) → FirstOver (crew_work s starts worked) t k → FirstOverload s starts worked t k
+    first_overload t k F =
+        let p : 1 ≤ t = some_period (crew_work s starts worked) t k (omega (arith, F.over)) in
+        let h : k < file_kinds s = omega (arith, over_kind_lem s starts worked o starts_count t k F, kinds_in s readable) in
         record {
           period = p;
           kind = h;
-          over = omega (arith, F.over, occupied-in t k F.kind, available-at k F.kind);
-          sooner = λ u x q l b. omega (arith, F.quiet u l x (kind-in s readable b), occupied-in u x (kind-in s readable b), available-at x (kind-in s readable b));
+          over = omega (arith, F.over, occupied_in t k F.kind, available_at k F.kind);
+          sooner = λ u x q l b. omega (arith, F.quiet u l x (kind_in s readable b), occupied_in u x (kind_in s readable b), available_at x (kind_in s readable b));
           lower = λ x l.
               let b : x < 8 = omega (arith, l, F.kind) in
-              omega (arith, F.lowest x l, occupied-in t x b, available-at x b);
+              omega (arith, F.lowest x l, occupied_in t x b, available_at x b);
         }
 
-    first-over : (t k : ℕ) → FirstOverload s starts worked t k → FirstOver (crewWork s starts worked) t k
-    first-over t k F =
-        let h = kind-in s readable F.kind in
+    first_over : (t k : ℕ) → FirstOverload s starts worked t k → FirstOver (crew_work s starts worked) t k
+    first_over t k F =
+        let h = kind_in s readable F.kind in
         record {
           kind = h;
-          over = omega (arith, F.over, occupied-in t k h, available-at k h);
-          quiet = λ u l. not-over u (λ q x b. F.sooner u x q l b);
+          over = omega (arith, F.over, occupied_in t k h, available_at k h);
+          quiet = λ u l. not_over u (λ q x b. F.sooner u x q l b);
           lowest = λ x l.
               let b : x < 8 = omega (arith, l, h) in
-              omega (arith, F.lower x l, occupied-in t x b, available-at x b);
+              omega (arith, F.lower x l, occupied_in t x b, available_at x b);
         }
 
-  pub crew-check : CrewCheck ours s (arcWeight s) starts worked
-  crew-check =
+  pub crew_check : CrewCheck ours s (arc_weight s) starts worked
+  crew_check =
       record {
         ten = (
-          (λ e R. not-ten (crewFound s starts worked) (activityCount s) (sym (ap crewCheckNumbers (crew-looks s starts worked o (not-bad R))) ∙ e)),
+          (λ e R. not_ten (crew_found s starts worked) (activity_count s) (sym (ap crew_check_numbers (crew_looks s starts worked o (not_bad R))) ∙ e)),
           (λ n.
-              ap crewCheckNumbers (crew-lists s starts worked o (holds (badLists (planIn s).count (planIn s).duration starts worked) (λ e. n (lists-right e))))
+              ap crew_check_numbers (crew_lists s starts worked o (holds (bad_lists (plan_in s).count (plan_in s).duration starts worked) (λ e. n (lists_right e))))
               ∙ ap (λ (x : ℕ). 10 ∷ x ∷ []) m),
         );
         fits = λ R.
             Iff.trans (answers R Fits)
-            (Iff.trans (finds-fits s starts worked o (starts-count R)) (Iff.and Iff.rfl (never-over R, λ n t. not-over R t (λ p k. n t k p))));
-        broken = λ R i j. Iff.trans (answers R (Broken (i + 1) (j + 1))) (finds-broken s starts worked o (starts-count R) i j);
+            (Iff.trans (finds_fits s starts worked o (starts_count R)) (Iff.and Iff.rfl (never_over R, λ n t. not_over R t (λ p k. n t k p))));
+        broken = λ R i j. Iff.trans (answers R (Broken (i + 1) (j + 1))) (finds_broken s starts worked o (starts_count R) i j);
         overload = λ R t k.
             Iff.trans (answers R (Overload t (k + 1)))
-            (Iff.trans (finds-over s starts worked o (starts-count R) t k) (Iff.and Iff.rfl (first-overload R t k, first-over R t k)));
+            (Iff.trans (finds_over s starts worked o (starts_count R) t k) (Iff.and Iff.rfl (first_overload R t k, first_over R t k)));
       }

@@ -12,117 +12,117 @@ use Rattle.records.specs.Bytes.{AreBytes}
 use Rattle.order.specs.Stored.{elements, number_of}
 use Rattle.order.specs.Before.{Before, last}
 use Rattle.order.specs.Arcs.{StrictOrder, Drawn}
-use Rattle.order.specs.Orders.{isBefore}
-use Rattle.order.proofs.Before.{before-within, strict-first}
-use Rattle.order.proofs.Orders.{order-means}
-use Rattle.plan.specs.Meaning.{Readable, FileArc, fileDuration, fileDemand}
-use Rattle.plan.specs.Records.{activityCount}
-use Rattle.plan.proofs.Milestones.{milestone-idle}
-use Rattle.solver.proofs.First.{set-within}
+use Rattle.order.specs.Orders.{is_before}
+use Rattle.order.proofs.Before.{before_within, strict_first}
+use Rattle.order.proofs.Orders.{order_means}
+use Rattle.plan.specs.Meaning.{Readable, FileArc, file_duration, file_demand}
+use Rattle.plan.specs.Records.{activity_count}
+use Rattle.plan.proofs.Milestones.{milestone_idle}
+use Rattle.solver.proofs.First.{set_within}
 use Rattle.flow_math.specs.Need.{Antichain, weight, Need}
 use Rattle.flow_math.specs.Kept.{Keeps}
 use Rattle.flow_math.specs.Crew.{active, occupied}
 use Rattle.flow_math.specs.Peak.{Peak}
-use Rattle.plan.proofs.Waits.{file-wait-small}
-use Rattle.flow_math.proofs.Kept.{kept-before}
-use Rattle.flow_math.proofs.Crew.{occupied-weight}
-use Rattle.flow_math.proofs.Need.{weight-same}
-use Rattle.flow_math.proofs.Theorems.{needOf-need, crew-bound, crew-peak}
-use Rattle.kinds.specs.Needs.{demandsFor}
-use Rattle.planner.specs.Open.{planIn, planOrder, Opens}
-use Rattle.planner.specs.Need.{demandFor, needFor, shownSet}
-use Rattle.planner.specs.File.{Unrelated, demandSum}
-use Rattle.planner.specs.Times.{arcWeight, KeepsArcs, Workable, FileCrew, crewOccupies}
-use Rattle.planner.proofs.OpenLaws.{said_in, opens-readable, opens_small, count-few}
-use Rattle.planner.proofs.FileOrders.{arc-ends, plan-order, opens-strict}
-use Rattle.planner.proofs.QuotedNeeds.{count-in, demand-in, quotable, sound-in}
+use Rattle.plan.proofs.Waits.{file_wait_small}
+use Rattle.flow_math.proofs.Kept.{kept_before}
+use Rattle.flow_math.proofs.Crew.{occupied_weight}
+use Rattle.flow_math.proofs.Need.{weight_same}
+use Rattle.flow_math.proofs.Theorems.{need_of_need, crew_bound, crew_peak}
+use Rattle.kinds.specs.Needs.{demands_for}
+use Rattle.planner.specs.Open.{plan_in, plan_order, Opens}
+use Rattle.planner.specs.Need.{demand_for, need_for, shown_set}
+use Rattle.planner.specs.File.{Unrelated, demand_sum}
+use Rattle.planner.specs.Times.{arc_weight, KeepsArcs, Workable, FileCrew, crew_occupies}
+use Rattle.planner.proofs.OpenLaws.{said_in, opens_readable, opens_small, count_few}
+use Rattle.planner.proofs.FileOrders.{arc_ends, plan_order_lem, opens_strict}
+use Rattle.planner.proofs.QuotedNeeds.{count_in, demand_in_lem, quotable, sound_in}
 
 module _ (s : List ℕ) (small : AreBytes s) (o : Opens s) where
   readable : Readable s
-  readable = opens-readable s o
+  readable = opens_readable s o
 
   -- ---- the plan order is that of the file's arcs, of the m activities
 
-  pub strict_in : StrictOrder (planIn s).count (isBefore (planOrder s))
-  strict_in = strict-first (planIn s).count elements (isBefore (planOrder s)) (count-few s) (opens-strict s o)
+  pub strict_in : StrictOrder (plan_in s).count (is_before (plan_order s))
+  strict_in = strict_first (plan_in s).count elements (is_before (plan_order s)) (count_few s) (opens_strict s o)
 
-  pub before-in : (i j : ℕ) → (isBefore (planOrder s) i j ≡ true) ↔ Before (FileArc s) i j
-  before-in = order-means (plan-order s readable)
+  pub before_in : (i j : ℕ) → (is_before (plan_order s) i j ≡ true) ↔ Before (FileArc s) i j
+  before_in = order_means (plan_order_lem s readable)
 
   -- an unrelated set is the paper's antichain
-  pub unrelated-in : (S : ℕ → Bool) → Antichain (planIn s).count (isBefore (planOrder s)) S ↔ Unrelated s S
-  unrelated-in S = (
-    (λ u i j p q b. let h = before-within (planIn s).count (arc-ends s readable) b in u i j h.0 h.1 p q ((before-in i j).1 b)),
-    λ u i j hi hj p q b. u i j p q ((before-in i j).0 b),
+  pub unrelated_in : (S : ℕ → Bool) → Antichain (plan_in s).count (is_before (plan_order s)) S ↔ Unrelated s S
+  unrelated_in S = (
+    (λ u i j p q b. let h = before_within (plan_in s).count (arc_ends s readable) b in u i j h.0 h.1 p q ((before_in i j).1 b)),
+    λ u i j hi hj p q b. u i j p q ((before_in i j).0 b),
   )
 
-  pub sum-in : (k : ℕ) → k < 8 → (S : ℕ → Bool) → weight (planIn s).count (demandFor (planIn s) k) S ≡ demandSum s k S
+  pub sum_in : (k : ℕ) → k < 8 → (S : ℕ → Bool) → weight (plan_in s).count (demand_for (plan_in s) k) S ≡ demand_sum s k S
   unfolding weight
-  sum-in k h S =
-      weight-same (planIn s).count (demandFor (planIn s) k) (fileDemand s k) S (λ i l. demand-in s small o k i h l)
-      ∙ ap (λ (m : ℕ). weight m (fileDemand s k) S) (count-in s readable)
+  sum_in k h S =
+      weight_same (plan_in s).count (demand_for (plan_in s) k) (file_demand s k) S (λ i l. demand_in_lem s small o k i h l)
+      ∙ ap (λ (m : ℕ). weight m (file_demand s k) S) (count_in s readable)
 
   -- ---- THE NEED: some unrelated set demands it, and every other at most as much
 
-  need-in : (k : ℕ) → Need (planIn s).count (isBefore (planOrder s)) (demandFor (planIn s) k) (needFor (planIn s) k)
-  unfolding needFor
-  need-in k = needOf-need (planIn s).count (isBefore (planOrder s)) (demandFor (planIn s) k) strict_in
+  need_in : (k : ℕ) → Need (plan_in s).count (is_before (plan_order s)) (demand_for (plan_in s) k) (need_for (plan_in s) k)
+  unfolding need_for
+  need_in k = need_of_need (plan_in s).count (is_before (plan_order s)) (demand_for (plan_in s) k) strict_in
 
-  pub need-some : (k : ℕ) → k < 8 → (S : ℕ → Bool) × Unrelated s S × (demandSum s k S ≡ needFor (planIn s) k)
-  need-some k h =
-      let N = need-in k in
-      (N.set, (unrelated-in N.set).0 N.unrelated, sym (sum-in k h N.set) ∙ N.weighs)
+  pub need_some : (k : ℕ) → k < 8 → (S : ℕ → Bool) × Unrelated s S × (demand_sum s k S ≡ need_for (plan_in s) k)
+  need_some k h =
+      let N = need_in k in
+      (N.set, (unrelated_in N.set).0 N.unrelated, sym (sum_in k h N.set) ∙ N.weighs)
 
-  pub need-every : (k : ℕ) → k < 8 → (S : ℕ → Bool) → Unrelated s S → demandSum s k S ≤ needFor (planIn s) k
-  need-every k h S u = omega (arith, sum-in k h S, (need-in k).most S ((unrelated-in S).1 u))
+  pub need_every : (k : ℕ) → k < 8 → (S : ℕ → Bool) → Unrelated s S → demand_sum s k S ≤ need_for (plan_in s) k
+  need_every k h S u = omega (arith, sum_in k h S, (need_in k).most S ((unrelated_in S).1 u))
 
   -- ---- THE SET SHOWN: it is unrelated, demands exactly the need, and holds only activities that demand the kind
 
-  pub set-unrelated : (k : ℕ) → k < 8 → Unrelated s (bit (number_of (shownSet (planIn s) k)))
-  set-unrelated k h = (unrelated-in (bit (number_of (shownSet (planIn s) k)))).0 (sound-in s small o k h).unrelated
+  pub set_unrelated : (k : ℕ) → k < 8 → Unrelated s (bit (number_of (shown_set (plan_in s) k)))
+  set_unrelated k h = (unrelated_in (bit (number_of (shown_set (plan_in s) k)))).0 (sound_in s small o k h).unrelated
 
-  pub set-demands : (k : ℕ) → k < 8 → demandSum s k (bit (number_of (shownSet (planIn s) k))) ≡ needFor (planIn s) k
-  set-demands k h = sym (sum-in k h (bit (number_of (shownSet (planIn s) k)))) ∙ (sound-in s small o k h).weighs
+  pub set_demands : (k : ℕ) → k < 8 → demand_sum s k (bit (number_of (shown_set (plan_in s) k))) ≡ need_for (plan_in s) k
+  set_demands k h = sym (sum_in k h (bit (number_of (shown_set (plan_in s) k)))) ∙ (sound_in s small o k h).weighs
 
-  pub set-members : (k : ℕ) → k < 8 → (i : ℕ) → bit (number_of (shownSet (planIn s) k)) i ≡ true → (i < activityCount s) × (0 < fileDemand s k i)
-  set-members k h i e =
-      let w = set-within (planIn s).count (planOrder s) (demandsFor (planIn s).demand k) (quotable s small o k h) i e in
-      (omega (arith, w.0, count-in s readable), omega (arith, demand-in s small o k i h w.0, w.1))
+  pub set_members : (k : ℕ) → k < 8 → (i : ℕ) → bit (number_of (shown_set (plan_in s) k)) i ≡ true → (i < activity_count s) × (0 < file_demand s k i)
+  set_members k h i e =
+      let w = set_within (plan_in s).count (plan_order s) (demands_for (plan_in s).demand k) (quotable s small o k h) i e in
+      (omega (arith, w.0, count_in s readable), omega (arith, demand_in_lem s small o k i h w.0, w.1))
 
   -- ---- CREWS
 
   -- WHAT KEEPS EVERY ARC OF THE FILE, WITH ITS WAIT, KEEPS THE PLAN ORDER
-  keeps-order : (x w : ℕ → ℕ) → KeepsArcs s x w → Keeps (Drawn (planIn s).count (isBefore (planOrder s))) x (λ i j. w i)
-  keeps-order x w k i j d = kept-before x w (arcWeight s w) (λ i j a. omega arith) k i j ((before-in i j).0 d.drawn)
+  keeps_order : (x w : ℕ → ℕ) → KeepsArcs s x w → Keeps (Drawn (plan_in s).count (is_before (plan_order s))) x (λ i j. w i)
+  keeps_order x w k i j d = kept_before x w (arc_weight s w) (λ i j a. omega arith) k i j ((before_in i j).0 d.drawn)
 
-  pub occupied-in : (k : ℕ) → k < 8 → (starts worked : ℕ → ℕ) (t : ℕ)
-      → occupied (planIn s).count (demandFor (planIn s) k) starts worked t ≡ crewOccupies s k starts worked t
+  pub occupied_in : (k : ℕ) → k < 8 → (starts worked : ℕ → ℕ) (t : ℕ)
+      → occupied (plan_in s).count (demand_for (plan_in s) k) starts worked t ≡ crew_occupies s k starts worked t
   unfolding weight
-  occupied-in k h starts worked t =
-      occupied-weight (planIn s).count (demandFor (planIn s) k) starts worked t
-      ∙ sum-in k h (active starts worked t)
-      ∙ sym (occupied-weight (activityCount s) (fileDemand s k) starts worked t)
+  occupied_in k h starts worked t =
+      occupied_weight (plan_in s).count (demand_for (plan_in s) k) starts worked t
+      ∙ sum_in k h (active starts worked t)
+      ∙ sym (occupied_weight (activity_count s) (file_demand s k) starts worked t)
 
   -- NO CREW HAS MORE OCCUPIED, in any period, whatever its durations are
-  pub crew-none : (k : ℕ) → k < 8 → (x w : ℕ → ℕ) → KeepsArcs s x w → (t : ℕ) → crewOccupies s k x w t ≤ needFor (planIn s) k
-  unfolding needFor
-  crew-none k h x w c t =
+  pub crew_none : (k : ℕ) → k < 8 → (x w : ℕ → ℕ) → KeepsArcs s x w → (t : ℕ) → crew_occupies s k x w t ≤ need_for (plan_in s) k
+  unfolding need_for
+  crew_none k h x w c t =
       omega (
         arith,
-        occupied-in k h x w t,
-        crew-bound (planIn s).count (isBefore (planOrder s)) (demandFor (planIn s) k) x w t strict_in (keeps-order x w c),
+        occupied_in k h x w t,
+        crew_bound (plan_in s).count (is_before (plan_order s)) (demand_for (plan_in s) k) x w t strict_in (keeps_order x w c),
       )
 
   -- SOME CREW HAS EXACTLY THAT OCCUPIED: it works in the file's durations
 
-  file-works : Workable s (fileDuration s)
-  file-works = record { milestones = λ i l z. z; others = λ i l n. omega arith }
+  file_works : Workable s (file_duration s)
+  file_works = record { milestones = λ i l z. z; others = λ i l n. omega arith }
 
   -- who demands something takes time, since a milestone demands nobody; and no duration is longer than 65,535
-  time-in : (k : ℕ) → k < 8 → (i : ℕ) → i < (planIn s).count → (0 < demandFor (planIn s) k i → 1 ≤ fileDuration s i) × (fileDuration s i ≤ 65535)
-  time-in k h i l =
-      let c : i < activityCount s = omega (arith, l, count-in s readable) in (
-        (λ d. file-works.others i c (λ z. omega (arith, d, demand-in s small o k i h l, milestone-idle s readable i k c h z))),
+  time_in : (k : ℕ) → k < 8 → (i : ℕ) → i < (plan_in s).count → (0 < demand_for (plan_in s) k i → 1 ≤ file_duration s i) × (file_duration s i ≤ 65535)
+  time_in k h i l =
+      let c : i < activity_count s = omega (arith, l, count_in s readable) in (
+        (λ d. file_works.others i c (λ z. omega (arith, d, demand_in_lem s small o k i h l, milestone_idle s readable i k c h z))),
         omega (arith, (said_in s readable).duration i l, opens_small s small o i),
       )
 
@@ -130,31 +130,31 @@ module _ (s : List ℕ) (small : AreBytes s) (o : Opens s) where
   abbrev longest : ℕ
   longest = 65535 + 65535
 
-  peak-in : (k : ℕ) → k < 8 → Peak (planIn s).count (isBefore (planOrder s)) (demandFor (planIn s) k) (fileDuration s) longest
-  peak-in k h =
-      crew-peak (planIn s).count (isBefore (planOrder s)) (demandFor (planIn s) k) (fileDuration s) longest strict_in
-      (λ i l. let t = time-in k h i l in (t.0, omega (arith, t.1)))
+  peak_in : (k : ℕ) → k < 8 → Peak (plan_in s).count (is_before (plan_order s)) (demand_for (plan_in s) k) (file_duration s) longest
+  peak_in k h =
+      crew_peak (plan_in s).count (is_before (plan_order s)) (demand_for (plan_in s) k) (file_duration s) longest strict_in
+      (λ i l. let t = time_in k h i l in (t.0, omega (arith, t.1)))
 
-  apart-keeps : (x : ℕ → ℕ) → Keeps (Drawn (planIn s).count (isBefore (planOrder s))) x (λ i j. longest) → KeepsArcs s x (fileDuration s)
-  apart-keeps x k i j a =
-      let h = arc-ends s readable i j a in
+  apart_keeps : (x : ℕ → ℕ) → Keeps (Drawn (plan_in s).count (is_before (plan_order s))) x (λ i j. longest) → KeepsArcs s x (file_duration s)
+  apart_keeps x k i j a =
+      let h = arc_ends s readable i j a in
       omega (
         arith,
-        k i j (record { from = h.0; to = h.1; drawn = (before-in i j).1 (last a) }),
+        k i j (record { from = h.0; to = h.1; drawn = (before_in i j).1 (last a) }),
         (said_in s readable).duration i h.0,
         opens_small s small o i,
-        file-wait-small s small i j,
+        file_wait_small s small i j,
       )
 
-  pub crew-some : (k : ℕ) → k < 8
-      → (starts : ℕ → ℕ) × (worked : ℕ → ℕ) × (t : ℕ) × FileCrew s starts worked × (1 ≤ t) × (crewOccupies s k starts worked t ≡ needFor (planIn s) k)
-  unfolding needFor
-  crew-some k h =
-      let P = peak-in k h in (
+  pub crew_some : (k : ℕ) → k < 8
+      → (starts : ℕ → ℕ) × (worked : ℕ → ℕ) × (t : ℕ) × FileCrew s starts worked × (1 ≤ t) × (crew_occupies s k starts worked t ≡ need_for (plan_in s) k)
+  unfolding need_for
+  crew_some k h =
+      let P = peak_in k h in (
         P.starts,
-        fileDuration s,
+        file_duration s,
         P.period,
-        record { works = file-works; keeps = apart-keeps P.starts P.apart },
+        record { works = file_works; keeps = apart_keeps P.starts P.apart },
         P.first,
-        sym (occupied-in k h P.starts (fileDuration s) P.period) ∙ P.full,
+        sym (occupied_in k h P.starts (file_duration s) P.period) ∙ P.full,
       )

@@ -1,4 +1,4 @@
--- THE PRICE-LIST SENTENCE HOLDS for every readable plan without a circle: `price-list`.
+-- THE PRICE-LIST SENTENCE HOLDS for every readable plan without a circle: `price_list`.
 use mathlib.Core.Path.{◌≡◌, refl, sym, ap, ap₂, ◌∙◌}
 use mathlib.Core.Bool.{Bool, true, false, not, cond}
 use mathlib.Core.List.{List, [], ◌∷◌, ◌++◌}
@@ -9,28 +9,28 @@ use lib.Dec.{ltb}
 use lib.ListN.{length, drop}
 use Rattle.words.specs.Bits.{bit}
 use Rattle.words.specs.Members.{count}
-use Rattle.words.proofs.Tests.{by-test, cond-true}
+use Rattle.words.proofs.Tests.{by_test, cond_true}
 use Rattle.order.specs.Stored.{elements, number_of}
 use Rattle.order.specs.Sets.{size_of}
 use Rattle.records.specs.Bytes.{AreBytes, byte, field}
-use Rattle.records.specs.Records.{overloadRecord, startingWith}
-use Rattle.records.proofs.Records.{overload-read}
-use Rattle.plan.specs.Meaning.{Readable, fileKinds, fileAvailable}
-use Rattle.plan.specs.Records.{activityCount}
-use Rattle.kinds.specs.Needs.{demandsFor}
-use Rattle.kinds.specs.Reading.{unitsRead}
-use Rattle.solver.proofs.QuoteSound.{need-small}
-use Rattle.planner.specs.Faults.{isFine, orCause}
-use Rattle.planner.specs.Open.{planIn, planOrder, faultOf, Opens}
-use Rattle.planner.specs.Numbers.{numbersOf}
-use Rattle.planner.specs.Need.{needFor, overKind, isOverloaded, shownSet, overCause}
-use Rattle.planner.specs.Verdict.{verdictFault, verdictOf, verdictAnswer}
-use Rattle.planner.specs.Overload.{overloadFault, overCount, overBytes, overloadAnswer, overloadOut}
-use Rattle.planner.specs.Flow.{isKind, flowFault, flowUnits, flowCount, recordBytes, flowAnswer, flowOut}
-use Rattle.planner.specs.File.{FileFlow, flowLength}
-use Rattle.planner.proofs.FileOrders.{opens-when}
+use Rattle.records.specs.Records.{overload_record, starting_with}
+use Rattle.records.proofs.Records.{overload_read}
+use Rattle.plan.specs.Meaning.{Readable, file_kinds, file_available}
+use Rattle.plan.specs.Records.{activity_count}
+use Rattle.kinds.specs.Needs.{demands_for}
+use Rattle.kinds.specs.Reading.{units_read}
+use Rattle.solver.proofs.QuoteSound.{need_small}
+use Rattle.planner.specs.Faults.{is_fine, or_cause}
+use Rattle.planner.specs.Open.{plan_in, plan_order, fault_of, Opens}
+use Rattle.planner.specs.Numbers.{numbers_of}
+use Rattle.planner.specs.Need.{need_for, over_kind, is_overloaded, shown_set, over_cause}
+use Rattle.planner.specs.Verdict.{verdict_fault, verdict_of, verdict_answer}
+use Rattle.planner.specs.Overload.{overload_fault, over_count, over_bytes, overload_answer, overload_out}
+use Rattle.planner.specs.Flow.{is_kind, flow_fault, flow_units, flow_count, record_bytes, flow_answer, flow_out}
+use Rattle.planner.specs.File.{FileFlow, flow_length}
+use Rattle.planner.proofs.FileOrders.{opens_when}
 use Rattle.promises.specs.Ours.{ours}
-use Rattle.promises.specs.PriceList.{quotedNeed, Exceeds, Enough, IsSeven, Shown, PriceList, PriceListSentence}
+use Rattle.promises.specs.PriceList.{quoted_need, Exceeds, Enough, IsSeven, Shown, PriceList, PriceListSentence}
 use Rattle.planner.specs.declared.Cause.{Cause}
 use Rattle.planner.specs.declared.Cause.TheVariants.{NoKind, Short}
 use Rattle.planner.specs.declared.Fault.{Fault}
@@ -38,28 +38,28 @@ use Rattle.planner.specs.declared.Fault.TheVariants as fault
 use Rattle.planner.specs.declared.Decision.{Decision}
 use Rattle.planner.specs.declared.Decision.TheVariants.{Accepted, Refused}
 use Rattle.planner.specs.declared.Output.TheVariants as output
-use Rattle.planner.proofs.FaultLaws.{cause-none, cause-next, fine-is}
-use Rattle.planner.proofs.OutputLaws.{output-fine, output-is-fine, output-is-refused, lent-fine}
-use Rattle.planner.proofs.OpenLaws.{opens-readable}
-use Rattle.planner.proofs.QuotedNeeds.{count-in, kinds-in, quotable, need-quoted, set-fits}
-use Rattle.promises.proofs.FileNeeds.{need-some, need-every, crew-none, crew-some}
-use Rattle.planner.proofs.FlowUnits.{flow-said}
-use Rattle.promises.proofs.FileFlows.{file-flow, file-unused}
-use Rattle.planner.proofs.FlowLaws.{kind-within, flow-fine, fine-flow, not-over}
-use Rattle.planner.proofs.SheetFaults.{is-kind}
-use Rattle.promises.proofs.AnswersWhen.{flow-left}
-use Rattle.promises.proofs.OverloadShown.{few, needs-answers, need-written, quoted-is, over-when, over-kind, over_below, shown, enough-not}
+use Rattle.planner.proofs.FaultLaws.{cause_none, cause_next, fine_is}
+use Rattle.planner.proofs.OutputLaws.{output_fine, output_is_fine, output_is_refused, lent_fine}
+use Rattle.planner.proofs.OpenLaws.{opens_readable}
+use Rattle.planner.proofs.QuotedNeeds.{count_in, kinds_in, quotable, need_quoted, set_fits}
+use Rattle.promises.proofs.FileNeeds.{need_some, need_every, crew_none, crew_some}
+use Rattle.planner.proofs.FlowUnits.{flow_said}
+use Rattle.promises.proofs.FileFlows.{file_flow, file_unused}
+use Rattle.planner.proofs.FlowLaws.{kind_within, flow_fine, fine_flow, not_over}
+use Rattle.planner.proofs.SheetFaults.{is_kind_lem}
+use Rattle.promises.proofs.AnswersWhen.{flow_left}
+use Rattle.promises.proofs.OverloadShown.{few, needs_answers, need_written, quoted_is, over_when, over_kind_lem, over_below, shown, enough_not}
 
 -- ---- answers and causes
 
-pub not-refused : (m n : ℕ) (c : Cause) → Accepted m n ≡ Refused c → ⊥
-not-refused m n c e = let z : ◌≡◌ {A = ℕ} 0 1 = cc in omega arith
+pub not_refused : (m n : ℕ) (c : Cause) → Accepted m n ≡ Refused c → ⊥
+not_refused m n c e = let z : ◌≡◌ {A = ℕ} 0 1 = cc in omega arith
 
-same-cause : (c d : Cause) → ◌≡◌ {A = Decision} (Refused c) (Refused d) → c ≡ d
-same-cause c d e = cc
+same_cause : (c d : Cause) → ◌≡◌ {A = Decision} (Refused c) (Refused d) → c ≡ d
+same_cause c d e = cc
 
 -- of three causes in turn, the first whose test holds
-first_of : (a b t : Bool) (N S O c : Cause) → orCause (orCause (orCause fault.Fine a N) b S) t O ≡ fault.Refused c → (c ≡ N) ⊎ ((c ≡ S) ⊎ ((t ≡ true) × (c ≡ O)))
+first_of : (a b t : Bool) (N S O c : Cause) → or_cause (or_cause (or_cause fault.Fine a N) b S) t O ≡ fault.Refused c → (c ≡ N) ⊎ ((c ≡ S) ⊎ ((t ≡ true) × (c ≡ O)))
 first_of true b t N S O c e = inl cc
 first_of false true t N S O c e = inr (inl cc)
 first_of false false true N S O c e = inr (inr (refl, cc))
@@ -67,59 +67,59 @@ first_of false false false N S O c e = absurd (let z : ◌≡◌ {A = ℕ} 0 1 =
 
 module _ (s : List ℕ) (small : AreBytes s) (o : Opens s) where
   readable : Readable s
-  readable = opens-readable s o
+  readable = opens_readable s o
 
   -- ---- Decision
 
-  pub verdict-refused : isOverloaded (planIn s) ≡ true → verdictAnswer s ≡ Refused (overCause (planIn s))
-  unfolding verdictFault faultOf
-  verdict-refused e =
-      ap (λ (f : Fault). verdictOf f (planIn s).count (planIn s).kinds) (cause-next (faultOf s) (isOverloaded (planIn s)) (overCause (planIn s)) o e)
+  pub verdict_refused : is_overloaded (plan_in s) ≡ true → verdict_answer s ≡ Refused (over_cause (plan_in s))
+  unfolding verdict_fault fault_of
+  verdict_refused e =
+      ap (λ (f : Fault). verdict_of f (plan_in s).count (plan_in s).kinds) (cause_next (fault_of s) (is_overloaded (plan_in s)) (over_cause (plan_in s)) o e)
 
-  verdict-accepted : isOverloaded (planIn s) ≡ false → verdictAnswer s ≡ Accepted (planIn s).count (planIn s).kinds
-  unfolding verdictFault faultOf
-  verdict-accepted e =
-      ap (λ (f : Fault). verdictOf f (planIn s).count (planIn s).kinds) (cause-none (faultOf s) (isOverloaded (planIn s)) (overCause (planIn s)) o e)
+  verdict_accepted : is_overloaded (plan_in s) ≡ false → verdict_answer s ≡ Accepted (plan_in s).count (plan_in s).kinds
+  unfolding verdict_fault fault_of
+  verdict_accepted e =
+      ap (λ (f : Fault). verdict_of f (plan_in s).count (plan_in s).kinds) (cause_none (fault_of s) (is_overloaded (plan_in s)) (over_cause (plan_in s)) o e)
 
   -- a verdict that refuses is 7, of an overloaded plan
-  refused_over : (c : Cause) → verdictAnswer s ≡ Refused c → (isOverloaded (planIn s) ≡ true) × (c ≡ overCause (planIn s))
+  refused_over : (c : Cause) → verdict_answer s ≡ Refused c → (is_overloaded (plan_in s) ≡ true) × (c ≡ over_cause (plan_in s))
   refused_over c e =
-      by-test (isOverloaded (planIn s))
-      (λ t. (t, same-cause c (overCause (planIn s)) (sym e ∙ verdict-refused t)))
-      (λ t. absurd (not-refused (planIn s).count (planIn s).kinds c (sym (verdict-accepted t) ∙ e)))
+      by_test (is_overloaded (plan_in s))
+      (λ t. (t, same_cause c (over_cause (plan_in s)) (sym e ∙ verdict_refused t)))
+      (λ t. absurd (not_refused (plan_in s).count (plan_in s).kinds c (sym (verdict_accepted t) ∙ e)))
 
-  refuses : ((c : Cause) × (verdictAnswer s ≡ Refused c)) ↔ ((k : ℕ) × Exceeds ours s k)
+  refuses : ((c : Cause) × (verdict_answer s ≡ Refused c)) ↔ ((k : ℕ) × Exceeds ours s k)
   refuses = (
-    (λ r. (overKind (planIn s), over-kind s small o (refused_over r.0 r.1).0)),
-    (λ x. (overCause (planIn s), verdict-refused (over-when s small o x.0 x.1))),
+    (λ r. (over_kind (plan_in s), over_kind_lem s small o (refused_over r.0 r.1).0)),
+    (λ x. (over_cause (plan_in s), verdict_refused (over_when s small o x.0 x.1))),
   )
 
   -- the values of 7, and the set that they show
-  seven : isOverloaded (planIn s) ≡ true → (kind : ℕ) × (need : ℕ) × (set : ℕ) × (size : ℕ) × IsSeven (overCause (planIn s)) kind need set size × Shown ours s kind need set size
-  unfolding overCause
+  seven : is_overloaded (plan_in s) ≡ true → (kind : ℕ) × (need : ℕ) × (set : ℕ) × (size : ℕ) × IsSeven (over_cause (plan_in s)) kind need set size × Shown ours s kind need set size
+  unfolding over_cause
   seven t = (
-    overKind (planIn s) + 1,
-    needFor (planIn s) (overKind (planIn s)),
-    number_of (shownSet (planIn s) (overKind (planIn s))),
-    count elements (bit (number_of (shownSet (planIn s) (overKind (planIn s))))),
+    over_kind (plan_in s) + 1,
+    need_for (plan_in s) (over_kind (plan_in s)),
+    number_of (shown_set (plan_in s) (over_kind (plan_in s))),
+    count elements (bit (number_of (shown_set (plan_in s) (over_kind (plan_in s))))),
     refl,
     shown s small o t,
   )
 
-  shows : (c : Cause) → verdictAnswer s ≡ Refused c
+  shows : (c : Cause) → verdict_answer s ≡ Refused c
       → (kind : ℕ) × (need : ℕ) × (set : ℕ) × (size : ℕ) × IsSeven c kind need set size × Shown ours s kind need set size
   shows c e =
       let w = refused_over c e in
       let v = seven w.0 in
-      (v.0, v.1, v.2, v.3, ap numbersOf w.1 ∙ v.4, v.5)
+      (v.0, v.1, v.2, v.3, ap numbers_of w.1 ∙ v.4, v.5)
 
   -- whoever gives 7 shows that set
-  seven-shown : (c : Cause) (kind need set size : ℕ) → isOverloaded (planIn s) ≡ true → c ≡ overCause (planIn s) → IsSeven c kind need set size → Shown ours s kind need set size
-  unfolding overCause
-  seven-shown c kind need set size t e i =
-      let q = planIn s in
-      let w = number_of (shownSet q (overKind q)) in
-      let j : (overKind q + 1) ∷ needFor q (overKind q) ∷ w ∷ count elements (bit w) ∷ [] ≡ kind ∷ need ∷ set ∷ size ∷ [] = tails (sym (ap numbersOf e) ∙ i) in
+  seven_shown : (c : Cause) (kind need set size : ℕ) → is_overloaded (plan_in s) ≡ true → c ≡ over_cause (plan_in s) → IsSeven c kind need set size → Shown ours s kind need set size
+  unfolding over_cause
+  seven_shown c kind need set size t e i =
+      let q = plan_in s in
+      let w = number_of (shown_set q (over_kind q)) in
+      let j : (over_kind q + 1) ∷ need_for q (over_kind q) ∷ w ∷ count elements (bit w) ∷ [] ≡ kind ∷ need ∷ set ∷ size ∷ [] = tails (sym (ap numbers_of e) ∙ i) in
       values j (shown s small o t)
     where
       tails : {x y : ℕ} {xs ys : List ℕ} → x ∷ xs ≡ y ∷ ys → xs ≡ ys
@@ -135,115 +135,115 @@ module _ (s : List ℕ) (small : AreBytes s) (o : Opens s) where
 
   -- ---- Overload
 
-  module _ (t : isOverloaded (planIn s) ≡ true) where
-    need-fits : needFor (planIn s) (overKind (planIn s)) < 256 ^ 4
-    need-fits =
+  module _ (t : is_overloaded (plan_in s) ≡ true) where
+    need_fits : need_for (plan_in s) (over_kind (plan_in s)) < 256 ^ 4
+    need_fits =
         let h = (few s small o (over_below s small o t)).1 in
         omega (
           arith,
-          need-quoted s small o (overKind (planIn s)) h,
-          need-small (planIn s).count (planOrder s) (demandsFor (planIn s).demand (overKind (planIn s))) (quotable s small o (overKind (planIn s)) h),
+          need_quoted s small o (over_kind (plan_in s)) h,
+          need_small (plan_in s).count (plan_order s) (demands_for (plan_in s).demand (over_kind (plan_in s))) (quotable s small o (over_kind (plan_in s)) h),
         )
 
-    over-out : (out : List ℕ) → overloadFault s (length out) ≡ fault.Fine
-        → overloadOut s out
-        ≡ overloadRecord (overKind (planIn s) + 1) (size_of (shownSet (planIn s) (overKind (planIn s)))) (needFor (planIn s) (overKind (planIn s)))
-        (number_of (shownSet (planIn s) (overKind (planIn s)))) ++ drop (length (overBytes (planIn s))) out
-    unfolding overloadOut overBytes
-    over-out out f =
-        lent-fine (overloadFault s (length out)) (overBytes (planIn s)) out f
-        ∙ ap (λ (r : List ℕ). r ++ drop (length (overBytes (planIn s))) out) (cond-true _ [] t)
+    over_out : (out : List ℕ) → overload_fault s (length out) ≡ fault.Fine
+        → overload_out s out
+        ≡ overload_record (over_kind (plan_in s) + 1) (size_of (shown_set (plan_in s) (over_kind (plan_in s)))) (need_for (plan_in s) (over_kind (plan_in s)))
+        (number_of (shown_set (plan_in s) (over_kind (plan_in s)))) ++ drop (length (over_bytes (plan_in s))) out
+    unfolding overload_out over_bytes
+    over_out out f =
+        lent_fine (overload_fault s (length out)) (over_bytes (plan_in s)) out f
+        ∙ ap (λ (r : List ℕ). r ++ drop (length (over_bytes (plan_in s))) out) (cond_true _ [] t)
 
-    over-read : (out : List ℕ) → overloadFault s (length out) ≡ fault.Fine
-        → Shown ours s (byte (overloadOut s out) 1) (field (overloadOut s out) 4 4) (field (overloadOut s out) 8 8) (byte (overloadOut s out) 2)
-    over-read out f =
-        let k = overKind (planIn s) in
-        let w = overload-read (k + 1) (size_of (shownSet (planIn s) k)) (needFor (planIn s) k) (number_of (shownSet (planIn s) k))
-        (drop (length (overBytes (planIn s))) out) need-fits (set-fits s small o k (few s small o (over_below s small o t)).1) in
-        rw (over-out out f, w.0, w.1, w.2, w.3) (shown s small o t)
+    over_read : (out : List ℕ) → overload_fault s (length out) ≡ fault.Fine
+        → Shown ours s (byte (overload_out s out) 1) (field (overload_out s out) 4 4) (field (overload_out s out) 8 8) (byte (overload_out s out) 2)
+    over_read out f =
+        let k = over_kind (plan_in s) in
+        let w = overload_read (k + 1) (size_of (shown_set (plan_in s) k)) (need_for (plan_in s) k) (number_of (shown_set (plan_in s) k))
+        (drop (length (over_bytes (plan_in s))) out) need_fits (set_fits s small o k (few s small o (over_below s small o t)).1) in
+        rw (over_out out f, w.0, w.1, w.2, w.3) (shown s small o t)
 
-  overload-shows : (out : List ℕ) → overloadAnswer s (length out) ≡ output.Written 1
-      → Shown ours s (byte (overloadOut s out) 1) (field (overloadOut s out) 4 4) (field (overloadOut s out) 8 8) (byte (overloadOut s out) 2)
-  unfolding overCount
-  overload-shows out e =
-      let w = output-is-fine (overloadFault s (length out)) 1 (overCount (planIn s)) e in
-      by-test (isOverloaded (planIn s))
-      (λ t. over-read t out w.0)
-      (λ t. absurd (let z : overCount (planIn s) ≡ 0 = ap (λ (b : Bool). cond b 1 0) t in omega (arith, w.1, z)))
+  overload_shows : (out : List ℕ) → overload_answer s (length out) ≡ output.Written 1
+      → Shown ours s (byte (overload_out s out) 1) (field (overload_out s out) 4 4) (field (overload_out s out) 8 8) (byte (overload_out s out) 2)
+  unfolding over_count
+  overload_shows out e =
+      let w = output_is_fine (overload_fault s (length out)) 1 (over_count (plan_in s)) e in
+      by_test (is_overloaded (plan_in s))
+      (λ t. over_read t out w.0)
+      (λ t. absurd (let z : over_count (plan_in s) ≡ 0 = ap (λ (b : Bool). cond b 1 0) t in omega (arith, w.1, z)))
 
   -- ---- Flow
 
-  flow-shows : (asked n : ℕ) (c : Cause) (kind need set size : ℕ) → flowAnswer s asked n ≡ output.Refused c → IsSeven c kind need set size → Shown ours s kind need set size
-  unfolding flowFault
-  flow-shows asked n c kind need set size e i =
-      let f = output-is-refused (flowFault s asked n) (flowCount (planIn s) (asked - 1)) c e in
-      go (first_of (not (isKind asked (planIn s).kinds)) (ltb n (flowLength (planIn s).count)) (isOverloaded (planIn s)) (NoKind (planIn s).kinds)
-      (Short (flowLength (planIn s).count)) (overCause (planIn s)) c (sym (ap turns (fine-is (faultOf s) o)) ∙ f))
+  flow_shows : (asked n : ℕ) (c : Cause) (kind need set size : ℕ) → flow_answer s asked n ≡ output.Refused c → IsSeven c kind need set size → Shown ours s kind need set size
+  unfolding flow_fault
+  flow_shows asked n c kind need set size e i =
+      let f = output_is_refused (flow_fault s asked n) (flow_count (plan_in s) (asked - 1)) c e in
+      go (first_of (not (is_kind asked (plan_in s).kinds)) (ltb n (flow_length (plan_in s).count)) (is_overloaded (plan_in s)) (NoKind (plan_in s).kinds)
+      (Short (flow_length (plan_in s).count)) (over_cause (plan_in s)) c (sym (ap turns (fine_is (fault_of s) o)) ∙ f))
     where
       turns : Fault → Fault
       turns f =
-          orCause (orCause (orCause f (not (isKind asked (planIn s).kinds)) (NoKind (planIn s).kinds)) (ltb n (flowLength (planIn s).count))
-          (Short (flowLength (planIn s).count))) (isOverloaded (planIn s)) (overCause (planIn s))
+          or_cause (or_cause (or_cause f (not (is_kind asked (plan_in s).kinds)) (NoKind (plan_in s).kinds)) (ltb n (flow_length (plan_in s).count))
+          (Short (flow_length (plan_in s).count))) (is_overloaded (plan_in s)) (over_cause (plan_in s))
 
-      go : (c ≡ NoKind (planIn s).kinds) ⊎ ((c ≡ Short (flowLength (planIn s).count)) ⊎ ((isOverloaded (planIn s) ≡ true) × (c ≡ overCause (planIn s)))) → Shown ours s kind need set size
+      go : (c ≡ NoKind (plan_in s).kinds) ⊎ ((c ≡ Short (flow_length (plan_in s).count)) ⊎ ((is_overloaded (plan_in s) ≡ true) × (c ≡ over_cause (plan_in s)))) → Shown ours s kind need set size
       go (inl e) = absurd (let z : ◌≡◌ {A = ℕ} 8 7 = cc in omega arith)
       go (inr (inl e)) = absurd (let z : ◌≡◌ {A = ℕ} 9 7 = cc in omega arith)
-      go (inr (inr w)) = seven-shown c kind need set size w.0 w.1 i
+      go (inr (inr w)) = seven_shown c kind need set size w.0 w.1 i
 
-  flows : Enough ours s → (k : ℕ) → k < fileKinds s → (out : List ℕ) → flowLength (activityCount s) ≤ length out
-      → (n : ℕ) × (flowAnswer s (k + 1) (length out) ≡ output.Written n)
+  flows : Enough ours s → (k : ℕ) → k < file_kinds s → (out : List ℕ) → flow_length (activity_count s) ≤ length out
+      → (n : ℕ) × (flow_answer s (k + 1) (length out) ≡ output.Written n)
   flows en k h out l =
-      let room : flowLength (planIn s).count ≤ length out = rw (count-in s readable) l in
-      let there = is-kind (k + 1) (planIn s).kinds (omega arith) (omega (arith, h, kinds-in s readable)) in
-      let f = fine-flow s (k + 1) (length out) o there room (enough-not s small o en) in
-      (flowCount (planIn s) (k + 1 - 1), output-fine (flowFault s (k + 1) (length out)) (flowCount (planIn s) (k + 1 - 1)) f)
+      let room : flow_length (plan_in s).count ≤ length out = rw (count_in s readable) l in
+      let there = is_kind_lem (k + 1) (plan_in s).kinds (omega arith) (omega (arith, h, kinds_in s readable)) in
+      let f = fine_flow s (k + 1) (length out) o there room (enough_not s small o en) in
+      (flow_count (plan_in s) (k + 1 - 1), output_fine (flow_fault s (k + 1) (length out)) (flow_count (plan_in s) (k + 1 - 1)) f)
 
-  module _ (k : ℕ) (out : List ℕ) (n : ℕ) (e : flowAnswer s (k + 1) (length out) ≡ output.Written n) where
-    left : (flowFault s (k + 1) (length out) ≡ fault.Fine) × (n ≡ flowCount (planIn s) k) × (flowOut s (k + 1) out ≡ startingWith (recordBytes (planIn s) k) out)
-    left = flow-left s k out n e
+  module _ (k : ℕ) (out : List ℕ) (n : ℕ) (e : flow_answer s (k + 1) (length out) ≡ output.Written n) where
+    left : (flow_fault s (k + 1) (length out) ≡ fault.Fine) × (n ≡ flow_count (plan_in s) k) × (flow_out s (k + 1) out ≡ starting_with (record_bytes (plan_in s) k) out)
+    left = flow_left s k out n e
 
-    went : Opens s × (isKind (k + 1) (planIn s).kinds ≡ true) × (flowLength (planIn s).count ≤ length out) × (isOverloaded (planIn s) ≡ false)
-    went = flow-fine s (k + 1) (length out) (ap isFine left.0)
+    went : Opens s × (is_kind (k + 1) (plan_in s).kinds ≡ true) × (flow_length (plan_in s).count ≤ length out) × (is_overloaded (plan_in s) ≡ false)
+    went = flow_fine s (k + 1) (length out) (ap is_fine left.0)
 
-    kind-there : k < fileKinds s
-    kind-there = omega (arith, (kind-within (k + 1) (planIn s).kinds went.1).1, kinds-in s readable)
+    kind_there : k < file_kinds s
+    kind_there = omega (arith, (kind_within (k + 1) (plan_in s).kinds went.1).1, kinds_in s readable)
 
     -- the records, read back
-    pub units-said : (u v : ℕ) → unitsRead n (flowOut s (k + 1) out) u v ≡ flowUnits (planIn s) k u v
-    units-said u v =
-        ap (λ (x : ℕ). unitsRead x (flowOut s (k + 1) out) u v) left.1
-        ∙ ap (λ (l : List ℕ). unitsRead (flowCount (planIn s) k) l u v) left.2
-        ∙ flow-said s small o k (few s small o kind-there).1 (drop (length (recordBytes (planIn s) k)) out) u v
+    pub units_said : (u v : ℕ) → units_read n (flow_out s (k + 1) out) u v ≡ flow_units (plan_in s) k u v
+    units_said u v =
+        ap (λ (x : ℕ). units_read x (flow_out s (k + 1) out) u v) left.1
+        ∙ ap (λ (l : List ℕ). units_read (flow_count (plan_in s) k) l u v) left.2
+        ∙ flow_said s small o k (few s small o kind_there).1 (drop (length (record_bytes (plan_in s) k)) out) u v
 
-    meets : FileFlow s k (unitsRead n (flowOut s (k + 1) out))
+    meets : FileFlow s k (units_read n (flow_out s (k + 1) out))
     meets =
-        file-flow s small o k (few s small o kind-there).1 (not-over s went.3 k (few s small o kind-there).0) (unitsRead n (flowOut s (k + 1) out)) units-said
+        file_flow s small o k (few s small o kind_there).1 (not_over s went.3 k (few s small o kind_there).0) (units_read n (flow_out s (k + 1) out)) units_said
 
-    unused : unitsRead n (flowOut s (k + 1) out) 0 (activityCount s + 1) ≡ fileAvailable s k - quotedNeed ours s k
+    unused : units_read n (flow_out s (k + 1) out) 0 (activity_count s + 1) ≡ file_available s k - quoted_need ours s k
     unused =
-        file-unused s small o k (few s small o kind-there).1 (unitsRead n (flowOut s (k + 1) out)) units-said
-        ∙ ap (λ (x : ℕ). fileAvailable s k - x) (sym (quoted-is s small o k kind-there))
+        file_unused s small o k (few s small o kind_there).1 (units_read n (flow_out s (k + 1) out)) units_said
+        ∙ ap (λ (x : ℕ). file_available s k - x) (sym (quoted_is s small o k kind_there))
 
-  price-list-opens : PriceList ours s
-  price-list-opens =
+  price_list_opens : PriceList ours s
+  price_list_opens =
       record {
-        answers = needs-answers s small o;
-        writes = λ out h k l. need-written s small o out h k l ∙ sym (quoted-is s small o k l);
-        some-set = λ k h. let w = need-some s small o k (few s small o h).1 in (w.0, w.1, w.2 ∙ sym (quoted-is s small o k h));
-        every_set = λ k h S u. omega (arith, need-every s small o k (few s small o h).1 S u, quoted-is s small o k h);
-        no-crew = λ k h a w c t p. omega (arith, crew-none s small o k (few s small o h).1 a w c.keeps t, quoted-is s small o k h);
-        some-crew = λ k h.
-            let w = crew-some s small o k (few s small o h).1 in
-            (w.0, w.1, w.2, w.3, w.4, w.5 ∙ sym (quoted-is s small o k h));
+        answers = needs_answers s small o;
+        writes = λ out h k l. need_written s small o out h k l ∙ sym (quoted_is s small o k l);
+        some_set = λ k h. let w = need_some s small o k (few s small o h).1 in (w.0, w.1, w.2 ∙ sym (quoted_is s small o k h));
+        every_set = λ k h S u. omega (arith, need_every s small o k (few s small o h).1 S u, quoted_is s small o k h);
+        no_crew = λ k h a w c t p. omega (arith, crew_none s small o k (few s small o h).1 a w c.keeps t, quoted_is s small o k h);
+        some_crew = λ k h.
+            let w = crew_some s small o k (few s small o h).1 in
+            (w.0, w.1, w.2, w.3, w.4, w.5 ∙ sym (quoted_is s small o k h));
         refuses = refuses;
         shows = shows;
-        overload-shows = overload-shows;
-        flow-shows = flow-shows;
-        accepts = λ en. verdict-accepted (enough-not s small o en) ∙ ap₂ Accepted (count-in s readable) (kinds-in s readable);
+        overload_shows = overload_shows;
+        flow_shows = flow_shows;
+        accepts = λ en. verdict_accepted (enough_not s small o en) ∙ ap₂ Accepted (count_in s readable) (kinds_in s readable);
         flows = flows;
         meets = meets;
         unused = unused;
       }
 
-pub price-list : PriceListSentence ours
-price-list s small e free = price-list-opens s small ((opens-when s).1 (e, free))
+pub price_list : PriceListSentence ours
+price_list s small e free = price_list_opens s small ((opens_when s).1 (e, free))

@@ -1,33 +1,33 @@
--- CHANGE 3 OF DOCUMENT 02 HOLDS OF OURS: `arcs-once-keep`.
+-- CHANGE 3 OF DOCUMENT 02 HOLDS OF OURS: `arcs_once_keep`.
 use mathlib.Core.Path.{◌≡◌, refl, ap}
 use mathlib.Core.List.{List, ◌∷◌}
 use Prim.Native.Nat.{ℕ}
 use native.Mathlib.Omega.{arith}
-use Rattle.plan.specs.Causes.{isReadable, answer_of}
+use Rattle.plan.specs.Causes.{is_readable, answer_of}
 use Rattle.plan.specs.Meaning.{Readable}
 use Rattle.plan.specs.declared.Cause.TheVariants.{RepeatedArc}
 use Rattle.plan.specs.declared.Answer.{Answer}
 use Rattle.plan.specs.declared.Answer.TheVariants as answer
-use Rattle.plan.proofs.RepeatedArcs.{repeated-refused, refused-repeated, arcs-once}
+use Rattle.plan.proofs.RepeatedArcs.{repeated_refused, refused_repeated, arcs_once}
 use Rattle.promises.specs.Ours.{ours}
 use Rattle.promises.specs.EveryInput.{OneOf, reading}
 use Rattle.promises.specs.Paper.{EveryGives}
 use Rattle.promises.specs.RepeatedArcs.{ArcsOnceSentence}
-use Rattle.promises.proofs.EveryInputHolds.{unread-one}
-use Rattle.promises.proofs.RefusalsHold.{unreadables, unread-given}
+use Rattle.promises.proofs.EveryInputHolds.{unread_one}
+use Rattle.promises.proofs.RefusalsHold.{unreadables, unread_given}
 
 -- a file that is not readable has one of the reader's numbers
-one-given : (s : List ℕ) → (Readable s → ⊥) → (n : ℕ) × (values : List ℕ) × OneOf reading n × EveryGives ours s (n ∷ values)
-one-given s never = go (answer_of s) refl
+one_given : (s : List ℕ) → (Readable s → ⊥) → (n : ℕ) × (values : List ℕ) × OneOf reading n × EveryGives ours s (n ∷ values)
+one_given s never = go (answer_of s) refl
   where
     go : (a : Answer) → answer_of s ≡ a → (n : ℕ) × (values : List ℕ) × OneOf reading n × EveryGives ours s (n ∷ values)
-    go answer.Readable e = absurd (never (ap isReadable e))
-    go (answer.Refused u) e = (_, _, unread-one u, (unreadables s).every u e)
+    go answer.Readable e = absurd (never (ap is_readable e))
+    go (answer.Refused u) e = (_, _, unread_one u, (unreadables s).every u e)
 
-pub arcs-once-keep : ArcsOnceSentence ours
-arcs-once-keep s =
+pub arcs_once_keep : ArcsOnceSentence ours
+arcs_once_keep s =
     record {
-      thirteen = λ p R. (unreadables s).every (RepeatedArc p) (repeated-refused s p R);
-      thirteen-means = λ p g. refused-repeated s p (unread-given s (RepeatedArc p) g);
-      once = λ type i j some a b later. one-given s (λ r. omega (arith, arcs-once s r type i j some a b));
+      thirteen = λ p R. (unreadables s).every (RepeatedArc p) (repeated_refused s p R);
+      thirteen_means = λ p g. refused_repeated s p (unread_given s (RepeatedArc p) g);
+      once = λ type i j some a b later. one_given s (λ r. omega (arith, arcs_once s r type i j some a b));
     }

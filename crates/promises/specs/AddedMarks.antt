@@ -1,5 +1,5 @@
 -- CHANGE 6 of document 02, "Added means added", about a planner P: `AddedSentence P`. Ours keeps it:
--- `added-keep` of proofs/AddedMarksHold.antt. When a pair is added is `Added` of planner's File, by
+-- `added_keep` of proofs/AddedMarksHold.antt. When a pair is added is `Added` of planner's File, by
 -- what comes before what by the job arcs. Here it is said of every record that Flow writes; and then
 -- what the marked pairs are in the paper, where A is the job order, X are the extra arcs, f is the flow
 -- shown, of all kinds, and T(E) is what comes before what by E. Quotations are from document 02,
@@ -7,8 +7,8 @@
 use Rattle.std.specs.Prelude.{◌≡◌, List, ◌↔◌, ℕ, ◌+◌, ◌<◌, length}
 use Rattle.order.specs.Before.{Before, Joined, Acyclic}
 use Rattle.records.specs.Bytes.{AreBytes}
-use Rattle.records.specs.Records.{fromOf, toOf, addedOf}
-use Rattle.plan.specs.Records.{activityCount}
+use Rattle.records.specs.Records.{from_of, to_of, added_of}
+use Rattle.plan.specs.Records.{activity_count}
 use Rattle.plan.specs.Meaning.{Readable, JobArc, FileArc}
 use Rattle.planner.specs.File.{Added}
 use Rattle.planner.specs.declared.Output.TheVariants.{Written}
@@ -23,9 +23,9 @@ pub record Writes (P : Planner) (s : List ℕ) (u v mark : ℕ) : Type 0 where
   pub answers : (P.flow (kind + 1)).answer s (length lent) ≡ Written count
   pub place : ℕ
   pub written : place < count
-  pub from_is : fromOf ((P.flow (kind + 1)).left s lent) place ≡ u
-  pub to_is : toOf ((P.flow (kind + 1)).left s lent) place ≡ v
-  pub mark-is : addedOf ((P.flow (kind + 1)).left s lent) place ≡ mark
+  pub from_is : from_of ((P.flow (kind + 1)).left s lent) place ≡ u
+  pub to_is : to_of ((P.flow (kind + 1)).left s lent) place ≡ v
+  pub mark_is : added_of ((P.flow (kind + 1)).left s lent) place ≡ mark
 
 -- "The added mark shall be 1 exactly where both ends are activities and the sender is not before the receiver
 -- in the job order, directly or through others."; else it is 0
@@ -48,7 +48,7 @@ pub record FullOrder (P : Planner) (s : List ℕ) : Type 0 where
   pub feasible : Acyclic (Joined (Before (JobArc s)) (Marked P s))
   -- and the handovers between activities that are not marked lie within the job order: C(f) is all that
   -- carries flow and is not in A
-  pub unmarked : (i j : ℕ) → i < activityCount s → j < activityCount s
+  pub unmarked : (i j : ℕ) → i < activity_count s → j < activity_count s
       → Writes P s (i + 1) (j + 1) 0 → Before (JobArc s) i j
 
 -- ---- the sentence

@@ -1,5 +1,5 @@
 -- THE THREE DEMANDS of document 00, about a planner P. Ours keeps them:
--- `ours-keeps` of proofs/DemandsHold.antt.
+-- `ours_keeps` of proofs/DemandsHold.antt.
 use Rattle.promises.specs.Planner.{Planner}
 use Rattle.promises.specs.EveryInput.{EveryInput}
 use Rattle.promises.specs.Paper.{PaperSentence}

@@ -19,4 +19,4 @@ pub record Planner : Type 0 where
   pub starts : Writing
   pub overload : Writing
   pub flow : ℕ → Writing
-  pub crew-check : List ℕ → List ℕ → List ℕ → CrewChecked
+  pub crew_check : List ℕ → List ℕ → List ℕ → CrewChecked

@@ -5,13 +5,13 @@
 use Rattle.std.specs.Prelude.{◌≡◌, List, [], ◌∷◌, ℕ, ◌+◌, ◌≤◌, ◌<◌}
 use Rattle.order.specs.Before.{Acyclic}
 use Rattle.records.specs.Bytes.{AreBytes}
-use Rattle.plan.specs.Meaning.{Readable, FileArc, fileKinds}
+use Rattle.plan.specs.Meaning.{Readable, FileArc, file_kinds}
 use Rattle.plan.specs.Causes.{answer_of}
-use Rattle.plan.specs.Records.{activityCount}
+use Rattle.plan.specs.Records.{activity_count}
 use Rattle.plan.specs.declared.Cause.{Cause as Unread}
 use Rattle.plan.specs.declared.Answer.TheVariants as answer
-use Rattle.planner.specs.Answers.{unreadNumbers, verdictNumbers, outputNumbers}
-use Rattle.planner.specs.File.{flowLength}
+use Rattle.planner.specs.Answers.{unread_numbers, verdict_numbers, output_numbers}
+use Rattle.planner.specs.File.{flow_length}
 use Rattle.promises.specs.Planner.{Planner}
 use Rattle.promises.specs.EveryInput.{OneOf, reading}
 use Rattle.promises.specs.Paper.{EveryGives, SomeGives}
@@ -21,35 +21,35 @@ use Rattle.promises.specs.PriceList.{Exceeds, Enough}
 -- (`answer_of` of plan's Causes, and its meaning in plan's Refused) every operation gives, and none
 -- gives one of these numbers otherwise
 pub record Unreadables (P : Planner) (s : List ℕ) : Type 0 where
-  pub every : (u : Unread) → answer_of s ≡ answer.Refused u → EveryGives P s (unreadNumbers u)
+  pub every : (u : Unread) → answer_of s ≡ answer.Refused u → EveryGives P s (unread_numbers u)
   pub some : (n : ℕ) (values : List ℕ) → OneOf reading n → SomeGives P s (n ∷ values)
-      → (u : Unread) × (answer_of s ≡ answer.Refused u) × (unreadNumbers u ≡ n ∷ values)
+      → (u : Unread) × (answer_of s ≡ answer.Refused u) × (unread_numbers u ≡ n ∷ values)
 
 -- of a readable plan without a circle
 pub record Refusals (P : Planner) (s : List ℕ) : Type 0 where
   -- "Needs, Starts, Overload: 9.": "lent slice too short | 9 | length needed", "Lengths needed: K;
   -- m+1; 24 bytes for Overload"
-  pub needs-short : (n : ℕ) → n < fileKinds s → outputNumbers (P.needs.answer s n) ≡ 9 ∷ fileKinds s ∷ []
-  pub needs : (n : ℕ) → fileKinds s ≤ n → outputNumbers (P.needs.answer s n) ≡ 0 ∷ fileKinds s ∷ []
-  pub starts-short : (n : ℕ) → n < activityCount s + 1
-      → outputNumbers (P.starts.answer s n) ≡ 9 ∷ (activityCount s + 1) ∷ []
-  pub starts : (n : ℕ) → activityCount s + 1 ≤ n
-      → outputNumbers (P.starts.answer s n) ≡ 0 ∷ (activityCount s + 1) ∷ []
-  pub overload-short : (n : ℕ) → n < 24 → outputNumbers (P.overload.answer s n) ≡ 9 ∷ 24 ∷ []
+  pub needs_short : (n : ℕ) → n < file_kinds s → output_numbers (P.needs.answer s n) ≡ 9 ∷ file_kinds s ∷ []
+  pub needs : (n : ℕ) → file_kinds s ≤ n → output_numbers (P.needs.answer s n) ≡ 0 ∷ file_kinds s ∷ []
+  pub starts_short : (n : ℕ) → n < activity_count s + 1
+      → output_numbers (P.starts.answer s n) ≡ 9 ∷ (activity_count s + 1) ∷ []
+  pub starts : (n : ℕ) → activity_count s + 1 ≤ n
+      → output_numbers (P.starts.answer s n) ≡ 0 ∷ (activity_count s + 1) ∷ []
+  pub overload_short : (n : ℕ) → n < 24 → output_numbers (P.overload.answer s n) ≡ 9 ∷ 24 ∷ []
   -- "Overload: its record, or "none" when accepted."
   pub overload : (n : ℕ) → 24 ≤ n → (k : ℕ) → Exceeds P s k
-      → outputNumbers (P.overload.answer s n) ≡ 0 ∷ 1 ∷ []
-  pub overload-none : (n : ℕ) → 24 ≤ n → Enough P s → outputNumbers (P.overload.answer s n) ≡ 0 ∷ 0 ∷ []
+      → output_numbers (P.overload.answer s n) ≡ 0 ∷ 1 ∷ []
+  pub overload_none : (n : ℕ) → 24 ≤ n → Enough P s → output_numbers (P.overload.answer s n) ≡ 0 ∷ 0 ∷ []
   -- "Flow: 8, 9, 7 (any kind's overload).": "kind not 1 to K | 8 | K"
-  pub flow-no-kind : (kind n : ℕ) → ((1 ≤ kind) × (kind ≤ fileKinds s) → ⊥)
-      → outputNumbers ((P.flow kind).answer s n) ≡ 8 ∷ fileKinds s ∷ []
+  pub flow_no_kind : (kind n : ℕ) → ((1 ≤ kind) × (kind ≤ file_kinds s) → ⊥)
+      → output_numbers ((P.flow kind).answer s n) ≡ 8 ∷ file_kinds s ∷ []
   -- "for Flow 24 × (m(m−1)/2 + 2m + 1) bytes"
-  pub flow-short : (kind n : ℕ) → 1 ≤ kind → kind ≤ fileKinds s → n < flowLength (activityCount s)
-      → outputNumbers ((P.flow kind).answer s n) ≡ 9 ∷ flowLength (activityCount s) ∷ []
+  pub flow_short : (kind n : ℕ) → 1 ≤ kind → kind ≤ file_kinds s → n < flow_length (activity_count s)
+      → output_numbers ((P.flow kind).answer s n) ≡ 9 ∷ flow_length (activity_count s) ∷ []
   -- its 7 is Verdict's, with the same set
-  pub flow-overloaded : (kind n : ℕ) → 1 ≤ kind → kind ≤ fileKinds s → flowLength (activityCount s) ≤ n
+  pub flow_overloaded : (kind n : ℕ) → 1 ≤ kind → kind ≤ file_kinds s → flow_length (activity_count s) ≤ n
       → (k : ℕ) → Exceeds P s k
-      → outputNumbers ((P.flow kind).answer s n) ≡ verdictNumbers (P.verdict s)
+      → output_numbers ((P.flow kind).answer s n) ≡ verdict_numbers (P.verdict s)
 
 abbrev pub RefusalSentence : Planner → Type 0
 RefusalSentence P =

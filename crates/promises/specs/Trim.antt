@@ -1,5 +1,5 @@
 -- CHANGE 7 of document 02, "Trim the extra arcs", about a planner P and its operation T:
--- `TrimSentence P T`. Ours keeps it: `trim-keeps` of proofs/TrimHolds.antt. What is written is said by its
+-- `TrimSentence P T`. Ours keeps it: `trim_keeps` of proofs/TrimHolds.antt. What is written is said by its
 -- bytes, which are records of the given file in their order (`Selected` of plan's Filtered), by what a file
 -- of these bytes says (plan's Meaning), and by what Verdict says of it and of other files. That every choice
 -- of arcs can be left out of a readable file, is plan's law of a filtered file (proofs/Filtered.antt).
@@ -7,10 +7,10 @@
 use Rattle.std.specs.Prelude.{◌≡◌, List, [], ◌∷◌, ◌++◌, ◌⊎◌, ◌↔◌, ℕ, ◌*◌, ◌≤◌, ◌<◌, length, take, drop}
 use Rattle.order.specs.Before.{Acyclic}
 use Rattle.records.specs.Bytes.{AreBytes}
-use Rattle.plan.specs.Records.{activityCount}
-use Rattle.plan.specs.Meaning.{Readable, ExtraArc, FileArc, fileKinds, jobWait, extraWait}
+use Rattle.plan.specs.Records.{activity_count}
+use Rattle.plan.specs.Meaning.{Readable, ExtraArc, FileArc, file_kinds, job_wait, extra_wait}
 use Rattle.plan.specs.Filtered.{Selected}
-use Rattle.planner.specs.Answers.{causeNumber, outputNumbers}
+use Rattle.planner.specs.Answers.{cause_number, output_numbers}
 use Rattle.planner.specs.declared.Cause.{Cause}
 use Rattle.planner.specs.declared.Decision.TheVariants as verdict
 use Rattle.planner.specs.declared.Output.TheVariants.{Written, Refused}
@@ -20,21 +20,21 @@ use Rattle.promises.specs.Same.{SameWork}
 
 -- Verdict accepts the plan
 abbrev pub Accepts : Planner → List ℕ → Type 0
-Accepts P s = P.verdict s ≡ verdict.Accepted (activityCount s) (fileKinds s)
+Accepts P s = P.verdict s ≡ verdict.Accepted (activity_count s) (file_kinds s)
 
 -- Verdict refuses it as overloaded, by 7
 abbrev pub Overloads : Planner → List ℕ → Type 0
-Overloads P s = (c : Cause) × (P.verdict s ≡ verdict.Refused c) × (causeNumber c ≡ 7)
+Overloads P s = (c : Cause) × (P.verdict s ≡ verdict.Refused c) × (cause_number c ≡ 7)
 
 -- ---- leaving out extra arcs of wait 0
 
 -- t says what s says, but for some extra arcs of wait 0 that it lacks
 pub record LeavesOut (s t : List ℕ) : Type 0 where
   pub work : SameWork s t
-  pub job-waits : (i j : ℕ) → jobWait s i j ≡ jobWait t i j
+  pub job_waits : (i j : ℕ) → job_wait s i j ≡ job_wait t i j
   pub fewer : (i j : ℕ) → ExtraArc t i j → ExtraArc s i j
-  pub waits : (i j : ℕ) → ExtraArc t i j → extraWait s i j ≡ extraWait t i j
-  pub free : (i j : ℕ) → ExtraArc s i j → (ExtraArc t i j → ⊥) → extraWait s i j ≡ 0
+  pub waits : (i j : ℕ) → ExtraArc t i j → extra_wait s i j ≡ extra_wait t i j
+  pub free : (i j : ℕ) → ExtraArc s i j → (ExtraArc t i j → ⊥) → extra_wait s i j ≡ 0
 
 -- the extra arc from i to j is one of those
 abbrev pub Gone : List ℕ → List ℕ → ℕ → ℕ → Type 0
@@ -64,19 +64,19 @@ pub record Trimmed (P : Planner) (s t : List ℕ) : Type 0 where
   pub leaves : LeavesOut s t
   -- "Each arc with wait 0 is taken out if the plan then left is still accepted": and only then. (There is a
   -- file that says that plan, and whichever does, decides.)
-  pub then-left : (i j : ℕ) → ExtraArc s i j → extraWait s i j ≡ 0
+  pub then_left : (i j : ℕ) → ExtraArc s i j → extra_wait s i j ≡ 0
       → (u : List ℕ) × AreBytes u × Readable u × ThenLeft s t i j u
-  pub goes : (i j : ℕ) → ExtraArc s i j → extraWait s i j ≡ 0
+  pub goes : (i j : ℕ) → ExtraArc s i j → extra_wait s i j ≡ 0
       → (u : List ℕ) → AreBytes u → Readable u → ThenLeft s t i j u
       → Accepts P u → ExtraArc t i j → ⊥
-  pub stays : (i j : ℕ) → ExtraArc s i j → extraWait s i j ≡ 0
+  pub stays : (i j : ℕ) → ExtraArc s i j → extra_wait s i j ≡ 0
       → (u : List ℕ) → AreBytes u → Readable u → ThenLeft s t i j u
       → Overloads P u → ExtraArc t i j
   -- "Wanted of it: it is accepted,
   pub accepted : Accepts P t
   -- and no plan made from it by leaving out one or more extra arcs of wait 0 is accepted." (And each of these
   -- arcs can be left out by itself.)
-  pub one_less : (i j : ℕ) → ExtraArc t i j → extraWait t i j ≡ 0
+  pub one_less : (i j : ℕ) → ExtraArc t i j → extra_wait t i j ≡ 0
       → (u : List ℕ) × AreBytes u × Readable u × LeavesOut t u × Gone t u i j
   pub least : (u : List ℕ) → AreBytes u → Readable u → LeavesOut t u
       → (i j : ℕ) → Gone t u i j → Overloads P u
@@ -104,12 +104,12 @@ pub record TrimSentence (P : Planner) (T : Writing) : Type 0 where
   pub one : AnswersBy (opening ++ 9 ∷ 7 ∷ []) T
   pub kept : KeepsLent T
   -- the numbers of the opening it gives exactly where Verdict gives them, with the same values
-  pub opens : (s : List ℕ) (n : ℕ) (c : Cause) → OneOf opening (causeNumber c)
+  pub opens : (s : List ℕ) (n : ℕ) (c : Cause) → OneOf opening (cause_number c)
       → (P.verdict s ≡ verdict.Refused c) ↔ (T.answer s n ≡ Refused c)
   -- "9 comes after the circles and needs the given file's length; 7 comes last.",
   -- and is Verdict's, with the same set
   pub short : (s : List ℕ) → Readable s → Acyclic (FileArc s) → (n : ℕ) → n < length s
-      → outputNumbers (T.answer s n) ≡ 9 ∷ length s ∷ []
+      → output_numbers (T.answer s n) ≡ 9 ∷ length s ∷ []
   pub overloaded : (s : List ℕ) → Readable s → Acyclic (FileArc s) → (n : ℕ) → length s ≤ n
       → (c : Cause) → P.verdict s ≡ verdict.Refused c → T.answer s n ≡ Refused c
   -- "Trim takes an accepted plan"

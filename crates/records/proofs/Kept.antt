@@ -9,28 +9,28 @@ use native.Mathlib.Nat.{eq-or-lt_of_le}
 use lib.ListN.{length, take, drop, length-append}
 use lib.Seq.{take_at, drop_at}
 use Rattle.words.specs.Members.{count}
-use Rattle.words.proofs.Counts.{count-more, count-still, count_less, count_same}
-use Rattle.words.proofs.Tests.{by-test, cond-true, cond-false}
+use Rattle.words.proofs.Counts.{count_more, count_still, count_less, count_same}
+use Rattle.words.proofs.Tests.{by_test, cond_true, cond_false}
 use Rattle.records.specs.Records.{joined, kept}
 
 module _ (b : ℕ → Bool) (f : ℕ → List ℕ) where
-  pub kept-one : (n : ℕ) → b n ≡ true → kept b f (suc n) ≡ kept b f n ++ f n
+  pub kept_one : (n : ℕ) → b n ≡ true → kept b f (suc n) ≡ kept b f n ++ f n
   unfolding joined
-  kept-one n e = ap (λ (l : List ℕ). kept b f n ++ l) (cond-true (f n) [] e)
+  kept_one n e = ap (λ (l : List ℕ). kept b f n ++ l) (cond_true (f n) [] e)
 
-  pub kept-none : (n : ℕ) → b n ≡ false → kept b f (suc n) ≡ kept b f n
+  pub kept_none : (n : ℕ) → b n ≡ false → kept b f (suc n) ≡ kept b f n
   unfolding joined
-  kept-none n e = ap (λ (l : List ℕ). kept b f n ++ l) (cond-false (f n) [] e) ∙ append-nil (kept b f n)
+  kept_none n e = ap (λ (l : List ℕ). kept b f n ++ l) (cond_false (f n) [] e) ∙ append-nil (kept b f n)
 
   module _ (most : ℕ) (each : (k : ℕ) → k < most → b k ≡ true → length (f k) ≡ 24) where
-    pub kept-length : (n : ℕ) → n ≤ most → length (kept b f n) ≡ 24 * count n b
+    pub kept_length : (n : ℕ) → n ≤ most → length (kept b f n) ≡ 24 * count n b
     unfolding joined count
-    kept-length zero m = refl
-    kept-length (suc n) m =
-        let ih = kept-length n (omega arith) in
-        by-test (b n)
-        (λ t. ap length (kept-one n t) ∙ length-append (kept b f n) (f n) ∙ omega (arith, ih, each n m t, count-more b n t))
-        (λ t. ap length (kept-none n t) ∙ ih ∙ ap (λ (x : ℕ). 24 * x) (sym (count-still b n t)))
+    kept_length zero m = refl
+    kept_length (suc n) m =
+        let ih = kept_length n (omega arith) in
+        by_test (b n)
+        (λ t. ap length (kept_one n t) ∙ length-append (kept b f n) (f n) ∙ omega (arith, ih, each n m t, count_more b n t))
+        (λ t. ap length (kept_none n t) ∙ ih ∙ ap (λ (x : ℕ). 24 * x) (sym (count_still b n t)))
 
     -- record p of them is f k, where p of those before k are kept
     pub record At (n p : ℕ) (l : List ℕ) : Type 0 where
@@ -43,23 +43,23 @@ module _ (b : ℕ → Bool) (f : ℕ → List ℕ) where
     pub kept_at : (n p : ℕ) (l : List ℕ) → n ≤ most → p < count n b → At n p l
     unfolding count
     kept_at zero p l m h = absurd (omega arith)
-    kept_at (suc n) p l m h = by-test (b n) (one (kept_at n p (f n ++ l) (omega arith))) (none (kept_at n p l (omega arith)))
+    kept_at (suc n) p l m h = by_test (b n) (one (kept_at n p (f n ++ l) (omega arith))) (none (kept_at n p l (omega arith)))
       where
         none : (p < count n b → At n p l) → b n ≡ false → At (suc n) p l
         none ih t =
-            let a = ih (omega (arith, count-still b n t)) in
+            let a = ih (omega (arith, count_still b n t)) in
             record {
               k = a.k;
               there = omega (arith, a.there);
               chosen = a.chosen;
               rank = a.rank;
-              is = ap (λ (x : List ℕ). take 24 (drop (24 * p) (x ++ l))) (kept-none n t) ∙ a.is;
+              is = ap (λ (x : List ℕ). take 24 (drop (24 * p) (x ++ l))) (kept_none n t) ∙ a.is;
             }
 
         one : (p < count n b → At n p (f n ++ l)) → b n ≡ true → At (suc n) p l
         one ih t =
             let shape : kept b f (suc n) ++ l ≡ kept b f n ++ (f n ++ l) =
-            ap (λ (x : List ℕ). x ++ l) (kept-one n t) ∙ append_assoc (kept b f n) (f n) l in
+            ap (λ (x : List ℕ). x ++ l) (kept_one n t) ∙ append_assoc (kept b f n) (f n) l in
             ⊎_elim
             (λ e.
             record {
@@ -69,7 +69,7 @@ module _ (b : ℕ → Bool) (f : ℕ → List ℕ) where
               rank = sym e;
               is =
                   ap (λ (x : List ℕ). take 24 (drop (24 * p) x)) shape
-                  ∙ ap (λ (x : List ℕ). take 24 x) (drop_at (kept b f n) (f n ++ l) (24 * p) (kept-length n (omega arith) ∙ ap (λ (x : ℕ). 24 * x) (sym e)))
+                  ∙ ap (λ (x : List ℕ). take 24 x) (drop_at (kept b f n) (f n ++ l) (24 * p) (kept_length n (omega arith) ∙ ap (λ (x : ℕ). 24 * x) (sym e)))
                   ∙ take_at (f n) l 24 (each n m t);
             })
             (λ less.
@@ -81,7 +81,7 @@ module _ (b : ℕ → Bool) (f : ℕ → List ℕ) where
               rank = a.rank;
               is = ap (λ (x : List ℕ). take 24 (drop (24 * p) x)) shape ∙ a.is;
             })
-            (eq-or-lt_of_le (omega (arith, h, count-more b n t)))
+            (eq-or-lt_of_le (omega (arith, h, count_more b n t)))
 
     -- and each f k that is kept is one of them
     pub kept_there : (n k : ℕ) (l : List ℕ) → n ≤ most → k < n → b k ≡ true → (count k b < count n b) × (take 24 (drop (24 * count k b) (kept b f n ++ l)) ≡ f k)

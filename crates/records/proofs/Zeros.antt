@@ -14,11 +14,11 @@ use Rattle.words.proofs.Tests.{and_left, and_right, and_both}
 use Rattle.records.specs.Bytes.{byte, zeros}
 
 -- the test holds where each number is zero
-pub all-zero : (l : List ℕ) → zeros l ≡ true → (i : ℕ) → byte l i ≡ 0
+pub all_zero : (l : List ℕ) → zeros l ≡ true → (i : ℕ) → byte l i ≡ 0
 unfolding zeros
-all-zero [] e i = refl
-all-zero (b ∷ l) e zero = eqb-true b 0 (and_left (eqb b 0) (zeros l) e)
-all-zero (b ∷ l) e (suc i) = all-zero l (and_right (eqb b 0) (zeros l) e) i
+all_zero [] e i = refl
+all_zero (b ∷ l) e zero = eqb-true b 0 (and_left (eqb b 0) (zeros l) e)
+all_zero (b ∷ l) e (suc i) = all_zero l (and_right (eqb b 0) (zeros l) e) i
 
 pub zeros_of : (l : List ℕ) → ((i : ℕ) → byte l i ≡ 0) → zeros l ≡ true
 unfolding zeros
@@ -27,27 +27,27 @@ zeros_of (b ∷ l) h = and_both (eqb b 0) (zeros l) (eq-eqb b 0 (h 0)) (zeros_of
 
 -- ---- a loop
 
-zeros-at : (r : List ℕ) (i to : ℕ) → i < to → get_or r i 0 ≡ 0 → zeros (slice i to r) ≡ zeros (slice (suc i) to r)
+zeros_at : (r : List ℕ) (i to : ℕ) → i < to → get_or r i 0 ≡ 0 → zeros (slice i to r) ≡ zeros (slice (suc i) to r)
 unfolding zeros
-zeros-at r i zero h e = absurd (omega arith)
-zeros-at [] zero (suc to) h e = refl
-zeros-at [] (suc i) (suc to) h e = refl
-zeros-at (x ∷ r) zero (suc to) h e = rw (eq-eqb _ _ e)
-zeros-at (x ∷ r) (suc i) (suc to) h e = zeros-at r i to (le_of_suc-le-suc h) e
+zeros_at r i zero h e = absurd (omega arith)
+zeros_at [] zero (suc to) h e = refl
+zeros_at [] (suc i) (suc to) h e = refl
+zeros_at (x ∷ r) zero (suc to) h e = rw (eq-eqb _ _ e)
+zeros_at (x ∷ r) (suc i) (suc to) h e = zeros_at r i to (le_of_suc-le-suc h) e
 
 -- at a zero the test goes on behind it
-pub zeros-step : (r : List ℕ) (i to : ℕ) → i < to → get_or r i 0 ≡ 0 → zeros (slice i to r) ≡ zeros (slice (i + 1) to r)
-zeros-step r i to h e = rw add-one (zeros-at r i to h e)
+pub zeros_step : (r : List ℕ) (i to : ℕ) → i < to → get_or r i 0 ≡ 0 → zeros (slice i to r) ≡ zeros (slice (i + 1) to r)
+zeros_step r i to h e = rw add-one (zeros_at r i to h e)
 
 -- at any other number it fails
-pub zeros-stop : (r : List ℕ) (i to : ℕ) → i < to → (get_or r i 0 ≡ 0 → ⊥) → zeros (slice i to r) ≡ false
+pub zeros_stop : (r : List ℕ) (i to : ℕ) → i < to → (get_or r i 0 ≡ 0 → ⊥) → zeros (slice i to r) ≡ false
 unfolding zeros
-zeros-stop r i zero h ne = absurd (omega arith)
-zeros-stop [] i (suc to) h ne = absurd (ne refl)
-zeros-stop (x ∷ r) zero (suc to) h ne = rw (ne_eqb _ _ ne)
-zeros-stop (x ∷ r) (suc i) (suc to) h ne = zeros-stop r i to (le_of_suc-le-suc h) ne
+zeros_stop r i zero h ne = absurd (omega arith)
+zeros_stop [] i (suc to) h ne = absurd (ne refl)
+zeros_stop (x ∷ r) zero (suc to) h ne = rw (ne_eqb _ _ ne)
+zeros_stop (x ∷ r) (suc i) (suc to) h ne = zeros_stop r i to (le_of_suc-le-suc h) ne
 
 -- of no numbers it holds
-pub zeros-none : (r : List ℕ) (to : ℕ) → zeros (slice to to r) ≡ true
+pub zeros_none : (r : List ℕ) (to : ℕ) → zeros (slice to to r) ≡ true
 unfolding zeros
-zeros-none r to = rw slice_empty
+zeros_none r to = rw slice_empty

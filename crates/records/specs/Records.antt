@@ -10,39 +10,39 @@ bytes (suc n) x = x % 256 ∷ bytes n (x / 256)
 
 -- "Flow record: byte 0 is 33, 1 kind, 2 from, 3 to, 4–7 units, 8 the added mark."
 -- "Bytes with no field are spare and zero."
-unfoldable pub flowRecord : ℕ → ℕ → ℕ → ℕ → ℕ → List ℕ
-flowRecord kind from to units mark = 33 ∷ kind ∷ from ∷ to ∷ bytes 4 units ++ mark ∷ replicate 15 0
+unfoldable pub flow_record : ℕ → ℕ → ℕ → ℕ → ℕ → List ℕ
+flow_record kind from to units mark = 33 ∷ kind ∷ from ∷ to ∷ bytes 4 units ++ mark ∷ replicate 15 0
 
 -- of flow records one after another, what record i says, read back from the bytes:
 -- its ends, its units and its added mark
-abbrev pub fromOf : List ℕ → ℕ → ℕ
-fromOf flow i = byte flow (24 * i + 2)
+abbrev pub from_of : List ℕ → ℕ → ℕ
+from_of flow i = byte flow (24 * i + 2)
 
-abbrev pub toOf : List ℕ → ℕ → ℕ
-toOf flow i = byte flow (24 * i + 3)
+abbrev pub to_of : List ℕ → ℕ → ℕ
+to_of flow i = byte flow (24 * i + 3)
 
-abbrev pub unitsOf : List ℕ → ℕ → ℕ
-unitsOf flow i = field flow (24 * i + 4) 4
+abbrev pub units_of : List ℕ → ℕ → ℕ
+units_of flow i = field flow (24 * i + 4) 4
 
-abbrev pub addedOf : List ℕ → ℕ → ℕ
-addedOf flow i = byte flow (24 * i + 8)
+abbrev pub added_of : List ℕ → ℕ → ℕ
+added_of flow i = byte flow (24 * i + 8)
 
 -- "Overload record: byte 0 is 32, 1 kind, 2 size, 4–7 need, 8–15 the set."
 -- "Bytes with no field are spare and zero."
-unfoldable pub overloadRecord : ℕ → ℕ → ℕ → ℕ → List ℕ
-overloadRecord kind size need set = 32 ∷ kind ∷ size ∷ 0 ∷ bytes 4 need ++ bytes 8 set ++ replicate 8 0
+unfoldable pub overload_record : ℕ → ℕ → ℕ → ℕ → List ℕ
+overload_record kind size need set = 32 ∷ kind ∷ size ∷ 0 ∷ bytes 4 need ++ bytes 8 set ++ replicate 8 0
 
 -- 24 bytes: four, and zeros
 unfoldable pub begun : ℕ → ℕ → ℕ → ℕ → List ℕ
 begun b0 b1 b2 b3 = b0 ∷ b1 ∷ b2 ∷ b3 ∷ replicate 20 0
 
 -- the lent bytes, with what they begin with replaced by a record
-abbrev pub startingWith : List ℕ → List ℕ → List ℕ
-startingWith r out = r ++ drop (length r) out
+abbrev pub starting_with : List ℕ → List ℕ → List ℕ
+starting_with r out = r ++ drop (length r) out
 
 -- the lent bytes, with those from byte `at` on replaced by a list
-abbrev pub writtenAt : ℕ → List ℕ → List ℕ → List ℕ
-writtenAt at r out = take at out ++ r ++ drop (at + length r) out
+abbrev pub written_at : ℕ → List ℕ → List ℕ → List ℕ
+written_at at r out = take at out ++ r ++ drop (at + length r) out
 
 -- the records f 0, f 1, .., f (n - 1), one after another
 unfoldable pub joined : (ℕ → List ℕ) → ℕ → List ℕ

@@ -1,13 +1,13 @@
 // The report: reads a plan on standard input and prints its report on standard output (document 01, "Plans A to F").
 // The whole text is made by one proved function, `report_text` of report_lines.
 ghost use Rattle.std.specs.Prelude.{◌≡◌, length};
-ghost use Rattle.report_lines.specs.Report.{textRoom};
+ghost use Rattle.report_lines.specs.Report.{text_room};
 
 use report_lines::REPORT_BYTES;
 
 // Zeros, for the whole text: as many as `report_text` asks for.
 fn text_buffer() -> [u8; REPORT_BYTES]
-    ensures { textRoom ≡ length result }
+    ensures { text_room ≡ length result }
 {
     [0; REPORT_BYTES]
 }

@@ -1,82 +1,82 @@
--- The report of any bytes has room in `textRoom` bytes.
+-- The report of any bytes has room in `text_room` bytes.
 use mathlib.Core.Path.{◌≡◌, refl, ap}
 use mathlib.Core.Bool.{true}
 use mathlib.Core.List.{List}
 use Prim.Native.Nat.{ℕ, zero, suc, ◌+◌, ◌*◌, ◌≤◌, ◌<◌}
 use native.Mathlib.Omega.{arith}
 use lib.ListN.{length, length-append}
-use Rattle.order.specs.Orders.{isBefore}
+use Rattle.order.specs.Orders.{is_before}
 use Rattle.records.specs.Bytes.{AreBytes}
 use Rattle.records.specs.Records.{joined}
-use Rattle.lines.proofs.Putting.{joined-short}
-use Rattle.kinds.proofs.NodeUnits.{mark-most}
-use Rattle.kinds.proofs.RecordsWritten.{flow-bytes}
-use Rattle.planner.specs.Faults.{isFine}
-use Rattle.planner.specs.Open.{planIn, jobOrderFor}
-use Rattle.planner.specs.Needs.{needNumbers}
-use Rattle.planner.specs.Starts.{startNumbers}
-use Rattle.planner.specs.Flow.{flowUnits, flowMark, flowCount, recordBytes}
-use Rattle.planner.specs.Verdict.{verdictFault, verdictOf}
+use Rattle.lines.proofs.Putting.{joined_short}
+use Rattle.kinds.proofs.NodeUnits.{mark_most}
+use Rattle.kinds.proofs.RecordsWritten.{flow_bytes_lem}
+use Rattle.planner.specs.Faults.{is_fine}
+use Rattle.planner.specs.Open.{plan_in, job_order_for}
+use Rattle.planner.specs.Needs.{need_numbers}
+use Rattle.planner.specs.Starts.{start_numbers}
+use Rattle.planner.specs.Flow.{flow_units, flow_mark, flow_count, record_bytes}
+use Rattle.planner.specs.Verdict.{verdict_fault, verdict_of}
 use Rattle.planner.specs.declared.Fault.{Fault}
 use Rattle.planner.specs.declared.Fault.TheVariants.{Fine, Refused}
-use Rattle.planner.proofs.OpenLaws.{count-within}
-use Rattle.planner.proofs.QuotedNeeds.{kinds-few}
-use Rattle.report_lines.specs.Lines.{headLines}
-use Rattle.report_lines.specs.Report.{flowRoom, textRoom, kindLines, planLines, reportBy, reportOf, Accepts}
-use Rattle.report_lines.proofs.HeadLines.{head-short}
-use Rattle.report_lines.proofs.FlowLines.{flowLine, flow-short, flow-end}
-use Rattle.report_lines.proofs.RefusalLine.{refused-short}
-use Rattle.report_lines.proofs.Accepted.{flow-few}
+use Rattle.planner.proofs.OpenLaws.{count_within}
+use Rattle.planner.proofs.QuotedNeeds.{kinds_few}
+use Rattle.report_lines.specs.Lines.{head_lines}
+use Rattle.report_lines.specs.Report.{flow_room, text_room, kind_lines, plan_lines, report_by, report_of, Accepts}
+use Rattle.report_lines.proofs.HeadLines.{head_short}
+use Rattle.report_lines.proofs.FlowLines.{flow_line, flow_short, flow_end}
+use Rattle.report_lines.proofs.RefusalLine.{refused_short}
+use Rattle.report_lines.proofs.Accepted.{flow_few}
 
 -- n lists one after another, of which each has at most so many bytes
-joined-within : (f : ℕ → List ℕ) (most n : ℕ) → ((k : ℕ) → k < n → length (f k) ≤ most) → length (joined f n) ≤ most * n
+joined_within : (f : ℕ → List ℕ) (most n : ℕ) → ((k : ℕ) → k < n → length (f k) ≤ most) → length (joined f n) ≤ most * n
 unfolding joined
-joined-within f most zero short = omega arith
-joined-within f most (suc n) short =
+joined_within f most zero short = omega arith
+joined_within f most (suc n) short =
     let e : most * suc n ≡ most * n + most = omega arith in
-    omega (arith, length-append (joined f n) (f n), joined-within f most n (λ k h. short k (omega arith)), short n (omega arith))
+    omega (arith, length-append (joined f n) (f n), joined_within f most n (λ k h. short k (omega arith)), short n (omega arith))
 
-record-bytes : (s : List ℕ) (k : ℕ) → k < (planIn s).kinds → AreBytes (recordBytes (planIn s) k)
-unfolding recordBytes
-record-bytes s k h =
-    flow-bytes (k + 1) (flowUnits (planIn s) k) (flowMark (planIn s)) ((planIn s).count + 2) (omega (arith, kinds-few s)) (omega (arith, count-within s))
-    (λ u v. omega (arith, mark-most (isBefore (jobOrderFor (planIn s))) (planIn s).count u v))
+record_bytes_lem : (s : List ℕ) (k : ℕ) → k < (plan_in s).kinds → AreBytes (record_bytes (plan_in s) k)
+unfolding record_bytes
+record_bytes_lem s k h =
+    flow_bytes_lem (k + 1) (flow_units (plan_in s) k) (flow_mark (plan_in s)) ((plan_in s).count + 2) (omega (arith, kinds_few s)) (omega (arith, count_within s))
+    (λ u v. omega (arith, mark_most (is_before (job_order_for (plan_in s))) (plan_in s).count u v))
 
 -- ---- an accepted plan
 
 module _ (s : List ℕ) (bytes : AreBytes s) (fine : Accepts s) where
-  kind-short : (k : ℕ) → k < (planIn s).kinds → length (kindLines (planIn s) k) ≤ flowRoom
-  unfolding kindLines
-  kind-short k h =
-      let records : List ℕ = recordBytes (planIn s) k in
-      let n : ℕ = flowCount (planIn s) k in
+  kind_short : (k : ℕ) → k < (plan_in s).kinds → length (kind_lines (plan_in s) k) ≤ flow_room
+  unfolding kind_lines
+  kind_short k h =
+      let records : List ℕ = record_bytes (plan_in s) k in
+      let n : ℕ = flow_count (plan_in s) k in
       omega (
         arith,
-        ap length (flow-end n records),
-        joined-short (flowLine records) 32 (flow-short records (record-bytes s k h)) n,
-        flow-few s fine bytes k h,
+        ap length (flow_end n records),
+        joined_short (flow_line records) 32 (flow_short records (record_bytes_lem s k h)) n,
+        flow_few s fine bytes k h,
       )
 
-  plan-short : length (planLines s) ≤ textRoom
-  unfolding planLines
-  plan-short =
-      let m : ℕ = (planIn s).count in
-      let n : ℕ = (planIn s).kinds in
-      let head : List ℕ = headLines m n (needNumbers s) (planIn s).available (startNumbers s) in
+  plan_short : length (plan_lines s) ≤ text_room
+  unfolding plan_lines
+  plan_short =
+      let m : ℕ = (plan_in s).count in
+      let n : ℕ = (plan_in s).kinds in
+      let head : List ℕ = head_lines m n (need_numbers s) (plan_in s).available (start_numbers s) in
       omega (
         arith,
-        length-append head (joined (kindLines (planIn s)) n),
-        head-short m n (needNumbers s) (planIn s).available (startNumbers s) (count-within s) (kinds-few s),
-        joined-within (kindLines (planIn s)) flowRoom n kind-short,
-        kinds-few s,
+        length-append head (joined (kind_lines (plan_in s)) n),
+        head_short m n (need_numbers s) (plan_in s).available (start_numbers s) (count_within s) (kinds_few s),
+        joined_within (kind_lines (plan_in s)) flow_room n kind_short,
+        kinds_few s,
       )
 
 -- ---- any bytes
 
-short-by : (s : List ℕ) (f : Fault) (m n : ℕ) → (isFine f ≡ true → length (planLines s) ≤ textRoom) → length (reportBy (verdictOf f m n) s) ≤ textRoom
-short-by s Fine m n plan = plan refl
-short-by s (Refused c) m n plan = omega (arith, refused-short c)
+short_by : (s : List ℕ) (f : Fault) (m n : ℕ) → (is_fine f ≡ true → length (plan_lines s) ≤ text_room) → length (report_by (verdict_of f m n) s) ≤ text_room
+short_by s Fine m n plan = plan refl
+short_by s (Refused c) m n plan = omega (arith, refused_short c)
 
-pub report-short : (s : List ℕ) → AreBytes s → length (reportOf s) ≤ textRoom
-unfolding reportOf
-report-short s bytes = short-by s (verdictFault s) (planIn s).count (planIn s).kinds (plan-short s bytes)
+pub report_short : (s : List ℕ) → AreBytes s → length (report_of s) ≤ text_room
+unfolding report_of
+report_short s bytes = short_by s (verdict_fault s) (plan_in s).count (plan_in s).kinds (plan_short s bytes)

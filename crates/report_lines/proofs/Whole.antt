@@ -7,71 +7,71 @@ use lib.ListN.{length}
 use lib.Seq.{length-take-le}
 use Rattle.records.specs.Records.{joined}
 use Rattle.lines.specs.Text.{Text, text, more}
-use Rattle.lines.proofs.Texts.{more-more, grown, grown-by}
+use Rattle.lines.proofs.Texts.{more_more, grown, grown_by}
 use Rattle.plan.specs.Records.{activities as most}
-use Rattle.planner.specs.Open.{planIn}
-use Rattle.planner.specs.Verdict.{verdictAnswer}
-use Rattle.planner.specs.Needs.{needNumbers, needsOut}
-use Rattle.planner.specs.Starts.{startNumbers, startsOut}
+use Rattle.planner.specs.Open.{plan_in}
+use Rattle.planner.specs.Verdict.{verdict_answer}
+use Rattle.planner.specs.Needs.{need_numbers, needs_out}
+use Rattle.planner.specs.Starts.{start_numbers, starts_out}
 use Rattle.planner.specs.declared.Decision.{Decision}
-use Rattle.planner.proofs.OpenLaws.{count-within}
-use Rattle.planner.proofs.QuotedNeeds.{kinds-few}
-use Rattle.report_lines.specs.Lines.{headRoom, headLines}
-use Rattle.report_lines.proofs.HeadLines.{head-short, head-same}
-use Rattle.report_lines.specs.Report.{flowRoom, textRoom, Accepts, kindLines, planLines, reportBy, reportOf, Counts}
-use Rattle.report_lines.proofs.Accepted.{need-front, start-front}
+use Rattle.planner.proofs.OpenLaws.{count_within}
+use Rattle.planner.proofs.QuotedNeeds.{kinds_few}
+use Rattle.report_lines.specs.Lines.{head_room, head_lines}
+use Rattle.report_lines.proofs.HeadLines.{head_short, head_same}
+use Rattle.report_lines.specs.Report.{flow_room, text_room, Accepts, kind_lines, plan_lines, report_by, report_of, Counts}
+use Rattle.report_lines.proofs.Accepted.{need_front, start_front}
 
 -- so many bytes at the front of a list that has them
-pub counts-within : (r : ℕ) (out : List ℕ) → r ≤ length out → Counts r out
-counts-within r out h = (h, sym (length-take-le r out h))
+pub counts_within : (r : ℕ) (out : List ℕ) → r ≤ length out → Counts r out
+counts_within r out h = (h, sym (length-take-le r out h))
 
 -- the first lines of a file's plan of m activities and n kinds
 abbrev pub head_of : List ℕ → ℕ → ℕ → List ℕ
-head_of s m n = headLines m n (needNumbers s) (planIn s).available (startNumbers s)
+head_of s m n = head_lines m n (need_numbers s) (plan_in s).available (start_numbers s)
 
-module _ (s : List ℕ) {m n : ℕ} (activities : m ≡ (planIn s).count) (kinds : n ≡ (planIn s).kinds) where
-  pub sizes-few : (m ≤ most) × (n ≤ 8)
-  sizes-few = (omega (arith, count-within s), omega (arith, kinds-few s))
+module _ (s : List ℕ) {m n : ℕ} (activities : m ≡ (plan_in s).count) (kinds : n ≡ (plan_in s).kinds) where
+  pub sizes_few : (m ≤ most) × (n ≤ 8)
+  sizes_few = (omega (arith, count_within s), omega (arith, kinds_few s))
 
   -- what the code holds: `needs` and `starts` are what it lent, `available` is what it was told
   pub head_read : Accepts s → (needs starts : List ℕ) {needs' starts' available : List ℕ} → 8 ≤ length needs → most + 1 ≤ length starts
-      → needs' ≡ needsOut s needs → starts' ≡ startsOut s starts → available ≡ (planIn s).available
-      → (t : Text) {u : Text} → u ≡ more t (headLines m n needs' available starts') → u ≡ more t (head_of s m n)
+      → needs' ≡ needs_out s needs → starts' ≡ starts_out s starts → available ≡ (plan_in s).available
+      → (t : Text) {u : Text} → u ≡ more t (head_lines m n needs' available starts') → u ≡ more t (head_of s m n)
   head_read fine needs starts {needs'} {starts'} many long a b e t w =
       w
-      ∙ ap (λ (x : List ℕ). more t (headLines m n needs' x starts')) e
+      ∙ ap (λ (x : List ℕ). more t (head_lines m n needs' x starts')) e
       ∙ ap (more t)
-      (head-same m n needs' (needNumbers s) (planIn s).available starts' (startNumbers s)
-      (λ k h. rw a (need-front s fine needs (omega (arith, sizes-few)) k (omega arith)))
-      (λ i h. rw b (start-front s fine starts (omega (arith, sizes-few)) i (omega arith))))
+      (head_same m n needs' (need_numbers s) (plan_in s).available starts' (start_numbers s)
+      (λ k h. rw a (need_front s fine needs (omega (arith, sizes_few)) k (omega arith)))
+      (λ i h. rw b (start_front s fine starts (omega (arith, sizes_few)) i (omega arith))))
 
   -- and of the text: the head is written, then the flows behind it
-  module _ (old : List ℕ) {one : List ℕ} {at : ℕ} (fits : textRoom ≤ length old) (first : text at one ≡ more (text 0 old) (head_of s m n)) where
-    head_at : (length (head_of s m n) ≤ headRoom) × (at ≡ length (head_of s m n)) × (length one ≡ length old)
+  module _ (old : List ℕ) {one : List ℕ} {at : ℕ} (fits : text_room ≤ length old) (first : text at one ≡ more (text 0 old) (head_of s m n)) where
+    head_at : (length (head_of s m n) ≤ head_room) × (at ≡ length (head_of s m n)) × (length one ≡ length old)
     head_at =
-        let h = head-short m n (needNumbers s) (planIn s).available (startNumbers s) sizes-few.0 sizes-few.1 in
+        let h = head_short m n (need_numbers s) (plan_in s).available (start_numbers s) sizes_few.0 sizes_few.1 in
         let g = grown 0 at (head_of s m n) old one (omega arith) first in
         (h, omega arith, g.1)
 
-    pub flows-room : at + flowRoom * n + 78 ≤ length one
-    flows-room = omega (arith, head_at, sizes-few)
+    pub flows_room : at + flow_room * n + 78 ≤ length one
+    flows_room = omega (arith, head_at, sizes_few)
 
-    module _ {two : List ℕ} {end : ℕ} (second : text end two ≡ more (text at one) (joined (kindLines (planIn s)) n)) (short : end ≤ at + flowRoom * n) where
-      pub plan-end : (text end two ≡ more (text 0 old) (planLines s)) × Counts end two
-      unfolding planLines
-      plan-end =
-          let flows : List ℕ = joined (kindLines (planIn s)) n in
-          let l = grown-by at end flows one two second in
-          let g = grown at end flows one two (omega (arith, flows-room)) second in (
+    module _ {two : List ℕ} {end : ℕ} (second : text end two ≡ more (text at one) (joined (kind_lines (plan_in s)) n)) (short : end ≤ at + flow_room * n) where
+      pub plan_end : (text end two ≡ more (text 0 old) (plan_lines s)) × Counts end two
+      unfolding plan_lines
+      plan_end =
+          let flows : List ℕ = joined (kind_lines (plan_in s)) n in
+          let l = grown_by at end flows one two second in
+          let g = grown at end flows one two (omega (arith, flows_room)) second in (
             second
                 ∙ ap (λ (t : Text). more t flows) first
-                ∙ more-more (text 0 old) (head_of s m n) flows (omega (arith, flows-room, head_at))
-                ∙ ap₂ (λ (x y : ℕ). more (text 0 old) (head_of s x y ++ joined (kindLines (planIn s)) y)) activities kinds,
-            counts-within end two (omega (arith, flows-room)),
+                ∙ more_more (text 0 old) (head_of s m n) flows (omega (arith, flows_room, head_at))
+                ∙ ap₂ (λ (x y : ℕ). more (text 0 old) (head_of s x y ++ joined (kind_lines (plan_in s)) y)) activities kinds,
+            counts_within end two (omega (arith, flows_room)),
           )
 
 -- ---- the report is the one of the answer that the code holds
 
-pub report-is : (s : List ℕ) {r d : Decision} → r ≡ verdictAnswer s → r ≡ d → reportBy d s ≡ reportOf s
-unfolding reportOf
-report-is s q e = ap (λ (x : Decision). reportBy x s) (sym e ∙ q)
+pub report_is : (s : List ℕ) {r d : Decision} → r ≡ verdict_answer s → r ≡ d → report_by d s ≡ report_of s
+unfolding report_of
+report_is s q e = ap (λ (x : Decision). report_by x s) (sym e ∙ q)

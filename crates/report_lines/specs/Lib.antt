@@ -1,3 +1,3 @@
--- The report (document 01, "Plans A to F"): its lines, and `reportOf`, the whole of it, made of them.
+-- The report (document 01, "Plans A to F"): its lines, and `report_of`, the whole of it, made of them.
 pub mod Lines
 pub mod Report

@@ -1,9 +1,9 @@
 // The lines of a flow, from its records.
 ghost use Rattle.std.specs.Prelude.{◌≡◌, ◌+◌, ◌*◌, ◌≤◌, ◌<◌, length};
 ghost use Rattle.records.specs.Bytes.{field};
-ghost use Rattle.planner.specs.Flow.{mostRecords};
+ghost use Rattle.planner.specs.Flow.{most_records};
 ghost use Rattle.lines.specs.Text.{text, more, line_of};
-ghost use Rattle.report_lines.specs.Lines.{flowWord, flowNumbers, flowLines};
+ghost use Rattle.report_lines.specs.Lines.{flow_word, flow_numbers, flow_lines};
 
 // A byte, as a number of 64 bits.
 fn wide(x: u8) -> u64
@@ -23,7 +23,7 @@ fn units(bytes: &[u8]) -> u64
 // Writes the line of one record behind what is written.
 fn put_record(out: &mut [u8], at: usize, bytes: &[u8]) -> usize
     requires { (24 ≤ length bytes.now) × (at + 110 ≤ length out.old) }
-    ensures { text result out.new ≡ more (text at out.old) (line_of flowWord (flowNumbers bytes.now)) }
+    ensures { text result out.new ≡ more (text at out.old) (line_of flow_word (flow_numbers bytes.now)) }
 {
     let numbers = [
         wide(bytes[1]),
@@ -37,8 +37,8 @@ fn put_record(out: &mut [u8], at: usize, bytes: &[u8]) -> usize
 
 // Writes the lines of n records behind what is written, each of at most 32 bytes.
 pub fn put_records(out: &mut [u8], at: usize, records: &[u8], n: usize) -> usize
-    requires { (n ≤ mostRecords) × (24 * n ≤ length records.now) × (at + 32 * n + 78 ≤ length out.old) }
-    ensures out_after { text result out.new ≡ more (text at out.old) (flowLines n records.now) }
+    requires { (n ≤ most_records) × (24 * n ≤ length records.now) × (at + 32 * n + 78 ≤ length out.old) }
+    ensures out_after { text result out.new ≡ more (text at out.old) (flow_lines n records.now) }
     ensures upper_bound { result ≤ at + 32 * n }
 {
     let mut end = at;

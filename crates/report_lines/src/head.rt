@@ -2,14 +2,14 @@
 ghost use Rattle.std.specs.Prelude.{◌≡◌, ◌+◌, ◌*◌, ◌≤◌, length};
 ghost use Rattle.plan.specs.Records.{activities};
 ghost use Rattle.lines.specs.Text.{text, more};
-ghost use Rattle.report_lines.specs.Lines.{needLines, startLines, headLines, headRoom};
+ghost use Rattle.report_lines.specs.Lines.{need_lines, start_lines, head_lines, head_room};
 
 use plan::ACTIVITIES;
 
 // Writes the line of each of n kinds behind what is written.
 fn put_needs(out: &mut [u8], at: usize, n: usize, needs: &[u32; 8], available: &[u32; 8]) -> usize
     requires { (n ≤ 8) × (at + 68 * n ≤ length out.old) }
-    ensures { text result out.new ≡ more (text at out.old) (needLines n needs.now available.now) }
+    ensures { text result out.new ≡ more (text at out.old) (need_lines n needs.now available.now) }
 {
     let mut end = at;
     for k in 0..n {
@@ -26,7 +26,7 @@ fn put_needs(out: &mut [u8], at: usize, n: usize, needs: &[u32; 8], available: &
 // Writes the line of each of m activities behind what is written.
 fn put_starts(out: &mut [u8], at: usize, m: usize, starts: &[u32; ACTIVITIES + 1]) -> usize
     requires { (m ≤ activities) × (at + 48 * m ≤ length out.old) }
-    ensures { text result out.new ≡ more (text at out.old) (startLines m starts.now) }
+    ensures { text result out.new ≡ more (text at out.old) (start_lines m starts.now) }
 {
     let mut end = at;
     for i in 0..m {
@@ -45,9 +45,9 @@ pub fn head_text(
     available: &[u32; 8],
     starts: &[u32; ACTIVITIES + 1],
 ) -> usize
-    requires { (m ≤ activities) × (n ≤ 8) × (headRoom ≤ length out.old) }
+    requires { (m ≤ activities) × (n ≤ 8) × (head_room ≤ length out.old) }
     ensures { text result out.new
-        ≡ more (text 0 out.old) (headLines m n needs.now available.now starts.now) }
+        ≡ more (text 0 out.old) (head_lines m n needs.now available.now starts.now) }
 {
     let sizes = [m as u64, n as u64];
     let named = lines::put_line(out, 0, b"plan", &sizes);

@@ -12,7 +12,7 @@ pub use head::head_text;
 pub use refusal::refused_text;
 pub use text::report_text;
 
-// The most records that a flow has, and the most bytes that a report has (`mostRecords` and `textRoom` of the specs).
+// The most records that a flow has, and the most bytes that a report has (`most_records` and `text_room` of the specs).
 const RECORDS: usize = ACTIVITIES * (ACTIVITIES - 1) / 2 + 2 * ACTIVITIES + 1;
 
 pub const REPORT_BYTES: usize = 1024 + 48 * ACTIVITIES + 8 * (32 * RECORDS) + 78;

@@ -3,7 +3,7 @@ ghost use Rattle.std.specs.Prelude.{◌≡◌, ◌++◌, map, suc, min, ◌≤�
 ghost use Rattle.words.specs.Listing.{members};
 ghost use Rattle.order.specs.Stored.{elements, number_of};
 ghost use Rattle.lines.specs.Text.{text, more};
-ghost use Rattle.report_lines.specs.Lines.{refusedNumbers, refusedLine, slots, refusedRoom};
+ghost use Rattle.report_lines.specs.Lines.{refused_numbers, refused_line, slots, refused_room};
 
 use order::{ELEMENTS, Set};
 use planner::Cause;
@@ -39,7 +39,7 @@ fn plain_values(values: usize) -> usize
 // The numbers of a cause: what is not returned of its two values is written over.
 fn put_cause(numbers: &mut [u64], c: Cause) -> usize
     requires { slots ≤ length numbers.old }
-    ensures { (result ≤ slots) × (take result numbers.new ≡ refusedNumbers c) }
+    ensures { (result ≤ slots) × (take result numbers.new ≡ refused_numbers c) }
 {
     let r = planner::refusal_of(c);
     numbers[0] = r.number;
@@ -51,8 +51,8 @@ fn put_cause(numbers: &mut [u64], c: Cause) -> usize
 
 // Writes the line of a refused plan to the front of the lent bytes. Gives its length.
 pub fn refused_text(out: &mut [u8], c: Cause) -> usize
-    requires { refusedRoom ≤ length out.old }
-    ensures out_after { text result out.new ≡ more (text 0 out.old) (refusedLine c) }
+    requires { refused_room ≤ length out.old }
+    ensures out_after { text result out.new ≡ more (text 0 out.old) (refused_line c) }
     ensures upper_bound { result ≤ length out.new }
 {
     let mut numbers = [0u64; SLOTS];

@@ -11,13 +11,13 @@ use lib.Dec.{ltb, eqb}
 use borrow.Author.Tests.{ltb-true, ltb-false, eqb-true, eqb-false}
 use borrow.Author.Count.{below_more}
 use Rattle.words.proofs.Tests.{clash, cond_has}
-use Rattle.schedule.specs.Checks.{Work, exceeds, overloaded, firstPeriod}
+use Rattle.schedule.specs.Checks.{Work, exceeds, overloaded, first_period}
 use Rattle.schedule.specs.PeriodLoad.{load_of}
-use Rattle.schedule.specs.model.Arrays.{workOf}
+use Rattle.schedule.specs.model.Arrays.{work_of}
 use Rattle.schedule.specs.Lists.{at}
-use Rattle.schedule.specs.model.Levels.{Best, soonerOf}
-use Rattle.schedule.proofs.PeriodLoads.{load-kind}
-use Rattle.schedule.proofs.Periods.{period-follows, period-none, period-over, period-first}
+use Rattle.schedule.specs.model.Levels.{Best, sooner_of}
+use Rattle.schedule.proofs.PeriodLoads.{load_kind}
+use Rattle.schedule.proofs.Periods.{period_follows, period_none, period_over, period_first}
 
 -- ---- the sooner of two periods
 
@@ -27,8 +27,8 @@ record Sooner (best t r : ℕ) : Type 0 where
   low : r ≤ t
   kept : 0 < best → r ≤ best
 
-sooner-says : (best t : ℕ) → Sooner best t (soonerOf true best t)
-sooner-says best t =
+sooner_says : (best t : ℕ) → Sooner best t (sooner_of true best t)
+sooner_says best t =
     cond_has (λ r. Sooner best t r) (eqb best 0) t (cond (ltb t best) t best)
     (λ e. record { one = inl refl; low = omega arith; kept = λ l. omega (arith, eqb-true best 0 e) })
     (λ e.
@@ -42,15 +42,15 @@ module _ (c : Work) where
   best_none = record { real = λ l. absurd (not-suc-le-zero l); least = λ i l. absurd (not-suc-le-zero l) }
 
   -- one start more: its period is not overloaded, or the sooner one is kept
-  best-skip : (n best : ℕ) → Best c n best → overloaded c (suc (c.start n)) ≡ false → Best c (n + 1) best
-  best-skip n best B h =
+  best_skip : (n best : ℕ) → Best c n best → overloaded c (suc (c.start n)) ≡ false → Best c (n + 1) best
+  best_skip n best B h =
       record {
         real = B.real;
         least = below_more (λ i. overloaded c (suc (c.start i)) ≡ true → (0 < best) × (best ≤ suc (c.start i))) n B.least (λ o. clash o h);
       }
 
-  best-take : (n best r : ℕ) → Best c n best → overloaded c (suc (c.start n)) ≡ true → Sooner best (suc (c.start n)) r → Best c (n + 1) r
-  best-take n best r B h S =
+  best_take : (n best r : ℕ) → Best c n best → overloaded c (suc (c.start n)) ≡ true → Sooner best (suc (c.start n)) r → Best c (n + 1) r
+  best_take n best r B h S =
       record {
         real =
             λ l.
@@ -69,26 +69,26 @@ module _ (c : Work) where
       some : 0 < r
       some = ⊎_elim (λ e. omega arith) (λ w. omega (arith, w.0, w.1)) S.one
 
-  pub best-next : (n best : ℕ) → Best c n best → Best c (n + 1) (soonerOf (overloaded c (suc (c.start n))) best (suc (c.start n)))
-  best-next n best B =
+  pub best_next : (n best : ℕ) → Best c n best → Best c (n + 1) (sooner_of (overloaded c (suc (c.start n))) best (suc (c.start n)))
+  best_next n best B =
       cond_has (λ x. Best c (n + 1) x) (overloaded c (suc (c.start n))) _ best
-      (λ y. best-take n best _ B y (sooner-says best (suc (c.start n))))
-      (λ y. best-skip n best B y)
+      (λ y. best_take n best _ B y (sooner_says best (suc (c.start n))))
+      (λ y. best_skip n best B y)
 
   -- what the code has found when it has been through all starts is the first period
-  pub best-all : (best : ℕ) → Best c c.count best → best ≡ firstPeriod c
-  best-all best B = go (dec_lt 0 (firstPeriod c)) (dec_lt 0 best) (dec_lt best (firstPeriod c))
+  pub best_all : (best : ℕ) → Best c c.count best → best ≡ first_period c
+  best_all best B = go (dec_lt 0 (first_period c)) (dec_lt 0 best) (dec_lt best (first_period c))
     where
-      go : Dec (0 < firstPeriod c) → Dec (0 < best) → Dec (best < firstPeriod c) → best ≡ firstPeriod c
+      go : Dec (0 < first_period c) → Dec (0 < best) → Dec (best < first_period c) → best ≡ first_period c
       go (yes h) p q =
-          let w = period-follows c h in
-          let v = B.least w.0 w.1 (subst (λ (x : ℕ). overloaded c x ≡ true) w.2 (period-over c h)) in
-          by_cases q (λ l. clash (B.real v.0) (period-first c best l)) (λ n. omega (arith, v.1, w.2))
-      go (no n) (yes l) q = clash (B.real l) (period-none c (omega arith) best)
+          let w = period_follows c h in
+          let v = B.least w.0 w.1 (subst (λ (x : ℕ). overloaded c x ≡ true) w.2 (period_over c h)) in
+          by_cases q (λ l. clash (B.real v.0) (period_first c best l)) (λ n. omega (arith, v.1, w.2))
+      go (no n) (yes l) q = clash (B.real l) (period_none c (omega arith) best)
       go (no n) (no m) q = omega arith
 
 -- ---- the code's test
 
 -- what is occupied does not go by what there is, so the code has the load without
-pub exceeds-by : (d a s w : List ℕ) (t k : ℕ) {l : List ℕ} → 1 ≤ t → k < 8 → l ≡ load_of (workOf d [] s w) t → exceeds (workOf d a s w) t k ≡ ltb (at a k) (at l k)
-exceeds-by d a s w t k one h e = ap (λ (x : ℕ). ltb (at a k) x) (sym (ap (λ (l : List ℕ). at l k) e ∙ load-kind (workOf d [] s w) t k one h))
+pub exceeds_by : (d a s w : List ℕ) (t k : ℕ) {l : List ℕ} → 1 ≤ t → k < 8 → l ≡ load_of (work_of d [] s w) t → exceeds (work_of d a s w) t k ≡ ltb (at a k) (at l k)
+exceeds_by d a s w t k one h e = ap (λ (x : ℕ). ltb (at a k) x) (sym (ap (λ (l : List ℕ). at l k) e ∙ load_kind (work_of d [] s w) t k one h))

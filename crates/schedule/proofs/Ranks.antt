@@ -5,16 +5,16 @@ use mathlib.Core.List.{List}
 use Prim.Native.Nat.{ℕ}
 use Rattle.order.specs.Before.{last, Acyclic}
 use Rattle.order.specs.Arcs.{StrictOrder}
-use Rattle.order.specs.Orders.{Direct, isBefore, order_in}
-use Rattle.order.proofs.Orders.{direct-order, order-means, order-strict}
+use Rattle.order.specs.Orders.{Direct, is_before, order_in}
+use Rattle.order.proofs.Orders.{direct_order, order_means, order_strict}
 use Rattle.flow_math.specs.Peak.{rank}
 use Rattle.flow_math.proofs.Crew.{rank_below, rank_rises}
 use Rattle.schedule.specs.Network.{Network, Arc, Ranked}
-use Rattle.schedule.specs.model.Arrays.{netOf}
+use Rattle.schedule.specs.model.Arrays.{net_of}
 
 -- a strict order that has every arc gives a rank: how many are before an element
-ranked-by : (g : Network) (b : ℕ → ℕ → Bool) → ((i j : ℕ) → Arc g i j → b i j ≡ true) → StrictOrder g.elements b → Ranked g
-ranked-by g b arcs o =
+ranked_by : (g : Network) (b : ℕ → ℕ → Bool) → ((i j : ℕ) → Arc g i j → b i j ≡ true) → StrictOrder g.elements b → Ranked g
+ranked_by g b arcs o =
     record {
       rank = rank g.elements b;
       below = rank_below g.elements b o;
@@ -22,8 +22,8 @@ ranked-by g b arcs o =
     }
 
 -- NOTHING IS BEFORE ITSELF: there is a rank, by the order that the rows make
-pub ranked : (rows : List ℕ) (weight : ℕ → ℕ → ℕ) → Acyclic (Direct rows) → Ranked (netOf rows weight)
+pub ranked : (rows : List ℕ) (weight : ℕ → ℕ → ℕ) → Acyclic (Direct rows) → Ranked (net_of rows weight)
 ranked rows weight free =
-    ranked-by (netOf rows weight) (isBefore (order_in rows))
-    (λ i j a. (order-means (direct-order rows) i j).1 (last a))
-    (order-strict (direct-order rows) free)
+    ranked_by (net_of rows weight) (is_before (order_in rows))
+    (λ i j a. (order_means (direct_order rows) i j).1 (last a))
+    (order_strict (direct_order rows) free)

@@ -7,34 +7,34 @@ use Prim.Native.Nat.{ℕ, zero, suc, ◌+◌, ◌*◌, ◌≤◌, ◌<◌}
 use native.Mathlib.Nat.{not-suc-le-zero, suc-mul}
 use native.Mathlib.Omega.{arith}
 use Rattle.words.specs.Sums.{maximum}
-use Rattle.words.proofs.Maxima.{maximum-at, maximum-least, maximum-cong, maximum-reached}
-use Rattle.words.proofs.Tests.{cond-cong, cond-at, cond-least, cond-reached}
+use Rattle.words.proofs.Maxima.{maximum_at, maximum_least, maximum_cong, maximum_reached}
+use Rattle.words.proofs.Tests.{cond_cong, cond_at, cond_least, cond_reached}
 use Rattle.order.specs.Before.{Before, last}
-use Rattle.flow_math.proofs.Kept.{kept-before}
+use Rattle.flow_math.proofs.Kept.{kept_before}
 use Rattle.schedule.specs.Network.{Network, Arc, Schedule, Keeps, Ranked}
-use Rattle.schedule.specs.Starts.{asked, rounds, earliestOf, end_of}
+use Rattle.schedule.specs.Starts.{asked, rounds, earliest_of, end_of}
 use Rattle.schedule.specs.Lists.{LargestOr0, FinishOf}
 
 module _ (g : Network) where
   -- what the arcs ask goes by the starts of those that have an arc to it
-  pub asked-cong : (s t : Schedule) (j : ℕ) → j < g.elements → ((i : ℕ) → Arc g i j → s i ≡ t i) → asked g s j ≡ asked g t j
+  pub asked_cong : (s t : Schedule) (j : ℕ) → j < g.elements → ((i : ℕ) → Arc g i j → s i ≡ t i) → asked g s j ≡ asked g t j
   unfolding asked
-  asked-cong s t j hj h =
-      maximum-cong g.elements _ _ λ i l. cond-cong (g.arc i j) _ _ λ e. ap (λ (x : ℕ). x + g.weight i j) (h i (record { from = l; to = hj; drawn = e }))
+  asked_cong s t j hj h =
+      maximum_cong g.elements _ _ λ i l. cond_cong (g.arc i j) _ _ λ e. ap (λ (x : ℕ). x + g.weight i j) (h i (record { from = l; to = hj; drawn = e }))
 
-  pub asked-at : (s : Schedule) (i j : ℕ) → Arc g i j → s i + g.weight i j ≤ asked g s j
+  pub asked_at : (s : Schedule) (i j : ℕ) → Arc g i j → s i + g.weight i j ≤ asked g s j
   unfolding asked
-  asked-at s i j a =
-      omega (arith, cond-at (g.arc i j) (s i + g.weight i j) a.drawn, maximum-at g.elements (λ k. cond (g.arc k j) (s k + g.weight k j) 0) i a.from)
+  asked_at s i j a =
+      omega (arith, cond_at (g.arc i j) (s i + g.weight i j) a.drawn, maximum_at g.elements (λ k. cond (g.arc k j) (s k + g.weight k j) 0) i a.from)
 
-  pub asked-least : (s : Schedule) (j b : ℕ) → j < g.elements → ((i : ℕ) → Arc g i j → s i + g.weight i j ≤ b) → asked g s j ≤ b
+  pub asked_least : (s : Schedule) (j b : ℕ) → j < g.elements → ((i : ℕ) → Arc g i j → s i + g.weight i j ≤ b) → asked g s j ≤ b
   unfolding asked
-  asked-least s j b hj h =
-      maximum-least g.elements _ b λ i l. cond-least (g.arc i j) _ b λ e. h i (record { from = l; to = hj; drawn = e })
+  asked_least s j b hj h =
+      maximum_least g.elements _ b λ i l. cond_least (g.arc i j) _ b λ e. h i (record { from = l; to = hj; drawn = e })
 
-  pub asked-reached : (s : Schedule) (j : ℕ) → j < g.elements → (asked g s j ≡ 0) ⊎ ((i : ℕ) × Arc g i j × (asked g s j ≡ s i + g.weight i j))
+  pub asked_reached : (s : Schedule) (j : ℕ) → j < g.elements → (asked g s j ≡ 0) ⊎ ((i : ℕ) × Arc g i j × (asked g s j ≡ s i + g.weight i j))
   unfolding asked
-  asked-reached s j hj = go (maximum-reached g.elements f)
+  asked_reached s j hj = go (maximum_reached g.elements f)
     where
       f : ℕ → ℕ
       f = λ i. cond (g.arc i j) (s i + g.weight i j) 0
@@ -48,30 +48,30 @@ module _ (g : Network) where
 
       go : (maximum g.elements f ≡ 0) ⊎ ((i : ℕ) × (i < g.elements) × (maximum g.elements f ≡ f i)) → Out
       go (inl z) = inl z
-      go (inr w) = at w.0 w.1 w.2 (cond-reached (g.arc w.0 j) (s w.0 + g.weight w.0 j))
+      go (inr w) = at w.0 w.1 w.2 (cond_reached (g.arc w.0 j) (s w.0 + g.weight w.0 j))
 
   -- a round later an element starts no later than in a schedule that keeps every arc
-  pub rounds-least : (s : Schedule) → Keeps g s → (r j : ℕ) → j < g.elements → rounds r g j ≤ s j
+  pub rounds_least : (s : Schedule) → Keeps g s → (r j : ℕ) → j < g.elements → rounds r g j ≤ s j
   unfolding rounds
-  rounds-least s k zero j hj = omega arith
-  rounds-least s k (suc r) j hj =
-      asked-least (rounds r g) j (s j) hj λ i a. let q : rounds r g i ≤ s i = rounds-least s k r i a.from in omega (arith, k i j a)
+  rounds_least s k zero j hj = omega arith
+  rounds_least s k (suc r) j hj =
+      asked_least (rounds r g) j (s j) hj λ i a. let q : rounds r g i ≤ s i = rounds_least s k r i a.from in omega (arith, k i j a)
 
   -- EVERY SCHEDULE THAT KEEPS EVERY ARC STARTS EACH NO EARLIER (with a circle too, though then no schedule keeps every arc)
-  pub earliest-least : (s : Schedule) → Keeps g s → (j : ℕ) → j < g.elements → earliestOf g j ≤ s j
-  unfolding earliestOf
-  earliest-least s k j hj = rounds-least s k g.elements j hj
+  pub earliest_least : (s : Schedule) → Keeps g s → (j : ℕ) → j < g.elements → earliest_of g j ≤ s j
+  unfolding earliest_of
+  earliest_least s k j hj = rounds_least s k g.elements j hj
 
   -- starts grow by at most the largest weight in a round
-  pub rounds-bound : (b : ℕ) → ((i j : ℕ) → Arc g i j → g.weight i j ≤ b) → (r j : ℕ) → j < g.elements → rounds r g j ≤ r * b
+  pub rounds_bound : (b : ℕ) → ((i j : ℕ) → Arc g i j → g.weight i j ≤ b) → (r j : ℕ) → j < g.elements → rounds r g j ≤ r * b
   unfolding rounds
-  rounds-bound b h zero j hj = omega arith
-  rounds-bound b h (suc r) j hj =
-      asked-least (rounds r g) j (suc r * b) hj λ i a. let q : rounds r g i ≤ r * b = rounds-bound b h r i a.from in omega (arith, h i j a, suc-mul r b)
+  rounds_bound b h zero j hj = omega arith
+  rounds_bound b h (suc r) j hj =
+      asked_least (rounds r g) j (suc r * b) hj λ i a. let q : rounds r g i ≤ r * b = rounds_bound b h r i a.from in omega (arith, h i j a, suc-mul r b)
 
-  pub earliest-bound : (b : ℕ) → ((i j : ℕ) → Arc g i j → g.weight i j ≤ b) → (j : ℕ) → j < g.elements → earliestOf g j ≤ g.elements * b
-  unfolding earliestOf
-  earliest-bound b h j hj = rounds-bound b h g.elements j hj
+  pub earliest_bound : (b : ℕ) → ((i j : ℕ) → Arc g i j → g.weight i j ≤ b) → (j : ℕ) → j < g.elements → earliest_of g j ≤ g.elements * b
+  unfolding earliest_of
+  earliest_bound b h j hj = rounds_bound b h g.elements j hj
 
   module _ (R : Ranked g) where
     -- an element of rank below `r` has its start after `r` rounds
@@ -79,16 +79,16 @@ module _ (g : Network) where
     unfolding rounds
     settled zero j hj l = absurd (not-suc-le-zero l)
     settled (suc r) j hj l =
-        asked-cong (rounds (suc r) g) (rounds r g) j hj λ i a. settled r i a.from (omega (arith, R.rises i j a))
+        asked_cong (rounds (suc r) g) (rounds r g) j hj λ i a. settled r i a.from (omega (arith, R.rises i j a))
 
     -- what the arcs ask of the earliest starts is the earliest start
-    pub earliest-fixed : (j : ℕ) → j < g.elements → earliestOf g j ≡ asked g (earliestOf g) j
-    unfolding earliestOf rounds
-    earliest-fixed j hj = sym (settled g.elements j hj (R.below j hj))
+    pub earliest_fixed : (j : ℕ) → j < g.elements → earliest_of g j ≡ asked g (earliest_of g) j
+    unfolding earliest_of rounds
+    earliest_fixed j hj = sym (settled g.elements j hj (R.below j hj))
 
     -- THE EARLIEST STARTS KEEP EVERY ARC
-    pub earliest-keeps : Keeps g (earliestOf g)
-    earliest-keeps i j a = omega (arith, asked-at (earliestOf g) i j a, earliest-fixed j a.to)
+    pub earliest_keeps : Keeps g (earliest_of g)
+    earliest_keeps i j a = omega (arith, asked_at (earliest_of g) i j a, earliest_fixed j a.to)
 
 -- the largest finish of the same elements, by other names of their starts and durations
 pub largest-same :
@@ -105,23 +105,23 @@ largest-same {P} {Q} {s} {t} {d} {e} {x} {y} q same finish L =
 -- THE START IS THE LARGEST FINISH OF THOSE BEFORE IT IN THE ORDER, OR 0, where each weight is the duration alone
 pub earliest-largest :
     (g : Network) (d : ℕ → ℕ) → Ranked g → ((i j : ℕ) → g.weight i j ≡ d i)
-    → (j : ℕ) → j < g.elements → LargestOr0 (FinishOf (λ i. Before (Arc g) i j) (earliestOf g) d) (earliestOf g j)
+    → (j : ℕ) → j < g.elements → LargestOr0 (FinishOf (λ i. Before (Arc g) i j) (earliest_of g) d) (earliest_of g j)
 earliest-largest g d R w j hj =
     record {
       upper = λ y F.
-          omega (arith, kept-before (earliestOf g) d g.weight (λ i k a. omega (arith, w i k)) (earliest-keeps g R) F.element j F.picked, F.finish);
+          omega (arith, kept_before (earliest_of g) d g.weight (λ i k a. omega (arith, w i k)) (earliest_keeps g R) F.element j F.picked, F.finish);
       reached =
           ⊎_elim
-          (λ z. inl (earliest-fixed g R j hj ∙ z))
-          (λ v. inr (record { element = v.0; picked = last v.1; finish = omega (arith, earliest-fixed g R j hj, v.2, w v.0 j) }))
-          (asked-reached g (earliestOf g) j hj);
+          (λ z. inl (earliest_fixed g R j hj ∙ z))
+          (λ v. inr (record { element = v.0; picked = last v.1; finish = omega (arith, earliest_fixed g R j hj, v.2, w v.0 j) }))
+          (asked_reached g (earliest_of g) j hj);
     }
 
 -- THE END STARTS AT THE LARGEST FINISH OF ALL, OR AT 0
-pub end-largest : (m : ℕ) (s d : ℕ → ℕ) → LargestOr0 (FinishOf (λ i. i < m) s d) (end_of m s d)
+pub end_largest : (m : ℕ) (s d : ℕ → ℕ) → LargestOr0 (FinishOf (λ i. i < m) s d) (end_of m s d)
 unfolding end_of
-end-largest m s d =
+end_largest m s d =
     record {
-      upper = λ y F. omega (arith, maximum-at m (λ i. s i + d i) F.element F.picked, F.finish);
-      reached = ⊎_elim inl (λ v. inr (record { element = v.0; picked = v.1; finish = v.2 })) (maximum-reached m (λ i. s i + d i));
+      upper = λ y F. omega (arith, maximum_at m (λ i. s i + d i) F.element F.picked, F.finish);
+      reached = ⊎_elim inl (λ v. inr (record { element = v.0; picked = v.1; finish = v.2 })) (maximum_reached m (λ i. s i + d i));
     }

@@ -2,7 +2,7 @@
 -- kind is occupied than there is.
 use Rattle.std.specs.Prelude.{Bool, cond, ◌&&◌, ℕ, suc, ◌+◌, ◌≤◌, ◌<◌, ltb}
 use Rattle.words.specs.Members.{first}
-use Rattle.flow_math.specs.Breaks.{isBroken}
+use Rattle.flow_math.specs.Breaks.{is_broken}
 use Rattle.flow_math.specs.Crew.{active}
 use Rattle.flow_math.specs.Crew as crew
 use Rattle.schedule.specs.Network.{Network, Schedule}
@@ -15,15 +15,15 @@ use Rattle.schedule.specs.declared.Checked.TheVariants.{Fits, Broken, Overload}
 
 -- the arc from i to j is there, and is broken
 abbrev pub breaks : Network → Schedule → ℕ → ℕ → Bool
-breaks g s i j = g.arc i j && isBroken s g.weight i j
+breaks g s i j = g.arc i j && is_broken s g.weight i j
 
 -- the first element to which an arc from i is broken; the number of elements where none is
-unfoldable pub brokenTo : Network → Schedule → ℕ → ℕ
-brokenTo g s i = first g.elements (breaks g s i)
+unfoldable pub broken_to : Network → Schedule → ℕ → ℕ
+broken_to g s i = first g.elements (breaks g s i)
 
 -- the first element from which an arc is broken; the number of elements where none is
-unfoldable pub brokenFrom : Network → Schedule → ℕ
-brokenFrom g s = first g.elements (λ i. ltb (brokenTo g s i) g.elements)
+unfoldable pub broken_from : Network → Schedule → ℕ
+broken_from g s = first g.elements (λ i. ltb (broken_to g s i) g.elements)
 
 -- ---- "If none, find the first period, then lowest kind, whose occupied sum exceeds the availability."
 
@@ -38,8 +38,8 @@ pub record Work : Type 0 where
   pub available : ℕ → ℕ
 
 -- WHO IS AT WORK AND WHAT IS OCCUPIED, of the work c in period t: what flow_math's Crew says of any crew.
-abbrev pub atWork : Work → ℕ → ℕ → Bool
-atWork c t i = active c.start c.worked t i
+abbrev pub at_work : Work → ℕ → ℕ → Bool
+at_work c t i = active c.start c.worked t i
 
 -- of kind k. "Sums never wrap": it is a sum of whole numbers.
 abbrev pub occupied : Work → ℕ → ℕ → ℕ
@@ -50,33 +50,33 @@ abbrev pub exceeds : Work → ℕ → ℕ → Bool
 exceeds c t k = ltb (c.available k) (occupied c t k)
 
 -- the lowest kind that is exceeded in period t; the number of kinds where none is
-unfoldable pub lowestKind : Work → ℕ → ℕ
-lowestKind c t = first c.kinds (exceeds c t)
+unfoldable pub lowest_kind : Work → ℕ → ℕ
+lowest_kind c t = first c.kinds (exceeds c t)
 
 -- some kind is exceeded in period t
 abbrev pub overloaded : Work → ℕ → Bool
-overloaded c t = ltb (lowestKind c t) c.kinds
+overloaded c t = ltb (lowest_kind c t) c.kinds
 
 -- the last finish of all, after which nobody is at work
-unfoldable pub lastFinish : Work → ℕ
-lastFinish c = end_of c.count c.start c.worked
+unfoldable pub last_finish : Work → ℕ
+last_finish c = end_of c.count c.start c.worked
 
--- how many periods, from period 1 on, are not overloaded before the first that is; `lastFinish` where none is
+-- how many periods, from period 1 on, are not overloaded before the first that is; `last_finish` where none is
 unfoldable pub quiet : Work → ℕ
-quiet c = first (lastFinish c) (λ u. overloaded c (suc u))
+quiet c = first (last_finish c) (λ u. overloaded c (suc u))
 
 -- the first overloaded period, or 0 where there is none
-unfoldable pub firstPeriod : Work → ℕ
-firstPeriod c = cond (ltb (quiet c) (lastFinish c)) (suc (quiet c)) 0
+unfoldable pub first_period : Work → ℕ
+first_period c = cond (ltb (quiet c) (last_finish c)) (suc (quiet c)) 0
 
 -- ---- the answer, with activities and kinds numbered from 1
 
 -- "fits, broken arc, or overload with period .. and kind" (01, Operations and causes)
-unfoldable pub checkOf : Network → Work → Checked
-checkOf g c =
-    cond (ltb (brokenFrom g c.start) g.elements)
-    (Broken (brokenFrom g c.start + 1) (brokenTo g c.start (brokenFrom g c.start) + 1))
-    (cond (ltb 0 (firstPeriod c)) (Overload (firstPeriod c) (lowestKind c (firstPeriod c) + 1)) Fits)
+unfoldable pub check_of : Network → Work → Checked
+check_of g c =
+    cond (ltb (broken_from g c.start) g.elements)
+    (Broken (broken_from g c.start + 1) (broken_to g c.start (broken_from g c.start) + 1))
+    (cond (ltb 0 (first_period c)) (Overload (first_period c) (lowest_kind c (first_period c) + 1)) Fits)
 
 -- ---- what the answers mean, without any search (proofs/Answers.antt shows it);
 -- the first broken arc is flow_math's FirstBroken

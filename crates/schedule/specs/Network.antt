@@ -5,7 +5,7 @@ use Rattle.flow_math.specs.Kept as kept
 
 -- So many elements, which pairs of them are arcs, and how long after the start of i the arc from i to j
 -- lets j start. (Here that weight is the duration of i, and the wait on the arc added to it:
--- `withWaits` of model/Arrays.)
+-- `with_waits` of model/Arrays.)
 pub record Network : Type 0 where
   pub elements : ℕ
   pub arc : ℕ → ℕ → Bool

@@ -15,14 +15,14 @@ rounds zero g j = zero
 rounds (suc r) g j = asked g (rounds r g) j
 
 -- THE EARLIEST STARTS: those after as many rounds as there are elements.
--- "Every schedule that keeps the arcs with the file's durations starts each no earlier": `earliest-least` of
--- proofs/Starts.antt; and they keep the arcs: `earliest-keeps`. So they are "the least that keep all arcs"
+-- "Every schedule that keeps the arcs with the file's durations starts each no earlier": `earliest_least` of
+-- proofs/Starts.antt; and they keep the arcs: `earliest_keeps`. So they are "the least that keep all arcs"
 -- (02, change 5). Where no arc has a wait, "An activity starts at the largest finish (start plus duration) of
 -- those before it, or at 0": `earliest-largest`.
-unfoldable pub earliestOf : Network → Schedule
-earliestOf g j = rounds g.elements g j
+unfoldable pub earliest_of : Network → Schedule
+earliest_of g j = rounds g.elements g j
 
 -- "the end starts at the largest finish of all, or at 0": of the first m elements, with the
--- durations d (`end-largest`)
+-- durations d (`end_largest`)
 unfoldable pub end_of : ℕ → Schedule → (ℕ → ℕ) → ℕ
 end_of m s d = maximum m (λ i. s i + d i)

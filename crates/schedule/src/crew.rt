@@ -2,10 +2,10 @@
 // more is occupied than there is.
 ghost use Rattle.std.specs.Prelude.{◌≡◌, ◌&&◌, ◌+◌, ◌*◌, ◌^◌, ◌≤◌, ◌<◌, ltb, length};
 ghost use Rattle.words.specs.Bits.{bit};
-ghost use Rattle.schedule.specs.Checks.{brokenTo, brokenFrom, lowestKind, firstPeriod, checkOf};
-ghost use Rattle.schedule.specs.model.Arrays.{crewNet, withWaits, workOf, Listed};
+ghost use Rattle.schedule.specs.Checks.{broken_to, broken_from, lowest_kind, first_period, check_of};
+ghost use Rattle.schedule.specs.model.Arrays.{crew_net, with_waits, work_of, Listed};
 ghost use Rattle.schedule.specs.Lists.{at};
-ghost use Rattle.schedule.specs.model.Levels.{soonerOf};
+ghost use Rattle.schedule.specs.model.Levels.{sooner_of};
 ghost use Rattle.order.specs.Stored.{elements, number_of};
 
 use crate::Checked;
@@ -43,7 +43,7 @@ fn broken_to(
 ) -> usize
     requires listed { Listed starts.now worked.now }
     requires i_in_bounds { i < length starts.now }
-    ensures { result ≡ brokenTo (crewNet rows.now (withWaits worked.now waits.now) starts.now) (at starts.now) i }
+    ensures { result ≡ broken_to (crew_net rows.now (with_waits worked.now waits.now) starts.now) (at starts.now) i }
 {
     let row = order::row(rows, i);
     let finish = words::wide(starts[i]) + words::wide(worked[i]);
@@ -64,7 +64,7 @@ fn broken_from(
     worked: &[u32],
 ) -> usize
     requires { Listed starts.now worked.now }
-    ensures { result ≡ brokenFrom (crewNet rows.now (withWaits worked.now waits.now) starts.now) (at starts.now) }
+    ensures { result ≡ broken_from (crew_net rows.now (with_waits worked.now waits.now) starts.now) (at starts.now) }
 {
     let m = starts.len();
     for i in 0..m {
@@ -85,7 +85,7 @@ fn lowest_kind(
 ) -> usize
     requires listed { Listed starts.now worked.now }
     requires le_t { 1 ≤ t }
-    ensures { result ≡ lowestKind (workOf demands.now available.now starts.now worked.now) t }
+    ensures { result ≡ lowest_kind (work_of demands.now available.now starts.now worked.now) t }
 {
     let load = period_load(demands, starts, worked, t);
     for k in 0..8usize {
@@ -98,7 +98,7 @@ fn lowest_kind(
 
 // The sooner of the periods best and t, where t counts if it is over, and best if it is not 0.
 fn sooner(over: bool, best: u64, t: u64) -> u64
-    ensures { result ≡ soonerOf over best t }
+    ensures { result ≡ sooner_of over best t }
 {
     if over {
         if best == 0 {
@@ -119,7 +119,7 @@ fn first_period(
     worked: &[u32],
 ) -> u64
     requires { Listed starts.now worked.now }
-    ensures { result ≡ firstPeriod (workOf demands.now available.now starts.now worked.now) }
+    ensures { result ≡ first_period (work_of demands.now available.now starts.now worked.now) }
 {
     let m = starts.len();
     let mut best: u64 = 0;
@@ -141,7 +141,7 @@ pub fn crew_check(
     worked: &[u32],
 ) -> Checked
     requires { Listed starts.now worked.now }
-    ensures { result ≡ checkOf (crewNet rows.now (withWaits worked.now waits.now) starts.now) (workOf demands.now available.now starts.now worked.now) }
+    ensures { result ≡ check_of (crew_net rows.now (with_waits worked.now waits.now) starts.now) (work_of demands.now available.now starts.now worked.now) }
 {
     let from = broken_from(rows, waits, starts, worked);
     if from < starts.len() {

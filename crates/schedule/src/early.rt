@@ -5,15 +5,15 @@ ghost use Rattle.order.specs.Before.{Acyclic};
 ghost use Rattle.order.specs.Orders.{Direct};
 ghost use Rattle.order.specs.Stored.{elements, number_of};
 ghost use Rattle.schedule.specs.Starts.{asked, end_of};
-ghost use Rattle.schedule.specs.model.Arrays.{netOf, byDuration, withWaits, startsOf, AllAtMost, FinishesFit};
+ghost use Rattle.schedule.specs.model.Arrays.{net_of, by_duration, with_waits, starts_of, AllAtMost, FinishesFit};
 ghost use Rattle.schedule.specs.Lists.{at};
-ghost use Rattle.schedule.specs.model.Levels.{waitingFor, readyOf, placed};
+ghost use Rattle.schedule.specs.model.Levels.{waiting_for, ready_of, placed};
 
 use order::{ELEMENTS, Rows, Set};
 
 // The elements that have an arc from one that is not done.
 fn waiting(rows: &Rows, done: Set) -> Set
-    ensures { number_of result ≡ waitingFor elements rows.now (number_of done) }
+    ensures { number_of result ≡ waiting_for elements rows.now (number_of done) }
 {
     let mut held = Set::EMPTY;
     let mut left = Set::ALL.minus(done);
@@ -27,7 +27,7 @@ fn waiting(rows: &Rows, done: Set) -> Set
 
 // The elements that are not done and do not wait.
 fn ready(rows: &Rows, done: Set) -> Set
-    ensures { number_of result ≡ readyOf rows.now (number_of done) }
+    ensures { number_of result ≡ ready_of rows.now (number_of done) }
 {
     Set::ALL.minus(waiting(rows, done)).minus(done)
 }
@@ -49,8 +49,8 @@ fn latest(
     j: usize,
 ) -> u32
     requires j_lt_elements { j < elements }
-    requires finishes_fit { FinishesFit starts.now (withWaits durations.now waits.now) }
-    ensures { result ≡ asked (netOf rows.now (withWaits durations.now waits.now)) (at starts.now) j }
+    requires finishes_fit { FinishesFit starts.now (with_waits durations.now waits.now) }
+    ensures { result ≡ asked (net_of rows.now (with_waits durations.now waits.now)) (at starts.now) j }
 {
     let mut best: u32 = 0;
     for i in 0..ELEMENTS {
@@ -70,8 +70,8 @@ fn place(
     starts: &mut [u32; ELEMENTS],
     ready: Set,
 )
-    requires { FinishesFit before.now (withWaits durations.now waits.now) }
-    ensures { starts.new ≡ placed (netOf rows.now (withWaits durations.now waits.now)) (at before.now) starts.old (number_of ready) }
+    requires { FinishesFit before.now (with_waits durations.now waits.now) }
+    ensures { starts.new ≡ placed (net_of rows.now (with_waits durations.now waits.now)) (at before.now) starts.old (number_of ready) }
 {
     let mut left = ready;
     while !left.is_empty() {
@@ -90,7 +90,7 @@ pub fn earliest(
     requires acyclic { Acyclic (Direct rows.now) }
     requires all_at_most { AllAtMost 65535 durations.now }
     requires all_at_most_2 { AllAtMost 65535 waits.now }
-    ensures { result ≡ startsOf rows.now (withWaits durations.now waits.now) }
+    ensures { result ≡ starts_of rows.now (with_waits durations.now waits.now) }
 {
     let mut starts = [0u32; ELEMENTS];
     let mut done = Set::EMPTY;
@@ -109,7 +109,7 @@ pub fn earliest(
 // The start of the end: the largest finish of the first m elements.
 pub fn end_start(starts: &[u32; ELEMENTS], durations: &[u32; ELEMENTS], m: usize) -> u32
     requires m_le_elements { m ≤ elements }
-    requires finishes_fit { FinishesFit starts.now (byDuration durations.now) }
+    requires finishes_fit { FinishesFit starts.now (by_duration durations.now) }
     ensures { result ≡ end_of m (at starts.now) (at durations.now) }
 {
     let mut last: u32 = 0;

@@ -3,9 +3,9 @@
 // r_ik over them. Document 01 says "at work" and "occupied". Here s is `starts`, d is `worked`, r is `demands`, and the
 // sum of kind k + 1 is `load[k]`.
 ghost use Rattle.std.specs.Prelude.{◌≡◌, [], ◌+◌, ◌*◌, ◌^◌, ◌≤◌, ◌<◌, length};
-ghost use Rattle.schedule.specs.PeriodLoad.{startedBy, finishedNoSooner, load_of};
-ghost use Rattle.schedule.specs.model.Arrays.{AllAtMost, workOf, Listed};
-ghost use Rattle.schedule.specs.model.Loads.{withDemands};
+ghost use Rattle.schedule.specs.PeriodLoad.{started_by, finished_no_sooner, load_of};
+ghost use Rattle.schedule.specs.model.Arrays.{AllAtMost, work_of, Listed};
+ghost use Rattle.schedule.specs.model.Loads.{with_demands};
 ghost use Rattle.schedule.specs.Lists.{at};
 ghost use Rattle.order.specs.Stored.{elements};
 
@@ -13,14 +13,14 @@ use order::ELEMENTS;
 
 // s_i ≤ (t − 1): the activity is started by the time t − 1, when period t begins.
 fn started_by(start: u32, time: u64) -> bool
-    ensures { result ≡ startedBy start time }
+    ensures { result ≡ started_by start time }
 {
     words::wide(start) <= time
 }
 
 // s_i + d_i ≥ t: it is finished no sooner than t.
 fn finished_no_sooner(start: u32, worked: u32, t: u64) -> bool
-    ensures { result ≡ finishedNoSooner start worked t }
+    ensures { result ≡ finished_no_sooner start worked t }
 {
     words::wide(start) + words::wide(worked) >= t
 }
@@ -28,7 +28,7 @@ fn finished_no_sooner(start: u32, worked: u32, t: u64) -> bool
 // r_ik is added to the load of k, kind by kind.
 fn add_demands(load: &mut [u64; 8], demands: &[u32; 8 * ELEMENTS], i: usize)
     requires { (i < elements) × (length load.old ≡ 8) × AllAtMost (i * 2 ^ 32) load.old }
-    ensures { (load.new ≡ withDemands 8 (λ k. at demands.now (elements * k + i)) load.old) × AllAtMost ((i + 1) * 2 ^ 32) load.new }
+    ensures { (load.new ≡ with_demands 8 (λ k. at demands.now (elements * k + i)) load.old) × AllAtMost ((i + 1) * 2 ^ 32) load.new }
 {
     for k in 0..8usize {
         load[k] = load[k] + words::wide(demands[ELEMENTS * k + i]);
@@ -44,7 +44,7 @@ pub fn period_load(
 ) -> [u64; 8]
     requires listed { Listed starts.now worked.now }
     requires le_t { 1 ≤ t }
-    ensures { result ≡ load_of (workOf demands.now [] starts.now worked.now) t }
+    ensures { result ≡ load_of (work_of demands.now [] starts.now worked.now) t }
 {
     let m = starts.len();
     let mut load = [0u64; 8];

@@ -1,36 +1,36 @@
 -- Every move keeps the balance: what an element hands over and has left is its demand, and so for what
 -- it takes over; no sum wraps.
 use Rattle.std.proofs.Common.{◌≡◌, ℕ, ◌+◌, ◌-◌, ◌*◌, ◌<◌, ◌≤◌, min, List, length, get_or, set, sym, ap, ◌∙◌, ⊎_elim, mod-eq_of_lt, arith, length-set}
-use Rattle.words.proofs.Sums.{sum-term}
+use Rattle.words.proofs.Sums.{sum_term}
 use Rattle.words.proofs.Tests.{same_or_not}
 use Rattle.order.specs.Stored.{elements}
 use Rattle.flow_math.specs.Handover.{col, row}
 use Rattle.solver.specs.model.Network.{Network, cell, handed, joined, shifted, wrap}
-use Rattle.solver.proofs.Stores.{set-share, share, share-add, share_other, share-same, share-sub, sum-in, sum-out}
+use Rattle.solver.proofs.Stores.{set_share, share, share_add, share_other, share_same, share_sub, sum_in, sum_out}
 
 -- what a store to the flow does to a row and to a column
 module _ (f : List ℕ) (i j v : ℕ) (hi : i < elements) (hj : j < elements) (len : length f ≡ (elements * elements)) where
-  pub row-set : (p : ℕ) → p < elements → row elements (handed (set f (cell i j) v)) p + share i p (get_or f (cell i j) 0) ≡ row elements (handed f) p + share i p v
+  pub row_set : (p : ℕ) → p < elements → row elements (handed (set f (cell i j) v)) p + share i p (get_or f (cell i j) 0) ≡ row elements (handed f) p + share i p v
   unfolding row
-  row-set p hp =
+  row_set p hp =
       ⊎_elim
       (λ e.
-      let s = sum-in f (cell i j) v (λ y. cell p y) elements j hj (ap (λ (x : ℕ). cell x j) (sym e)) (omega arith) (λ y b q. omega arith) in
-      omega (arith, s, share-same i p (get_or f (cell i j) 0) e, share-same i p v e))
+      let s = sum_in f (cell i j) v (λ y. cell p y) elements j hj (ap (λ (x : ℕ). cell x j) (sym e)) (omega arith) (λ y b q. omega arith) in
+      omega (arith, s, share_same i p (get_or f (cell i j) 0) e, share_same i p v e))
       (λ n.
-      let s = sum-out f (cell i j) v (λ y. cell p y) elements (λ y b q. n (omega arith)) in
+      let s = sum_out f (cell i j) v (λ y. cell p y) elements (λ y b q. n (omega arith)) in
       omega (arith, s, share_other i p (get_or f (cell i j) 0) n, share_other i p v n))
       (same_or_not i p)
 
-  pub col-set : (q : ℕ) → q < elements → col elements (handed (set f (cell i j) v)) q + share j q (get_or f (cell i j) 0) ≡ col elements (handed f) q + share j q v
+  pub col_set : (q : ℕ) → q < elements → col elements (handed (set f (cell i j) v)) q + share j q (get_or f (cell i j) 0) ≡ col elements (handed f) q + share j q v
   unfolding col
-  col-set q hq =
+  col_set q hq =
       ⊎_elim
       (λ e.
-      let s = sum-in f (cell i j) v (λ x. cell x q) elements i hi (ap (cell i) (sym e)) (omega arith) (λ x b r. omega arith) in
-      omega (arith, s, share-same j q (get_or f (cell i j) 0) e, share-same j q v e))
+      let s = sum_in f (cell i j) v (λ x. cell x q) elements i hi (ap (cell i) (sym e)) (omega arith) (λ x b r. omega arith) in
+      omega (arith, s, share_same j q (get_or f (cell i j) 0) e, share_same j q v e))
       (λ n.
-      let s = sum-out f (cell i j) v (λ x. cell x q) elements (λ x b r. n (omega arith)) in
+      let s = sum_out f (cell i j) v (λ x. cell x q) elements (λ x b r. n (omega arith)) in
       omega (arith, s, share_other j q (get_or f (cell i j) 0) n, share_other j q v n))
       (same_or_not j q)
 
@@ -46,9 +46,9 @@ no_wrap : (x : ℕ) → x ≤ 65535 → wrap x ≡ x
 no_wrap x h = mod-eq_of_lt (omega arith)
 
 module _ (d : ℕ → ℕ) (small : (p : ℕ) → p < elements → d p ≤ 65535) (s : Network) (b : Balanced d s) where
-  flow-le : (i j : ℕ) → i < elements → j < elements → get_or s.flow (cell i j) 0 ≤ col elements (handed s.flow) j
+  flow_le : (i j : ℕ) → i < elements → j < elements → get_or s.flow (cell i j) 0 ≤ col elements (handed s.flow) j
   unfolding col
-  flow-le i j hi hj = sum-term elements (λ x. get_or s.flow (cell x j) 0) i hi
+  flow_le i j hi hj = sum_term elements (λ x. get_or s.flow (cell x j) 0) i hi
 
   module _ (i j : ℕ) (hi : i < elements) (hj : j < elements) where
     abbrev joining : ℕ
@@ -57,13 +57,13 @@ module _ (d : ℕ → ℕ) (small : (p : ℕ) → p < elements → d p ≤ 65535
     abbrev raised : ℕ
     raised = get_or s.flow (cell i j) 0 + joining
 
-    join-plain : wrap raised ≡ raised
-    join-plain = no_wrap raised (omega (arith, flow-le i j hi hj, b.cols j hj, small j hj))
+    join_plain : wrap raised ≡ raised
+    join_plain = no_wrap raised (omega (arith, flow_le i j hi hj, b.cols j hj, small j hj))
 
-    pub joined-balanced : Balanced d (joined s i j)
+    pub joined_balanced : Balanced d (joined s i j)
     unfolding joined
-    joined-balanced =
-        rw join-plain
+    joined_balanced =
+        rw join_plain
         record {
           wide = simp length-set b.wide;
           lefts = simp length-set b.lefts;
@@ -71,19 +71,19 @@ module _ (d : ℕ → ℕ) (small : (p : ℕ) → p < elements → d p ≤ 65535
           rows = λ p hp.
               omega (
                 arith,
-                row-set s.flow i j raised hi hj b.wide p hp,
-                share-add i p (get_or s.flow (cell i j) 0) joining,
-                set-share s.left i p (get_or s.left i 0 - joining) (omega (arith, b.lefts)),
-                share-sub i p (get_or s.left i 0) joining (omega arith),
+                row_set s.flow i j raised hi hj b.wide p hp,
+                share_add i p (get_or s.flow (cell i j) 0) joining,
+                set_share s.left i p (get_or s.left i 0 - joining) (omega (arith, b.lefts)),
+                share_sub i p (get_or s.left i 0) joining (omega arith),
                 b.rows p hp,
               );
           cols = λ q hq.
               omega (
                 arith,
-                col-set s.flow i j raised hi hj b.wide q hq,
-                share-add j q (get_or s.flow (cell i j) 0) joining,
-                set-share s.right j q (get_or s.right j 0 - joining) (omega (arith, b.rights)),
-                share-sub j q (get_or s.right j 0) joining (omega arith),
+                col_set s.flow i j raised hi hj b.wide q hq,
+                share_add j q (get_or s.flow (cell i j) 0) joining,
+                set_share s.right j q (get_or s.right j 0 - joining) (omega (arith, b.rights)),
+                share_sub j q (get_or s.right j 0) joining (omega arith),
                 b.cols q hq,
               );
         }
@@ -98,49 +98,49 @@ module _ (d : ℕ → ℕ) (small : (p : ℕ) → p < elements → d p ≤ 65535
     abbrev pub spent : List ℕ
     spent = set s.right j (get_or s.right j 0 - moving)
 
-    lowered-wide : length lowered ≡ (elements * elements)
-    lowered-wide = length-set s.flow (cell i k) (get_or s.flow (cell i k) 0 - moving) ∙ b.wide
+    lowered_wide : length lowered ≡ (elements * elements)
+    lowered_wide = length-set s.flow (cell i k) (get_or s.flow (cell i k) 0 - moving) ∙ b.wide
 
-    pub spent-wide : length spent ≡ elements
-    spent-wide = length-set s.right j (get_or s.right j 0 - moving) ∙ b.rights
+    pub spent_wide : length spent ≡ elements
+    spent_wide = length-set s.right j (get_or s.right j 0 - moving) ∙ b.rights
 
-    lowered-col : (q : ℕ) → q < elements → col elements (handed lowered) q + share k q moving ≡ col elements (handed s.flow) q
-    lowered-col q hq =
+    lowered_col : (q : ℕ) → q < elements → col elements (handed lowered) q + share k q moving ≡ col elements (handed s.flow) q
+    lowered_col q hq =
         omega (
           arith,
-          col-set s.flow i k (get_or s.flow (cell i k) 0 - moving) hi hk b.wide q hq,
-          share-sub k q (get_or s.flow (cell i k) 0) moving (omega arith),
+          col_set s.flow i k (get_or s.flow (cell i k) 0 - moving) hi hk b.wide q hq,
+          share_sub k q (get_or s.flow (cell i k) 0) moving (omega arith),
         )
 
-    lowered-row : (p : ℕ) → p < elements → row elements (handed lowered) p + share i p moving ≡ row elements (handed s.flow) p
-    lowered-row p hp =
+    lowered_row : (p : ℕ) → p < elements → row elements (handed lowered) p + share i p moving ≡ row elements (handed s.flow) p
+    lowered_row p hp =
         omega (
           arith,
-          row-set s.flow i k (get_or s.flow (cell i k) 0 - moving) hi hk b.wide p hp,
-          share-sub i p (get_or s.flow (cell i k) 0) moving (omega arith),
+          row_set s.flow i k (get_or s.flow (cell i k) 0 - moving) hi hk b.wide p hp,
+          share_sub i p (get_or s.flow (cell i k) 0) moving (omega arith),
         )
 
-    spent-at : (q : ℕ) → get_or spent q 0 + share j q moving ≡ get_or s.right q 0
-    spent-at q =
+    spent_at : (q : ℕ) → get_or spent q 0 + share j q moving ≡ get_or s.right q 0
+    spent_at q =
         omega (
           arith,
-          set-share s.right j q (get_or s.right j 0 - moving) (omega (arith, b.rights)),
-          share-sub j q (get_or s.right j 0) moving (omega arith),
+          set_share s.right j q (get_or s.right j 0 - moving) (omega (arith, b.rights)),
+          share_sub j q (get_or s.right j 0) moving (omega arith),
         )
 
-    flow-plain : wrap (get_or lowered (cell i j) 0 + moving) ≡ get_or lowered (cell i j) 0 + moving
+    flow_plain : wrap (get_or lowered (cell i j) 0 + moving) ≡ get_or lowered (cell i j) 0 + moving
     unfolding col
-    flow-plain =
+    flow_plain =
         no_wrap (get_or lowered (cell i j) 0 + moving)
-        (omega (arith, sum-term elements (λ x. get_or lowered (cell x j) 0) i hi, lowered-col j hj, b.cols j hj, small j hj))
+        (omega (arith, sum_term elements (λ x. get_or lowered (cell x j) 0) i hi, lowered_col j hj, b.cols j hj, small j hj))
 
-    pub slack-plain : wrap (get_or spent k 0 + moving) ≡ get_or spent k 0 + moving
-    slack-plain = no_wrap (get_or spent k 0 + moving) (omega (arith, spent-at k, flow-le i k hi hk, b.cols k hk, small k hk))
+    pub slack_plain : wrap (get_or spent k 0 + moving) ≡ get_or spent k 0 + moving
+    slack_plain = no_wrap (get_or spent k 0 + moving) (omega (arith, spent_at k, flow_le i k hi hk, b.cols k hk, small k hk))
 
-    pub shifted-balanced : Balanced d (shifted s i k j)
+    pub shifted_balanced : Balanced d (shifted s i k j)
     unfolding shifted
-    shifted-balanced =
-        rw (flow-plain, slack-plain)
+    shifted_balanced =
+        rw (flow_plain, slack_plain)
         record {
           wide = simp length-set b.wide;
           lefts = b.lefts;
@@ -148,20 +148,20 @@ module _ (d : ℕ → ℕ) (small : (p : ℕ) → p < elements → d p ≤ 65535
           rows = λ p hp.
               omega (
                 arith,
-                lowered-row p hp,
-                row-set lowered i j (get_or lowered (cell i j) 0 + moving) hi hj lowered-wide p hp,
-                share-add i p (get_or lowered (cell i j) 0) moving,
+                lowered_row p hp,
+                row_set lowered i j (get_or lowered (cell i j) 0 + moving) hi hj lowered_wide p hp,
+                share_add i p (get_or lowered (cell i j) 0) moving,
                 b.rows p hp,
               );
           cols = λ q hq.
               omega (
                 arith,
-                lowered-col q hq,
-                col-set lowered i j (get_or lowered (cell i j) 0 + moving) hi hj lowered-wide q hq,
-                share-add j q (get_or lowered (cell i j) 0) moving,
-                spent-at q,
-                set-share spent k q (get_or spent k 0 + moving) (omega (arith, spent-wide)),
-                share-add k q (get_or spent k 0) moving,
+                lowered_col q hq,
+                col_set lowered i j (get_or lowered (cell i j) 0 + moving) hi hj lowered_wide q hq,
+                share_add j q (get_or lowered (cell i j) 0) moving,
+                spent_at q,
+                set_share spent k q (get_or spent k 0 + moving) (omega (arith, spent_wide)),
+                share_add k q (get_or spent k 0) moving,
                 b.cols q hq,
               );
         }

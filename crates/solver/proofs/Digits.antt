@@ -3,10 +3,10 @@ use Rattle.std.proofs.Common.{◌≡◌, ℕ, ◌+◌, ◌%◌, ◌<◌, ⊎_eli
 use lib.Bits.{bit_or, or_lt}
 use lib.Count.{ones}
 use Rattle.words.specs.Bits.{bit, digit, minus}
-use Rattle.words.proofs.Bits.{digit_lt, digit-minus, digit-none, digit-one, digit_or, zero-or-one}
+use Rattle.words.proofs.Bits.{digit_lt, digit_minus, digit_none, digit_one, digit_or, zero_or_one}
 use Rattle.words.proofs.Firsts.{at_first}
 use Rattle.words.proofs.Sizes.{ones_split}
-use Rattle.order.proofs.Stored.{in-bound, to-bound}
+use Rattle.order.proofs.Stored.{in_bound, to_bound}
 use Rattle.order.specs.Stored.{bound, elements}
 use Rattle.solver.specs.model.Search.{low}
 
@@ -20,35 +20,35 @@ masked x = mod-lt x (omega arith)
 abbrev pub Sub : ℕ → ℕ → Type 0
 Sub a b = (i : ℕ) → i < elements → digit a i ≡ 1 → digit b i ≡ 1
 
-pub none-sub : (w : ℕ) → Sub 0 w
-none-sub w i h e = absurd (omega (arith, digit-none i))
+pub none_sub : (w : ℕ) → Sub 0 w
+none_sub w i h e = absurd (omega (arith, digit_none i))
 
-pub or-sub : (a b : ℕ) → Sub a (bit_or a b)
-or-sub a b i h e = omega (arith, digit_or a b i, digit_lt b i)
+pub or_sub : (a b : ℕ) → Sub a (bit_or a b)
+or_sub a b i h e = omega (arith, digit_or a b i, digit_lt b i)
 
 -- what is new joins what was there
-pub join-sub : (g w : ℕ) → Sub g (bit_or w (minus g w))
-join-sub g w i h e = omega (arith, digit_or w (minus g w) i, digit-minus g w i, digit_lt w i)
+pub join_sub : (g w : ℕ) → Sub g (bit_or w (minus g w))
+join_sub g w i h e = omega (arith, digit_or w (minus g w) i, digit_minus g w i, digit_lt w i)
 
-pub join-lt : (g w : ℕ) → g < bound → w < bound → bit_or w (minus g w) < bound
-join-lt g w h l =
+pub join_lt : (g w : ℕ) → g < bound → w < bound → bit_or w (minus g w) < bound
+join_lt g w h l =
     let k : minus g w < bound = omega arith in
-    to-bound (or_lt elements w (minus g w) (in-bound l) (in-bound k))
+    to_bound (or_lt elements w (minus g w) (in_bound l) (in_bound k))
 
 -- what is added to b to make a, which has all members of b
-pub digit-added : (a b i : ℕ) → (digit b i ≡ 1 → digit a i ≡ 1) → digit (minus a b) i + digit b i ≡ digit a i
-digit-added a b i s =
+pub digit_added : (a b i : ℕ) → (digit b i ≡ 1 → digit a i ≡ 1) → digit (minus a b) i + digit b i ≡ digit a i
+digit_added a b i s =
     ⊎_elim
-    (λ z. omega (arith, digit-minus a b i, digit_lt a i))
-    (λ o. omega (arith, digit-minus a b i, s o))
-    (zero-or-one b i)
+    (λ z. omega (arith, digit_minus a b i, digit_lt a i))
+    (λ o. omega (arith, digit_minus a b i, s o))
+    (zero_or_one b i)
 
 -- ---- the lowest member, and how many there are
 
 pub low_digit : (w : ℕ) → low w < elements → digit w (low w) ≡ 1
-low_digit w h = digit-one w (low w) (at_first elements (bit w) h)
+low_digit w h = digit_one w (low w) (at_first elements (bit w) h)
 
-pub ones-added : (a b : ℕ) → a < bound → b < bound → Sub b a → ones (minus a b) + ones b ≡ ones a
-ones-added a b h l s =
+pub ones_added : (a b : ℕ) → a < bound → b < bound → Sub b a → ones (minus a b) + ones b ≡ ones a
+ones_added a b h l s =
     let k : minus a b < bound = omega arith in
-    ones_split elements a (minus a b) b (in-bound h) (in-bound k) (in-bound l) (λ i m. digit-added a b i (s i m))
+    ones_split elements a (minus a b) b (in_bound h) (in_bound k) (in_bound l) (λ i m. digit_added a b i (s i m))

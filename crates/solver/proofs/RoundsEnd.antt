@@ -7,29 +7,29 @@ use Rattle.words.specs.model.Loops.{run}
 use Rattle.words.specs.Sums.{sum}
 use Rattle.words.proofs.Kept.{run_ends}
 use Rattle.words.proofs.Sums.{sum_bound}
-use Rattle.words.proofs.Tests.{by-test, cond-false, cond_has, cond-true}
+use Rattle.words.proofs.Tests.{by_test, cond_false, cond_has, cond_true}
 use Rattle.order.specs.Stored.{elements}
 use Rattle.solver.specs.model.Search.{Reached}
 use Rattle.order.specs.model.Places.{positive}
-use Rattle.solver.specs.model.Network.{Network, Walk, atRoot, augmented, back, cell, joined, parent, rooted, shifted, source, walk, wrap}
+use Rattle.solver.specs.model.Network.{Network, Walk, at_root, augmented, back, cell, joined, parent, rooted, shifted, source, walk, wrap}
 use Rattle.solver.specs.model.Solve.{Round, next, round, rounded, settle, settled, solved, sought, started}
-use Rattle.solver.proofs.Stores.{sum-in}
-use Rattle.solver.proofs.Balance.{Balanced, moving, shifted-balanced, slack-plain, spent, spent-wide}
+use Rattle.solver.proofs.Stores.{sum_in}
+use Rattle.solver.proofs.Balance.{Balanced, moving, shifted_balanced, slack_plain, spent, spent_wide}
 use Rattle.solver.proofs.Linked.{Linked}
-use Rattle.solver.proofs.Positive.{positive-is}
+use Rattle.solver.proofs.Positive.{positive_is}
 use Rattle.solver.proofs.Tree.{Tree}
-use Rattle.solver.proofs.WayBack.{parent-reached, source_is, source-lt, source-seen}
-use Rattle.solver.proofs.Depth.{Depth, sought-depth}
-use Rattle.solver.proofs.Consistent.{Consistent, round-consistent, start-consistent}
+use Rattle.solver.proofs.WayBack.{parent_reached, source_is, source_lt, source_seen}
+use Rattle.solver.proofs.Depth.{Depth, sought_depth}
+use Rattle.solver.proofs.Consistent.{Consistent, round_consistent, start_consistent}
 
 -- what all elements have left
 abbrev pub leftover : Network → ℕ
 leftover s = sum elements (λ i. get_or s.left i 0)
 
 -- what a shift touches
-shifted-left : (s : Network) (i k j : ℕ) → (shifted s i k j).left ≡ s.left
+shifted_left : (s : Network) (i k j : ℕ) → (shifted s i k j).left ≡ s.left
 unfolding shifted
-shifted-left s i k j = refl
+shifted_left s i k j = refl
 
 shifted_row : (s : Network) (i k j : ℕ) → k < elements → j < elements → (p r : ℕ) → r < elements → (p ≡ i → ⊥) → get_or (shifted s i k j).flow (cell p r) 0 ≡ get_or s.flow (cell p r) 0
 unfolding shifted
@@ -42,22 +42,22 @@ shifted_row s i k j hk hj p r hr n =
 
 module _ (d : ℕ → ℕ) (small : (p : ℕ) → p < elements → d p ≤ 65535) (s : Network) (b : Balanced d s) where
   -- where the taker j can take more, and i hands over to k, k can take more after the shift
-  shifted-slack : (i k j : ℕ) → i < elements → k < elements → j < elements → 0 < get_or s.right j 0 → 0 < get_or s.flow (cell i k) 0 → 0 < get_or (shifted s i k j).right k 0
+  shifted_slack : (i k j : ℕ) → i < elements → k < elements → j < elements → 0 < get_or s.right j 0 → 0 < get_or s.flow (cell i k) 0 → 0 < get_or (shifted s i k j).right k 0
   unfolding shifted
-  shifted-slack i k j hi hk hj x y =
+  shifted_slack i k j hi hk hj x y =
       omega (
         arith,
         get_or-set_same (spent d small s b i k j hi hk hj) k
             (wrap (get_or (spent d small s b i k j hi hk hj) k 0 + moving d small s b i k j hi hk hj)) 0
-            (omega (arith, spent-wide d small s b i k j hi hk hj)),
-        slack-plain d small s b i k j hi hk hj,
+            (omega (arith, spent_wide d small s b i k j hi hk hj)),
+        slack_plain d small s b i k j hi hk hj,
       )
 
   -- where i has units left and j can take more, less is left after the join
-  joined-less : (i j : ℕ) → i < elements → 0 < get_or s.left i 0 → 0 < get_or s.right j 0 → leftover (joined s i j) < leftover s
+  joined_less : (i j : ℕ) → i < elements → 0 < get_or s.left i 0 → 0 < get_or s.right j 0 → leftover (joined s i j) < leftover s
   unfolding joined
-  joined-less i j hi x y =
-      omega (arith, sum-in s.left i (get_or s.left i 0 - min (get_or s.left i 0) (get_or s.right j 0)) (λ p. p) elements i hi refl (omega (arith, b.lefts)) (λ p h e. e))
+  joined_less i j hi x y =
+      omega (arith, sum_in s.left i (get_or s.left i 0 - min (get_or s.left i 0) (get_or s.right j 0)) (λ p. p) elements i hi refl (omega (arith, b.lefts)) (λ p h e. e))
 
 module _ (m : ℕ) (d : ℕ → ℕ) (small : (p : ℕ) → p < elements → d p ≤ 65535) (rows : List ℕ) (s : Network) (l : Linked s) (q : Reached)
     (t : Tree rows s.givers q) (D : Depth (positive m s.left) (positive m s.right) q) where
@@ -78,123 +78,123 @@ module _ (m : ℕ) (d : ℕ → ℕ) (small : (p : ℕ) → p < elements → d p
     k = parent q.lefts q.rights w
 
     i_lt : i < elements
-    i_lt = source-lt rows s.givers q t w W.at_lt W.there
+    i_lt = source_lt rows s.givers q t w W.at_lt W.there
 
-    i-seen : digit q.search.left i ≡ 1
-    i-seen = source-seen rows s.givers q t w W.at_lt W.there
+    i_seen : digit q.search.left i ≡ 1
+    i_seen = source_seen rows s.givers q t w W.at_lt W.there
 
     earlier : D.of_left i < D.of_right w.at
     earlier = rw (source_is rows s.givers q t w W.at_lt W.there) (D.came w.at W.at_lt W.there)
 
     nearer : k < elements → D.of_right k ≤ D.of_left i
-    nearer hk = D.led i i_lt i-seen hk
+    nearer hk = D.led i i_lt i_seen hk
 
     gives : k < elements → 0 < get_or w.now.flow (cell i k) 0
     gives hk =
-        omega (arith, W.same_rows i i_lt earlier k hk, (l.says i k i_lt hk).0 (parent-reached rows s.givers q t w W.at_lt W.there hk).1)
+        omega (arith, W.same_rows i i_lt earlier k hk, (l.says i k i_lt hk).0 (parent_reached rows s.givers q t w W.at_lt W.there hk).1)
 
-    walking-back : k < elements → Walking (back q.lefts q.rights w)
-    walking-back hk =
+    walking_back : k < elements → Walking (back q.lefts q.rights w)
+    walking_back hk =
         record {
           at_lt = hk;
-          there = (parent-reached rows s.givers q t w W.at_lt W.there hk).0;
-          balanced = shifted-balanced d small w.now W.balanced i k w.at i_lt hk W.at_lt;
-          slack = shifted-slack d small w.now W.balanced i k w.at i_lt hk W.at_lt W.slack (gives hk);
-          same_left = shifted-left w.now i k w.at ∙ W.same_left;
+          there = (parent_reached rows s.givers q t w W.at_lt W.there hk).0;
+          balanced = shifted_balanced d small w.now W.balanced i k w.at i_lt hk W.at_lt;
+          slack = shifted_slack d small w.now W.balanced i k w.at i_lt hk W.at_lt W.slack (gives hk);
+          same_left = shifted_left w.now i k w.at ∙ W.same_left;
           same_rows = λ p hp e r hr.
               shifted_row w.now i k w.at hk W.at_lt p r hr (λ x. omega (arith, ap D.of_left x, nearer hk))
               ∙ W.same_rows p hp (omega (arith, nearer hk, earlier)) r hr;
         }
 
-    root-slack : elements ≤ k → 0 < get_or w.now.left i 0
-    root-slack h = rw W.same_left (positive-is m s.left i (D.root i i_lt i-seen h))
+    root_slack : elements ≤ k → 0 < get_or w.now.left i 0
+    root_slack h = rw W.same_left (positive_is m s.left i (D.root i i_lt i_seen h))
 
-    walking-root : elements ≤ k → leftover (atRoot q.rights w) < leftover s
-    walking-root h =
+    walking_root : elements ≤ k → leftover (at_root q.rights w) < leftover s
+    walking_root h =
         let e : leftover w.now ≡ leftover s = ap (λ (x : List ℕ). sum elements (λ y. get_or x y 0)) W.same_left in
-        omega (arith, e, joined-less d small w.now W.balanced i w.at i_lt (root-slack h) W.slack)
+        omega (arith, e, joined_less d small w.now W.balanced i w.at i_lt (root_slack h) W.slack)
 
   abbrev Less : Network → Type 0
   Less x = leftover x < leftover s
 
-  walk-less : (n : ℕ) (w : Walk) → Walking w → D.of_right w.at ≤ n → Less (augmented n q.lefts q.rights w)
+  walk_less : (n : ℕ) (w : Walk) → Walking w → D.of_right w.at ≤ n → Less (augmented n q.lefts q.rights w)
   unfolding run
-  walk-less zero w W h = absurd (omega (arith, earlier w W))
-  walk-less (suc n) w W h =
-      cond_has Less (rooted q.lefts q.rights w) (atRoot q.rights w) (augmented n q.lefts q.rights (back q.lefts q.rights w))
-      (λ e. walking-root w W (leb-true elements (parent q.lefts q.rights w) e))
+  walk_less zero w W h = absurd (omega (arith, earlier w W))
+  walk_less (suc n) w W h =
+      cond_has Less (rooted q.lefts q.rights w) (at_root q.rights w) (augmented n q.lefts q.rights (back q.lefts q.rights w))
+      (λ e. walking_root w W (leb-true elements (parent q.lefts q.rights w) e))
       (λ e.
       let hk = leb-false elements (parent q.lefts q.rights w) e in
-      walk-less n (back q.lefts q.rights w) (walking-back w W hk) (omega (arith, nearer w W hk, earlier w W)))
+      walk_less n (back q.lefts q.rights w) (walking_back w W hk) (omega (arith, nearer w W hk, earlier w W)))
 
-  pub augmented-less : Balanced d s → q.search.at < elements → leftover (augmented elements q.lefts q.rights (walk s q.search.at)) < leftover s
-  augmented-less b h =
-      walk-less elements (walk s q.search.at)
+  pub augmented_less : Balanced d s → q.search.at < elements → leftover (augmented elements q.lefts q.rights (walk s q.search.at)) < leftover s
+  augmented_less b h =
+      walk_less elements (walk s q.search.at)
       (record {
         at_lt = h;
         there = t.goal h;
         balanced = b;
-        slack = positive-is m s.right q.search.at (D.goal h);
+        slack = positive_is m s.right q.search.at (D.goal h);
         same_left = refl;
         same_rows = λ i hi e k hk. refl;
       })
       (omega (arith, D.right_le q.search.at h (t.goal h), D.fits))
 
 -- a round whose search found something, and one whose search found nothing
-pub round-found : (m : ℕ) (rows : List ℕ) (s : Network) → (sought m rows s).search.at < elements
+pub round_found : (m : ℕ) (rows : List ℕ) (s : Network) → (sought m rows s).search.at < elements
     → rounded m rows s ≡ round (augmented elements (sought m rows s).lefts (sought m rows s).rights (walk s (sought m rows s).search.at)) (sought m rows s).search
 unfolding rounded
-round-found m rows s h = ap (λ (x : Network). round x (sought m rows s).search) (cond-true _ s (lt-ltb (sought m rows s).search.at elements h))
+round_found m rows s h = ap (λ (x : Network). round x (sought m rows s).search) (cond_true _ s (lt-ltb (sought m rows s).search.at elements h))
 
-pub round-stays : (m : ℕ) (rows : List ℕ) (s : Network) → elements ≤ (sought m rows s).search.at → rounded m rows s ≡ round s (sought m rows s).search
+pub round_stays : (m : ℕ) (rows : List ℕ) (s : Network) → elements ≤ (sought m rows s).search.at → rounded m rows s ≡ round s (sought m rows s).search
 unfolding rounded
-round-stays m rows s h = ap (λ (x : Network). round x (sought m rows s).search) (cond-false _ s (le-ltb (sought m rows s).search.at elements h))
+round_stays m rows s h = ap (λ (x : Network). round x (sought m rows s).search) (cond_false _ s (le-ltb (sought m rows s).search.at elements h))
 
 -- what is left, and 1 more where another round follows
 unfoldable ahead : Round → ℕ
 ahead x = leftover x.now + cond (settled x) 0 1
 
-ahead-stop : (x : Round) → settled x ≡ true → ahead x ≡ leftover x.now
+ahead_stop : (x : Round) → settled x ≡ true → ahead x ≡ leftover x.now
 unfolding ahead
-ahead-stop x e = omega (arith, cond-true {A = ℕ} 0 1 e)
+ahead_stop x e = omega (arith, cond_true {A = ℕ} 0 1 e)
 
-ahead-on : (x : Round) → settled x ≡ false → ahead x ≡ leftover x.now + 1
+ahead_on : (x : Round) → settled x ≡ false → ahead x ≡ leftover x.now + 1
 unfolding ahead
-ahead-on x e = omega (arith, cond-false {A = ℕ} 0 1 e)
+ahead_on x e = omega (arith, cond_false {A = ℕ} 0 1 e)
 
 module _ (m : ℕ) (hm : m ≤ elements) (d : ℕ → ℕ) (small : (p : ℕ) → p < elements → d p ≤ 65535) (rows : List ℕ) where
-  round-less : (s : Network) → Consistent d rows s → ahead (rounded m rows s) ≤ leftover s
-  round-less s f =
+  round_less : (s : Network) → Consistent d rows s → ahead (rounded m rows s) ≤ leftover s
+  round_less s f =
       let q = sought m rows s in
-      let r = sought-depth m hm rows s f.linked.fit in
-      by-test (ltb q.search.at elements)
+      let r = sought_depth m hm rows s f.linked.fit in
+      by_test (ltb q.search.at elements)
       (λ e.
       let h = ltb-true q.search.at elements e in
-      rw (round-found m rows s h)
+      rw (round_found m rows s h)
       (omega (
         arith,
-        ahead-on (round (augmented elements q.lefts q.rights (walk s q.search.at)) q.search) (lt-leb elements q.search.at h),
-        augmented-less m d small rows s f.linked q r.0 r.1 f.balanced h,
+        ahead_on (round (augmented elements q.lefts q.rights (walk s q.search.at)) q.search) (lt-leb elements q.search.at h),
+        augmented_less m d small rows s f.linked q r.0 r.1 f.balanced h,
       )))
       (λ e.
       let h = ltb-false q.search.at elements e in
-      rw (round-stays m rows s h) (omega (arith, ahead-stop (round s q.search) (le-leb elements q.search.at h))))
+      rw (round_stays m rows s h) (omega (arith, ahead_stop (round s q.search) (le-leb elements q.search.at h))))
 
-  settle-ends : (n : ℕ) (x : Round) → Consistent d rows x.now → ahead x ≤ n → settled (settle m n rows x) ≡ true
-  settle-ends n x f h =
+  settle_ends : (n : ℕ) (x : Round) → Consistent d rows x.now → ahead x ≤ n → settled (settle m n rows x) ≡ true
+  settle_ends n x f h =
       (run_ends (λ y. Consistent d rows y.now) ahead settled (next m rows)
-      (λ y e g. (round-consistent m hm d small rows y.now g, omega (arith, round-less y.now g, ahead-on y e)))
-      (λ y g z. by-test (settled y) (λ e. e) (λ e. absurd (omega (arith, ahead-on y e))))
+      (λ y e g. (round_consistent m hm d small rows y.now g, omega (arith, round_less y.now g, ahead_on y e)))
+      (λ y g z. by_test (settled y) (λ e. e) (λ e. absurd (omega (arith, ahead_on y e))))
       n x f h).1
 
   pub left_le : (s : Network) → Consistent d rows s → leftover s ≤ (elements * 65535)
   left_le s f = sum_bound elements 65535 (λ i. get_or s.left i 0) (λ i l. omega (arith, f.balanced.rows i l, small i l))
 
   -- With a round for each unit that can be left, the last search finds nothing.
-  pub solved-ends : (n : ℕ) (b : List ℕ) (s : Network) → Consistent d rows s → (elements * 65535) ≤ n → elements ≤ (solved m n rows b s).search.at
+  pub solved_ends : (n : ℕ) (b : List ℕ) (s : Network) → Consistent d rows s → (elements * 65535) ≤ n → elements ≤ (solved m n rows b s).search.at
   unfolding solved
-  solved-ends n b s f h =
-      let g = start-consistent m hm d small rows b s f in
+  solved_ends n b s f h =
+      let g = start_consistent m hm d small rows b s f in
       leb-true elements (settle m n rows (rounded m rows (started rows b s))).search.at
-      (settle-ends n (rounded m rows (started rows b s)) (round-consistent m hm d small rows (started rows b s) g)
-      (omega (arith, round-less (started rows b s) g, left_le (started rows b s) g)))
+      (settle_ends n (rounded m rows (started rows b s)) (round_consistent m hm d small rows (started rows b s) g)
+      (omega (arith, round_less (started rows b s) g, left_le (started rows b s) g)))

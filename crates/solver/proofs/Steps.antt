@@ -1,17 +1,17 @@
 -- What the model comes to at each step, from the values that the code has in hand.
 use Rattle.std.proofs.Common.{◌≡◌, ℕ, ◌+◌, ◌-◌, ◌*◌, ◌^◌, ◌<◌, ◌≤◌, min, List, get_or, set, sym, refl, ap, ◌∙◌, ap₂, add-one, arith, le-ltb, lt-ltb, eq-eqb, ne_eqb}
 use lib.Bits.{bit_and, bit_or}
-use Rattle.words.specs.Bits.{minus, withBit, rest}
+use Rattle.words.specs.Bits.{minus, with_bit, rest}
 use Rattle.words.specs.model.Loops.{each}
-use Rattle.words.proofs.Tests.{cond-true, cond-false}
-use Rattle.order.specs.Stored.{elements, row as set_at, putRow, setOf}
+use Rattle.words.proofs.Tests.{cond_true, cond_false}
+use Rattle.order.specs.Stored.{elements, row as set_at, put_row, set_of}
 use Rattle.solver.specs.model.Search.{Look}
 use Rattle.solver.specs.declared.Quoted.{Quoted}
 use Rattle.solver.specs.model.Search.{low, marks, Seen, seen, visit, reached, fresh, found, onward, advance, begun, reach}
 use Rattle.order.specs.model.Places.{positive}
 use Rattle.solver.specs.model.Network.{Network, network, wrap, cell, giver, leaders, joined, shifted, walk, handing, augmented}
-use Rattle.solver.specs.model.Solve.{blanks, blankRows, Round, round, solved, rank_of, ranked_at, ranked, handRank, started, sought, rounded, next, settle}
-use Rattle.solver.specs.model.Quote.{unused, copied, outcome, amount, told, quoted, quoteIn, flowIn}
+use Rattle.solver.specs.model.Solve.{blanks, blank_rows, Round, round, solved, rank_of, ranked_at, ranked, hand_rank, started, sought, rounded, next, settle}
+use Rattle.solver.specs.model.Quote.{unused, copied, outcome, amount, told, quoted, quote_in, flow_in}
 
 -- ---- a search
 
@@ -30,48 +30,48 @@ begins able roots z e = ap₂ (λ (x y : ℕ). record { frontier = y; next = x; 
 -- a turn at the giver i, which reaches the takers `new`
 
 module _ (rows givers : List ℕ) (slack : ℕ) (s : Look) (lefts rights : List ℕ) where
-  hit-at : (bit_and (fresh rows s) slack ≡ 0 → ⊥)
+  hit_at : (bit_and (fresh rows s) slack ≡ 0 → ⊥)
       → advance rows givers slack (reached s lefts rights)
       ≡ reached (found s (fresh rows s) (bit_and (fresh rows s) slack)) lefts (marks rights (fresh rows s) (low s.frontier))
   unfolding advance
-  hit-at n = cond-false _ _ (ne_eqb _ _ n)
+  hit_at n = cond_false _ _ (ne_eqb _ _ n)
 
-  miss-at : (w : Seen) → w ≡ each elements (visit givers) (seen s.left lefts) (fresh rows s) → bit_and (fresh rows s) slack ≡ 0
+  miss_at : (w : Seen) → w ≡ each elements (visit givers) (seen s.left lefts) (fresh rows s) → bit_and (fresh rows s) slack ≡ 0
       → advance rows givers slack (reached s lefts rights)
       ≡ reached (onward s (fresh rows s) w.word) w.parents (marks rights (fresh rows s) (low s.frontier))
   unfolding advance
-  miss-at w e z = rw e (cond-true _ _ (eq-eqb _ _ z))
+  miss_at w e z = rw e (cond_true _ _ (eq-eqb _ _ z))
 
   module _ (i : ℕ) (e : i ≡ low s.frontier) (new : ℕ) (n : new ≡ minus (set_at rows i) s.right) (marked : List ℕ)
       (m : marked ≡ marks rights new i) where
     same : new ≡ fresh rows s
     same = n ∙ ap (λ (x : ℕ). minus (set_at rows x) s.right) e
 
-    same-marks : marked ≡ marks rights (fresh rows s) (low s.frontier)
-    same-marks = m ∙ ap₂ (marks rights) same e
+    same_marks : marked ≡ marks rights (fresh rows s) (low s.frontier)
+    same_marks = m ∙ ap₂ (marks rights) same e
 
-    pub turn-hit : {at : ℕ} → (bit_and new slack ≡ 0 → ⊥) → at ≡ low (bit_and new slack)
+    pub turn_hit : {at : ℕ} → (bit_and new slack ≡ 0 → ⊥) → at ≡ low (bit_and new slack)
         → reached (record { frontier = 0; next = 0; left = s.left; right = bit_or s.right new; at = at }) lefts marked
         ≡ advance rows givers slack (reached s lefts rights)
-    turn-hit h q = cc (same, same-marks, hit-at (λ z. h (ap (λ (x : ℕ). bit_and x slack) same ∙ z)))
+    turn_hit h q = cc (same, same_marks, hit_at (λ z. h (ap (λ (x : ℕ). bit_and x slack) same ∙ z)))
 
     module _ {left r : ℕ} {lefts' : List ℕ} (o : r ≡ rest s.frontier)
         (w : seen left lefts' ≡ each elements (visit givers) (seen s.left lefts) new) (z : bit_and new slack ≡ 0) where
       missed : advance rows givers slack (reached s lefts rights)
           ≡ reached (onward s (fresh rows s) left) lefts' (marks rights (fresh rows s) (low s.frontier))
       missed =
-          miss-at (seen left lefts') (w ∙ ap (each elements (visit givers) (seen s.left lefts)) same)
+          miss_at (seen left lefts') (w ∙ ap (each elements (visit givers) (seen s.left lefts)) same)
           (ap (λ (x : ℕ). bit_and x slack) (sym same) ∙ z)
 
       pub turn_last : r ≡ 0
           → reached (record { frontier = bit_or s.next (minus left s.left); next = 0; left = left; right = bit_or s.right new; at = elements }) lefts' marked
           ≡ advance rows givers slack (reached s lefts rights)
-      turn_last l = cc (same, same-marks, missed, eq-eqb (rest s.frontier) 0 (sym o ∙ l))
+      turn_last l = cc (same, same_marks, missed, eq-eqb (rest s.frontier) 0 (sym o ∙ l))
 
       pub turn_on : (r ≡ 0 → ⊥)
           → reached (record { frontier = r; next = bit_or s.next (minus left s.left); left = left; right = bit_or s.right new; at = elements }) lefts' marked
           ≡ advance rows givers slack (reached s lefts rights)
-      turn_on l = cc (same, same-marks, missed, ne_eqb (rest s.frontier) 0 (λ y. l (o ∙ y)))
+      turn_on l = cc (same, same_marks, missed, ne_eqb (rest s.frontier) 0 (λ y. l (o ∙ y)))
 
 -- the same turns, with the numbers of the sets that code has in hand
 module _ (rows givers : List ℕ) (slack : ℕ) (s : Look) (lefts rights : List ℕ) (i : ℕ) (e : i ≡ low s.frontier) (row new : ℕ) (f : row ≡ set_at rows i)
@@ -82,41 +82,41 @@ module _ (rows givers : List ℕ) (slack : ℕ) (s : Look) (lefts rights : List 
 
   pub look_hit : {none at : ℕ} → none ≡ 0 → (hit ≡ 0 → ⊥) → at ≡ low hit
       → reached (record { frontier = none; next = none; left = s.left; right = right; at = at }) lefts marked ≡ advance rows givers slack (reached s lefts rights)
-  look_hit z h q = cc (z, u) ∙ turn-hit rows givers slack s lefts rights i e new fetched marked m (λ y. h (x ∙ y)) (q ∙ ap low x)
+  look_hit z h q = cc (z, u) ∙ turn_hit rows givers slack s lefts rights i e new fetched marked m (λ y. h (x ∙ y)) (q ∙ ap low x)
 
   module _ {left r added next : ℕ} {lefts' : List ℕ} (o : r ≡ rest s.frontier) (w : seen left lefts' ≡ each elements (visit givers) (seen s.left lefts) new)
       (z : hit ≡ 0) (a : added ≡ minus left s.left) (b : next ≡ bit_or s.next added) where
-    pub look-last : {none : ℕ} → none ≡ 0 → r ≡ 0
+    pub look_last : {none : ℕ} → none ≡ 0 → r ≡ 0
         → reached (record { frontier = next; next = none; left = left; right = right; at = elements }) lefts' marked ≡ advance rows givers slack (reached s lefts rights)
-    look-last v l = cc (v, u, a, b) ∙ turn_last rows givers slack s lefts rights i e new fetched marked m o w (sym x ∙ z) l
+    look_last v l = cc (v, u, a, b) ∙ turn_last rows givers slack s lefts rights i e new fetched marked m o w (sym x ∙ z) l
 
-    pub look-on : (r ≡ 0 → ⊥)
+    pub look_on : (r ≡ 0 → ⊥)
         → reached (record { frontier = r; next = next; left = left; right = right; at = elements }) lefts' marked ≡ advance rows givers slack (reached s lefts rights)
-    look-on l = cc (u, a, b) ∙ turn_on rows givers slack s lefts rights i e new fetched marked m o w (sym x ∙ z) l
+    look_on l = cc (u, a, b) ∙ turn_on rows givers slack s lefts rights i e new fetched marked m o w (sym x ∙ z) l
 
 -- ---- the moves
 
-pub given-none : {v : ℕ} (w i n : ℕ) → v ≡ minus w (2 ^ i) → n ≡ 0 → v ≡ giver w i n
+pub given_none : {v : ℕ} (w i n : ℕ) → v ≡ minus w (2 ^ i) → n ≡ 0 → v ≡ giver w i n
 unfolding giver
-given-none w i n e z = e ∙ sym (cond-true (minus w (2 ^ i)) (withBit w i) (eq-eqb n 0 z))
+given_none w i n e z = e ∙ sym (cond_true (minus w (2 ^ i)) (with_bit w i) (eq-eqb n 0 z))
 
-pub given-some : {v : ℕ} (w i n : ℕ) → v ≡ withBit w i → (n ≡ 0 → ⊥) → v ≡ giver w i n
+pub given_some : {v : ℕ} (w i n : ℕ) → v ≡ with_bit w i → (n ≡ 0 → ⊥) → v ≡ giver w i n
 unfolding giver
-given-some w i n e z = e ∙ sym (cond-false (minus w (2 ^ i)) (withBit w i) (ne_eqb n 0 z))
+given_some w i n e z = e ∙ sym (cond_false (minus w (2 ^ i)) (with_bit w i) (ne_eqb n 0 z))
 
 pub joins : (f g l r : List ℕ) (i j d n : ℕ) (f' g' : List ℕ)
     → d ≡ min (get_or l i 0) (get_or r j 0)
     → n ≡ wrap (get_or f (cell i j) 0 + d)
-    → (f' ≡ set f (cell i j) n) × (g' ≡ putRow g j (giver (set_at g j) i n))
+    → (f' ≡ set f (cell i j) n) × (g' ≡ put_row g j (giver (set_at g j) i n))
     → network f' g' (set l i (get_or l i 0 - d)) (set r j (get_or r j 0 - d)) ≡ joined (network f g l r) i j
 unfolding joined
 joins f g l r i j d n f' g' e q p = cc (e, q, p.0, p.1)
 
 pub shifts : (f g l r : List ℕ) (i k j d n v : ℕ) (f₁ g₁ f₂ g₂ : List ℕ)
     → d ≡ min (get_or r j 0) (get_or f (cell i k) 0)
-    → (f₁ ≡ set f (cell i k) (get_or f (cell i k) 0 - d)) × (g₁ ≡ putRow g k (giver (set_at g k) i (get_or f (cell i k) 0 - d)))
+    → (f₁ ≡ set f (cell i k) (get_or f (cell i k) 0 - d)) × (g₁ ≡ put_row g k (giver (set_at g k) i (get_or f (cell i k) 0 - d)))
     → n ≡ wrap (get_or f₁ (cell i j) 0 + d)
-    → (f₂ ≡ set f₁ (cell i j) n) × (g₂ ≡ putRow g₁ j (giver (set_at g₁ j) i n))
+    → (f₂ ≡ set f₁ (cell i j) n) × (g₂ ≡ put_row g₁ j (giver (set_at g₁ j) i n))
     → v ≡ wrap (get_or (set r j (get_or r j 0 - d)) k 0 + d)
     → network f₂ g₂ l (set (set r j (get_or r j 0 - d)) k v) ≡ shifted (network f g l r) i k j
 unfolding shifted
@@ -129,20 +129,20 @@ walks j e = ap (λ (x : Network). walk x j) e
 module _ (i : ℕ) (s : Network) where
   pub hands_none : (j : ℕ) {d : ℕ} → d ≡ min (get_or s.left i 0) (get_or s.right j 0) → d ≡ 0 → s ≡ handing i s j
   unfolding handing
-  hands_none j e z = sym (cond-true s (joined s i j) (eq-eqb (min (get_or s.left i 0) (get_or s.right j 0)) 0 (sym e ∙ z)))
+  hands_none j e z = sym (cond_true s (joined s i j) (eq-eqb (min (get_or s.left i 0) (get_or s.right j 0)) 0 (sym e ∙ z)))
 
-  pub hands-some : (j : ℕ) {d : ℕ} → d ≡ min (get_or s.left i 0) (get_or s.right j 0) → (d ≡ 0 → ⊥) → joined s i j ≡ handing i s j
+  pub hands_some : (j : ℕ) {d : ℕ} → d ≡ min (get_or s.left i 0) (get_or s.right j 0) → (d ≡ 0 → ⊥) → joined s i j ≡ handing i s j
   unfolding handing
-  hands-some j e n = sym (cond-false s (joined s i j) (ne_eqb (min (get_or s.left i 0) (get_or s.right j 0)) 0 (λ z. n (e ∙ z))))
+  hands_some j e n = sym (cond_false s (joined s i j) (ne_eqb (min (get_or s.left i 0) (get_or s.right j 0)) 0 (λ z. n (e ∙ z))))
 
-  pub hands-spent : get_or s.left i 0 ≡ 0 → (j : ℕ) → handing i s j ≡ s
-  hands-spent z j = sym (hands_none j refl (omega arith))
+  pub hands_spent : get_or s.left i 0 ≡ 0 → (j : ℕ) → handing i s j ≡ s
+  hands_spent z j = sym (hands_none j refl (omega arith))
 
-pub rank-none : (row i : ℕ) (b : List ℕ) → row ≡ 0 → b ≡ ranked_at row i b
-rank-none row i b z = sym (cond-true _ _ (eq-eqb row 0 z))
+pub rank_none : (row i : ℕ) (b : List ℕ) → row ≡ 0 → b ≡ ranked_at row i b
+rank_none row i b z = sym (cond_true _ _ (eq-eqb row 0 z))
 
-pub rank-some : (row i : ℕ) (b : List ℕ) (c w : ℕ) → (row ≡ 0 → ⊥) → c ≡ rank_of row → w ≡ withBit (set_at b c) i → putRow b c w ≡ ranked_at row i b
-rank-some row i b c w z e q = cc (e, q) ∙ sym (cond-false _ _ (ne_eqb row 0 z))
+pub rank_some : (row i : ℕ) (b : List ℕ) (c w : ℕ) → (row ≡ 0 → ⊥) → c ≡ rank_of row → w ≡ with_bit (set_at b c) i → put_row b c w ≡ ranked_at row i b
+rank_some row i b c w z e q = cc (e, q) ∙ sym (cond_false _ _ (ne_eqb row 0 z))
 
 -- ---- rounds
 
@@ -152,40 +152,40 @@ module _ (m : ℕ) (rows : List ℕ) (s : Network) (able roots slack : ℕ) (lef
   seen_as : reached q lefts rights ≡ sought m rows s
   seen_as = cc
 
-  pub round-found : (s' : Network) → q.at < elements → s' ≡ augmented elements lefts rights (walk s q.at) → round s' q ≡ rounded m rows s
+  pub round_found : (s' : Network) → q.at < elements → s' ≡ augmented elements lefts rights (walk s q.at) → round s' q ≡ rounded m rows s
   unfolding rounded
-  round-found s' h t = rw (← seen_as) (ap (λ (x : Network). round x q) (t ∙ sym (cond-true _ _ (lt-ltb _ _ h))))
+  round_found s' h t = rw (← seen_as) (ap (λ (x : Network). round x q) (t ∙ sym (cond_true _ _ (lt-ltb _ _ h))))
 
-  pub round-none : elements ≤ q.at → round s q ≡ rounded m rows s
+  pub round_none : elements ≤ q.at → round s q ≡ rounded m rows s
   unfolding rounded
-  round-none h = rw (← seen_as) (ap (λ (x : Network). round x q) (sym (cond-false _ _ (le-ltb _ _ h))))
+  round_none h = rw (← seen_as) (ap (λ (x : Network). round x q) (sym (cond_false _ _ (le-ltb _ _ h))))
 
 pub solves : {t : Network} {x : Round} (m n : ℕ) (rows b : List ℕ) (s : Network) {w : ℕ}
-    → t ≡ each elements (handRank rows b) s w → w ≡ leaders elements b → x ≡ rounded m rows t → settle m n rows x ≡ solved m n rows b s
+    → t ≡ each elements (hand_rank rows b) s w → w ≡ leaders elements b → x ≡ rounded m rows t → settle m n rows x ≡ solved m n rows b s
 unfolding solved started
-solves m n rows b s e l q = ap (settle m n rows) (q ∙ ap (rounded m rows) (e ∙ ap (each elements (handRank rows b) s) l))
+solves m n rows b s e l q = ap (settle m n rows) (q ∙ ap (rounded m rows) (e ∙ ap (each elements (hand_rank rows b) s) l))
 
 -- ---- the quote
 
-pub amount-none : (a : List ℕ) → 0 ≡ amount 0 a
+pub amount_none : (a : List ℕ) → 0 ≡ amount 0 a
 unfolding amount
-amount-none a = refl
+amount_none a = refl
 
-pub amount-more : (a : List ℕ) (i t v : ℕ) → t ≡ amount i a → v ≡ wrap (t + get_or a i 0) → v ≡ amount (i + 1) a
+pub amount_more : (a : List ℕ) (i t v : ℕ) → t ≡ amount i a → v ≡ wrap (t + get_or a i 0) → v ≡ amount (i + 1) a
 unfolding amount
-amount-more a i t v e q = q ∙ ap (λ (x : ℕ). wrap (x + get_or a i 0)) e ∙ ap (λ (x : ℕ). amount x a) (sym (add-one i))
+amount_more a i t v e q = q ∙ ap (λ (x : ℕ). wrap (x + get_or a i 0)) e ∙ ap (λ (x : ℕ). amount x a) (sym (add-one i))
 
 pub tells : (m : ℕ) (l : List ℕ) (q : Look) (w : ℕ) {n v : ℕ} → n ≡ amount m l → v ≡ minus q.left q.right
-    → ◌≡◌ {A = Quoted} (record { need = n; set = setOf (bit_and v w) }) (told m l q w)
+    → ◌≡◌ {A = Quoted} (record { need = n; set = set_of (bit_and v w) }) (told m l q w)
 tells m l q w a h = cc (a, h)
 
 module _ (m : ℕ) (rows demand : List ℕ) {b f₀ g₀ l₀ f g l r : List ℕ} {q : Look}
-    (eb : b ≡ ranked m rows) (ef : f₀ ≡ unused) (eg : g₀ ≡ blankRows) (el : l₀ ≡ copied m demand)
+    (eb : b ≡ ranked m rows) (ef : f₀ ≡ unused) (eg : g₀ ≡ blank_rows) (el : l₀ ≡ copied m demand)
     (e : round (network f g l r) q ≡ solved m (elements * 65535) rows b (network f₀ g₀ l₀ l₀)) where
   pub ends_as : round (network f g l r) q ≡ outcome m rows demand
   unfolding outcome
   ends_as = cc
 
-  pub quotes : {x : Quoted} {w : ℕ} → x ≡ told m l q w → w ≡ positive m demand → (x ≡ quoteIn m rows demand) × (f ≡ flowIn m rows demand)
-  unfolding quoteIn flowIn
+  pub quotes : {x : Quoted} {w : ℕ} → x ≡ told m l q w → w ≡ positive m demand → (x ≡ quote_in m rows demand) × (f ≡ flow_in m rows demand)
+  unfolding quote_in flow_in
   quotes a b = (a ∙ ap (told m l q) b ∙ ap (quoted m demand) ends_as, ap (λ (x : Round). x.now.flow) ends_as)

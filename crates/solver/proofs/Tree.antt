@@ -6,52 +6,52 @@ use lib.ListN.{get_or-replicate, length-replicate}
 use Rattle.words.specs.Bits.{digit, minus, rest}
 use Rattle.words.specs.model.Loops.{each, fold}
 use Rattle.words.specs.Listing.{members}
-use Rattle.words.proofs.Bits.{digit_and, digit_lt, digit-minus, digit-none, digit_or, zero-or-one}
+use Rattle.words.proofs.Bits.{digit_and, digit_lt, digit_minus, digit_none, digit_or, zero_or_one}
 use Rattle.words.proofs.Kept.{each_keeps}
-use Rattle.words.proofs.Members.{Has, has-member, low-lt, member-has}
+use Rattle.words.proofs.Members.{Has, has_member, low_lt, member_has}
 use Rattle.words.proofs.Tests.{same_or_not}
-use Rattle.order.proofs.Stored.{in-bound}
+use Rattle.order.proofs.Stored.{in_bound}
 use Rattle.order.specs.Stored.{elements, row as set_at}
 use Rattle.solver.specs.model.Search.{Reached, Seen, advance, begun, found, fresh, low, marks, onward, put, reached, seen, visit}
 use Rattle.solver.specs.model.Solve.{blanks}
-use Rattle.solver.proofs.Digits.{Sub, digit-added, low_digit, none-sub, or-sub}
-use Rattle.solver.proofs.Certificate.{Closing, Fit, advanceBy, onwardBy, sees, visit-each}
+use Rattle.solver.proofs.Digits.{Sub, digit_added, low_digit, none_sub, or_sub}
+use Rattle.solver.proofs.Certificate.{Closing, Fit, advance_by, onward_by, sees, visit_each}
 
 -- ---- the members of a word get a parent, and no others
 
-put-kept : (v : ℕ) (bs ps : List ℕ) (b : ℕ) → b < length ps → get_or ps b 0 ≡ v → get_or (fold (put v) ps bs) b 0 ≡ v
-put-kept v [] ps b l e = e
-put-kept v (x ∷ bs) ps b l e =
-    put-kept v bs (set ps x v) b (simp length-set l)
+put_kept : (v : ℕ) (bs ps : List ℕ) (b : ℕ) → b < length ps → get_or ps b 0 ≡ v → get_or (fold (put v) ps bs) b 0 ≡ v
+put_kept v [] ps b l e = e
+put_kept v (x ∷ bs) ps b l e =
+    put_kept v bs (set ps x v) b (simp length-set l)
     (⊎_elim (λ q. ap (λ (y : ℕ). get_or (set ps x v) y 0) q ∙ get_or-set_same ps x v 0 (rw (← q) l)) (λ n. get_or-set_other ps x b v 0 n ∙ e) (same_or_not b x))
 
 put_in : (v : ℕ) (bs ps : List ℕ) (b : ℕ) → b < length ps → Has b bs → get_or (fold (put v) ps bs) b 0 ≡ v
 put_in v [] ps b l h = absurd h
 put_in v (x ∷ bs) ps b l h =
     ⊎_elim
-    (λ q. put-kept v bs (set ps x v) b (simp length-set l) (ap (λ (y : ℕ). get_or (set ps x v) y 0) q ∙ get_or-set_same ps x v 0 (rw (← q) l)))
+    (λ q. put_kept v bs (set ps x v) b (simp length-set l) (ap (λ (y : ℕ). get_or (set ps x v) y 0) q ∙ get_or-set_same ps x v 0 (rw (← q) l)))
     (λ m. put_in v bs (set ps x v) b (simp length-set l) m)
     h
 
-put-out : (v : ℕ) (bs ps : List ℕ) (b : ℕ) → (Has b bs → ⊥) → get_or (fold (put v) ps bs) b 0 ≡ get_or ps b 0
-put-out v [] ps b n = refl
-put-out v (x ∷ bs) ps b n = put-out v bs (set ps x v) b (λ m. n (inr m)) ∙ get_or-set_other ps x b v 0 (λ q. n (inl q))
+put_out : (v : ℕ) (bs ps : List ℕ) (b : ℕ) → (Has b bs → ⊥) → get_or (fold (put v) ps bs) b 0 ≡ get_or ps b 0
+put_out v [] ps b n = refl
+put_out v (x ∷ bs) ps b n = put_out v bs (set ps x v) b (λ m. n (inr m)) ∙ get_or-set_other ps x b v 0 (λ q. n (inl q))
 
-put-length : (v : ℕ) (bs ps : List ℕ) → length (fold (put v) ps bs) ≡ length ps
-put-length v [] ps = refl
-put-length v (x ∷ bs) ps = put-length v bs (set ps x v) ∙ length-set ps x v
+put_length : (v : ℕ) (bs ps : List ℕ) → length (fold (put v) ps bs) ≡ length ps
+put_length v [] ps = refl
+put_length v (x ∷ bs) ps = put_length v bs (set ps x v) ∙ length-set ps x v
 
-pub marks-length : (ps : List ℕ) (w v : ℕ) → length (marks ps w v) ≡ length ps
+pub marks_length : (ps : List ℕ) (w v : ℕ) → length (marks ps w v) ≡ length ps
 unfolding each
-marks-length ps w v = put-length v (members elements w) ps
+marks_length ps w v = put_length v (members elements w) ps
 
-pub marks-in : (ps : List ℕ) (w v b : ℕ) → b < elements → b < length ps → digit w b ≡ 1 → get_or (marks ps w v) b 0 ≡ v
+pub marks_in : (ps : List ℕ) (w v b : ℕ) → b < elements → b < length ps → digit w b ≡ 1 → get_or (marks ps w v) b 0 ≡ v
 unfolding each
-marks-in ps w v b h l e = put_in v (members elements w) ps b l (member-has elements w b h e)
+marks_in ps w v b h l e = put_in v (members elements w) ps b l (member_has elements w b h e)
 
-pub marks-out : (ps : List ℕ) (w v b : ℕ) → digit w b ≡ 0 → get_or (marks ps w v) b 0 ≡ get_or ps b 0
+pub marks_out : (ps : List ℕ) (w v b : ℕ) → digit w b ≡ 0 → get_or (marks ps w v) b 0 ≡ get_or ps b 0
 unfolding each
-marks-out ps w v b e = put-out v (members elements w) ps b (λ m. absurd (omega (arith, (has-member elements w b m).0)))
+marks_out ps w v b e = put_out v (members elements w) ps b (λ m. absurd (omega (arith, (has_member elements w b m).0)))
 
 -- ---- the parents of the givers
 
@@ -63,28 +63,28 @@ pub record Grown (right : ℕ) (givers : List ℕ) (s : Seen) : Type 0 where
   pub long : length s.parents ≡ elements
   pub led : (i : ℕ) → i < elements → digit s.word i ≡ 1 → Led right givers i (get_or s.parents i 0)
 
-visit-grown : (right : ℕ) (givers : List ℕ) (s : Seen) (j : ℕ) → j < elements → digit right j ≡ 1 → Grown right givers s → Grown right givers (visit givers s j)
-visit-grown right givers s j hj r g =
+visit_grown : (right : ℕ) (givers : List ℕ) (s : Seen) (j : ℕ) → j < elements → digit right j ≡ 1 → Grown right givers s → Grown right givers (visit givers s j)
+visit_grown right givers s j hj r g =
     let back = minus (set_at givers j) s.word in
     record {
-      long = marks-length s.parents back j ∙ g.long;
+      long = marks_length s.parents back j ∙ g.long;
       led = λ i h e.
           ⊎_elim
-          (λ o. rw (marks-out s.parents back j i o) (g.led i h (omega (arith, digit_or s.word back i))))
+          (λ o. rw (marks_out s.parents back j i o) (g.led i h (omega (arith, digit_or s.word back i))))
           (λ o.
-          rw (marks-in s.parents back j i h (omega (arith, g.long)) o)
-          (inr (hj, r, omega (arith, digit-minus (set_at givers j) s.word i, digit_lt (set_at givers j) i))))
-          (zero-or-one back i);
+          rw (marks_in s.parents back j i h (omega (arith, g.long)) o)
+          (inr (hj, r, omega (arith, digit_minus (set_at givers j) s.word i, digit_lt (set_at givers j) i))))
+          (zero_or_one back i);
     }
 
-led-more : (right new : ℕ) (givers : List ℕ) (i k : ℕ) → Led right givers i k → Led (bit_or right new) givers i k
-led-more right new givers i k h = ⊎_elim (λ e. inl e) (λ t. inr (t.0, or-sub right new k t.0 t.1, t.2)) h
+led_more : (right new : ℕ) (givers : List ℕ) (i k : ℕ) → Led right givers i k → Led (bit_or right new) givers i k
+led_more right new givers i k h = ⊎_elim (λ e. inl e) (λ t. inr (t.0, or_sub right new k t.0 t.1, t.2)) h
 
 -- ---- all parents
 
 pub record Tree (rows givers : List ℕ) (q : Reached) : Type 0 where
-  pub lefts-long : length q.lefts ≡ elements
-  pub rights-long : length q.rights ≡ elements
+  pub lefts_long : length q.lefts ≡ elements
+  pub rights_long : length q.rights ≡ elements
   pub pending : Sub q.search.frontier q.search.left
   pub waiting : Sub q.search.next q.search.left
   pub came : (j : ℕ) → j < elements → digit q.search.right j ≡ 1
@@ -109,8 +109,8 @@ module _ (rows givers : List ℕ) (roots slack : ℕ) (fit : Fit givers) (q : Re
   abbrev w : Seen
   w = sees rows givers q
 
-  first-lt : i₀ < elements
-  first-lt = low-lt elements q.search.frontier p (in-bound c.small-frontier)
+  first_lt : i₀ < elements
+  first_lt = low_lt elements q.search.frontier p (in_bound c.small_frontier)
 
   came' : (left' : ℕ) → Sub q.search.left left' → (j : ℕ) → j < elements → digit right' j ≡ 1
       → (get_or rights' j 0 < elements) × (digit left' (get_or rights' j 0) ≡ 1) × (digit (set_at rows (get_or rights' j 0)) j ≡ 1)
@@ -118,96 +118,96 @@ module _ (rows givers : List ℕ) (roots slack : ℕ) (fit : Fit givers) (q : Re
       ⊎_elim
       (λ o.
       let k = t.came j h (omega (arith, digit_or q.search.right new j)) in
-      rw (marks-out q.rights new i₀ j o) (k.0, m (get_or q.rights j 0) k.0 k.1, k.2))
+      rw (marks_out q.rights new i₀ j o) (k.0, m (get_or q.rights j 0) k.0 k.1, k.2))
       (λ o.
-      rw (marks-in q.rights new i₀ j h (omega (arith, t.rights-long)) o) (
-        first-lt,
-        m i₀ first-lt (t.pending i₀ first-lt (low_digit q.search.frontier first-lt)),
-        omega (arith, digit-minus (set_at rows i₀) q.search.right j, digit_lt (set_at rows i₀) j),
+      rw (marks_in q.rights new i₀ j h (omega (arith, t.rights_long)) o) (
+        first_lt,
+        m i₀ first_lt (t.pending i₀ first_lt (low_digit q.search.frontier first_lt)),
+        omega (arith, digit_minus (set_at rows i₀) q.search.right j, digit_lt (set_at rows i₀) j),
       ))
-      (zero-or-one new j)
+      (zero_or_one new j)
 
-  rights-long' : length rights' ≡ elements
-  rights-long' = marks-length q.rights new i₀ ∙ t.rights-long
+  rights_long' : length rights' ≡ elements
+  rights_long' = marks_length q.rights new i₀ ∙ t.rights_long
 
-  found-bit : low (bit_and new slack) < elements → digit right' (low (bit_and new slack)) ≡ 1
-  found-bit h =
+  found_bit : low (bit_and new slack) < elements → digit right' (low (bit_and new slack)) ≡ 1
+  found_bit h =
       let k = low (bit_and new slack) in
       omega (arith, low_digit (bit_and new slack) h, digit_and new slack k, digit_or q.search.right new k, digit_lt q.search.right k, digit_lt new k)
 
-  tree-found : Tree rows givers (reached (found q.search new (bit_and new slack)) q.lefts rights')
-  tree-found =
+  tree_found : Tree rows givers (reached (found q.search new (bit_and new slack)) q.lefts rights')
+  tree_found =
       record {
-        lefts-long = t.lefts-long;
-        rights-long = rights-long';
-        pending = none-sub q.search.left;
-        waiting = none-sub q.search.left;
+        lefts_long = t.lefts_long;
+        rights_long = rights_long';
+        pending = none_sub q.search.left;
+        waiting = none_sub q.search.left;
         came = came' q.search.left (λ i h e. e);
-        led = λ i h e. led-more q.search.right new givers i (get_or q.lefts i 0) (t.led i h e);
-        goal = found-bit;
+        led = λ i h e. led_more q.search.right new givers i (get_or q.lefts i 0) (t.led i h e);
+        goal = found_bit;
       }
 
   grown : Grown right' givers w
   grown =
       each_keeps (Grown right' givers) elements (visit givers) new
-      (λ s b h e g. visit-grown right' givers s b h (omega (arith, digit_or q.search.right new b, digit_lt q.search.right b)) g)
-      (seen q.search.left q.lefts) (record { long = t.lefts-long; led = λ i h e. led-more q.search.right new givers i (get_or q.lefts i 0) (t.led i h e) })
+      (λ s b h e g. visit_grown right' givers s b h (omega (arith, digit_or q.search.right new b, digit_lt q.search.right b)) g)
+      (seen q.search.left q.lefts) (record { long = t.lefts_long; led = λ i h e. led_more q.search.right new givers i (get_or q.lefts i 0) (t.led i h e) })
 
   more : Sub q.search.left w.word
-  more = (visit-each givers fit (seen q.search.left q.lefts) new c.small-left).more
+  more = (visit_each givers fit (seen q.search.left q.lefts) new c.small_left).more
 
-  next-sub : Sub (bit_or q.search.next (minus w.word q.search.left)) w.word
-  next-sub i h e =
+  next_sub : Sub (bit_or q.search.next (minus w.word q.search.left)) w.word
+  next_sub i h e =
       ⊎_elim
-      (λ o. omega (arith, digit_or q.search.next (minus w.word q.search.left) i, digit-added w.word q.search.left i (more i h), digit_lt w.word i))
+      (λ o. omega (arith, digit_or q.search.next (minus w.word q.search.left) i, digit_added w.word q.search.left i (more i h), digit_lt w.word i))
       (λ o. more i h (t.waiting i h o))
-      (zero-or-one q.search.next i)
+      (zero_or_one q.search.next i)
 
-  rest-sub : Sub (rest q.search.frontier) w.word
-  rest-sub i h e = more i h (t.pending i h (omega (arith, digit_and q.search.frontier (q.search.frontier - 1) i, digit_lt q.search.frontier i)))
+  rest_sub : Sub (rest q.search.frontier) w.word
+  rest_sub i h e = more i h (t.pending i h (omega (arith, digit_and q.search.frontier (q.search.frontier - 1) i, digit_lt q.search.frontier i)))
 
-  tree-onward : Tree rows givers (reached (onward q.search new w.word) w.parents rights')
-  tree-onward = go (eqb (rest q.search.frontier) 0)
+  tree_onward : Tree rows givers (reached (onward q.search new w.word) w.parents rights')
+  tree_onward = go (eqb (rest q.search.frontier) 0)
     where
-      go : (b : Bool) → Tree rows givers (reached (onwardBy b q.search new w.word) w.parents rights')
+      go : (b : Bool) → Tree rows givers (reached (onward_by b q.search new w.word) w.parents rights')
       go true =
           record {
-            lefts-long = grown.long;
-            rights-long = rights-long';
-            pending = next-sub;
-            waiting = none-sub w.word;
+            lefts_long = grown.long;
+            rights_long = rights_long';
+            pending = next_sub;
+            waiting = none_sub w.word;
             came = came' w.word more;
             led = grown.led;
             goal = λ h. absurd (omega arith);
           }
       go false =
           record {
-            lefts-long = grown.long;
-            rights-long = rights-long';
-            pending = rest-sub;
-            waiting = next-sub;
+            lefts_long = grown.long;
+            rights_long = rights_long';
+            pending = rest_sub;
+            waiting = next_sub;
             came = came' w.word more;
             led = grown.led;
             goal = λ h. absurd (omega arith);
           }
 
-  tree-either : (b : Bool) → Tree rows givers (advanceBy b rows givers slack q)
-  tree-either true = tree-onward
-  tree-either false = tree-found
+  tree_either : (b : Bool) → Tree rows givers (advance_by b rows givers slack q)
+  tree_either true = tree_onward
+  tree_either false = tree_found
 
-  pub tree-turn : Tree rows givers (advance rows givers slack q)
+  pub tree_turn : Tree rows givers (advance rows givers slack q)
   unfolding advance
-  tree-turn = tree-either (eqb (bit_and new slack) 0)
+  tree_turn = tree_either (eqb (bit_and new slack) 0)
 
-pub begun-tree : (rows givers : List ℕ) (able roots : ℕ) → Tree rows givers (reached (begun able roots) (blanks elements) (blanks 0))
+pub begun_tree : (rows givers : List ℕ) (able roots : ℕ) → Tree rows givers (reached (begun able roots) (blanks elements) (blanks 0))
 unfolding blanks
-begun-tree rows givers able roots =
+begun_tree rows givers able roots =
     record {
-      lefts-long = length-replicate {A = ℕ} elements elements;
-      rights-long = length-replicate {A = ℕ} elements 0;
+      lefts_long = length-replicate {A = ℕ} elements elements;
+      rights_long = length-replicate {A = ℕ} elements 0;
       pending = λ i h e. omega (arith, digit_and roots able i, digit_lt roots i);
-      waiting = none-sub roots;
-      came = λ j h e. absurd (omega (arith, digit-none j));
+      waiting = none_sub roots;
+      came = λ j h e. absurd (omega (arith, digit_none j));
       led = λ i h e. inl (get_or-replicate elements i elements 0 h);
       goal = λ h. absurd (omega arith);
     }

@@ -5,7 +5,7 @@ ghost use Rattle.std.specs.Prelude.{◌≡◌, ◌≤◌};
 ghost use Rattle.order.specs.Stored.{elements, number_of};
 ghost use Rattle.solver.specs.model.Search.{looked};
 ghost use Rattle.solver.specs.model.Solve.{ranked, LeadsOf};
-ghost use Rattle.solver.specs.model.Quote.{unused, copied, amount, told, Clean, quoteIn, flowIn, quoteOf, flow_of};
+ghost use Rattle.solver.specs.model.Quote.{unused, copied, amount, told, Clean, quote_in, flow_in, quote_of, flow_of};
 
 use order::{ELEMENTS, Order, Rows, Set};
 
@@ -123,7 +123,7 @@ fn quote_ranked(
     flow: &mut [u32; ELEMENTS * ELEMENTS],
 ) -> Quoted
     requires { (m ≤ elements) × (ranks.now ≡ ranked m rows.now) × LeadsOf m rows.now ranks.now leads × (flow.old ≡ unused) }
-    ensures { (result ≡ quoteIn m rows.now demand.now) × (flow.new ≡ flowIn m rows.now demand.now) }
+    ensures { (result ≡ quote_in m rows.now demand.now) × (flow.new ≡ flow_in m rows.now demand.now) }
 {
     let mut givers = rounds::blank_rows();
     let mut left = copy(demand, m);
@@ -151,7 +151,7 @@ pub fn weigh_ranked(
     flow: &mut [u32; ELEMENTS * ELEMENTS],
 ) -> Quoted
     requires { (m ≤ elements) × (ranks.now ≡ ranked m rows.now) × LeadsOf m rows.now ranks.now leads × (flow.old ≡ unused) }
-    ensures { (result ≡ quoteIn m rows.now demand.now) × (flow.new ≡ unused) }
+    ensures { (result ≡ quote_in m rows.now demand.now) × (flow.new ≡ unused) }
 {
     let mut givers = rounds::blank_rows();
     let mut left = copy(demand, m);
@@ -179,7 +179,7 @@ pub fn quote(
     flow: &mut [u32; ELEMENTS * ELEMENTS],
 ) -> Quoted
     requires { (m ≤ elements) × (flow.old ≡ unused) }
-    ensures { (result ≡ quoteOf m order demand.now) × (flow.new ≡ flow_of m order demand.now) }
+    ensures { (result ≡ quote_of m order demand.now) × (flow.new ≡ flow_of m order demand.now) }
 {
     let rows = order.after_rows();
     let b = rounds::ranks(&rows, m);

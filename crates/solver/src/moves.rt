@@ -2,8 +2,8 @@
 // givers and takers have left.
 ghost use Rattle.std.specs.Prelude.{◌≡◌, ℕ, ◌<◌, List, set};
 ghost use Rattle.words.specs.model.Loops.{each};
-ghost use Rattle.order.specs.Stored.{elements, number_of, row, putRow};
-ghost use Rattle.solver.specs.model.Network.{giver, cell, network, joined, shifted, walk, augmented, handing, dropping, takenBack};
+ghost use Rattle.order.specs.Stored.{elements, number_of, row, put_row};
+ghost use Rattle.solver.specs.model.Network.{giver, cell, network, joined, shifted, walk, augmented, handing, dropping, taken_back};
 
 use order::{ELEMENTS, Rows, Set};
 
@@ -18,7 +18,7 @@ fn given(set: Set, i: usize, n: u32) -> Set
 // flow(i, j) becomes n.
 pub fn store(flow: &mut [u32; ELEMENTS * ELEMENTS], givers: &mut Rows, i: usize, j: usize, n: u32)
     requires { (i < elements) × (j < elements) }
-    ensures { (flow.new ≡ set flow.old (cell i j) n) × (givers.new ≡ putRow givers.old j (giver (row givers.old j) i n)) }
+    ensures { (flow.new ≡ set flow.old (cell i j) n) × (givers.new ≡ put_row givers.old j (giver (row givers.old j) i n)) }
 {
     let at = i * ELEMENTS + j;
     flow[at] = n;
@@ -157,7 +157,7 @@ fn take_from(flow: &mut [u32; ELEMENTS * ELEMENTS], set: Set, j: usize)
 
 // What the takers of `set` were handed over is taken back.
 pub fn take_back(flow: &mut [u32; ELEMENTS * ELEMENTS], givers: &Rows, set: Set)
-    ensures { flow.new ≡ takenBack givers.now flow.old (number_of set) }
+    ensures { flow.new ≡ taken_back givers.now flow.old (number_of set) }
 {
     let mut w = set;
     while !w.is_empty() {

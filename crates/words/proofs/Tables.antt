@@ -13,22 +13,22 @@ use borrow.Author.Count.{below_more}
 use borrow.Author.Tests.{ltb-true, ltb-false}
 use Rattle.words.specs.Tables.{table, over}
 use Rattle.words.specs.model.Loops.{upto, update}
-use Rattle.words.proofs.Tests.{below_suc, by-test, cond-true, cond-false}
+use Rattle.words.proofs.Tests.{below_suc, by_test, cond_true, cond_false}
 
-pub length-table : {A : Type 0} (n : ℕ) (f : ℕ → A) → length (table n f) ≡ n
+pub length_table : {A : Type 0} (n : ℕ) (f : ℕ → A) → length (table n f) ≡ n
 unfolding table
-length-table zero f = refl
-length-table (suc n) f = ap suc (length-table n (λ i. f (suc i)))
+length_table zero f = refl
+length_table (suc n) f = ap suc (length_table n (λ i. f (suc i)))
 
-pub getD-table : {A : Type 0} (n : ℕ) (f : ℕ → A) (i : ℕ) (d : A) → i < n → get_or (table n f) i d ≡ f i
+pub get_d_table : {A : Type 0} (n : ℕ) (f : ℕ → A) (i : ℕ) (d : A) → i < n → get_or (table n f) i d ≡ f i
 unfolding table
-getD-table zero f i d h = absurd (omega arith)
-getD-table (suc n) f zero d h = refl
-getD-table (suc n) f (suc i) d h = getD-table n (λ i. f (suc i)) i d (omega arith)
+get_d_table zero f i d h = absurd (omega arith)
+get_d_table (suc n) f zero d h = refl
+get_d_table (suc n) f (suc i) d h = get_d_table n (λ i. f (suc i)) i d (omega arith)
 
 -- a list is a table if it is as long and agrees at each place
-pub is-table : {A : Type 0} (n : ℕ) (f : ℕ → A) (l : List A) (d : A) → length l ≡ n → ((i : ℕ) → i < n → get_or l i d ≡ f i) → l ≡ table n f
-is-table n f l d e at = ext_get_or d l (table n f) (e ∙ sym (length-table n f)) (λ i h. at i (omega arith) ∙ sym (getD-table n f i d (omega arith)))
+pub is_table : {A : Type 0} (n : ℕ) (f : ℕ → A) (l : List A) (d : A) → length l ≡ n → ((i : ℕ) → i < n → get_or l i d ≡ f i) → l ≡ table n f
+is_table n f l d e at = ext_get_or d l (table n f) (e ∙ sym (length_table n f)) (λ i h. at i (omega arith) ∙ sym (get_d_table n f i d (omega arith)))
 
 -- one store of a loop that fills a list from the front
 pub stored_next :
@@ -39,18 +39,18 @@ stored_next {A} d f xs i v l h e =
 
 -- ---- a list written over the start of another
 
-pub over-turn : (i : ℕ) (r d : List ℕ) → i < length r → i < length d → set (over i r d) i (get_or r i 0) ≡ over (i + 1) r d
-over-turn i r d hr hd =
+pub over_turn : (i : ℕ) (r d : List ℕ) → i < length r → i < length d → set (over i r d) i (get_or r i 0) ≡ over (i + 1) r d
+over_turn i r d hr hd =
     let e : 0 + i < length d = omega arith in
     rw add-one (rw (zero-add i, zero-add (suc i)) at (paste-suc d 0 r i 0 e hr))
 
 -- what is written over one front, and then from there over another
-pub over-again : (n : ℕ) (r z d : List ℕ) → n ≤ length r → over n (over n r z) d ≡ over n r d
-over-again n r z d h = ap (λ (l : List ℕ). l ++ drop n d) (take_at (take n r) (drop n z) n (length-take-le n r h))
+pub over_again : (n : ℕ) (r z d : List ℕ) → n ≤ length r → over n (over n r z) d ≡ over n r d
+over_again n r z d h = ap (λ (l : List ℕ). l ++ drop n d) (take_at (take n r) (drop n z) n (length-take-le n r h))
 
 -- the whole of r is written
-pub over-all : (n : ℕ) (r d : List ℕ) → length r ≡ n → over n r d ≡ r ++ drop (length r) d
-over-all n r d e = rw (← e, take-length)
+pub over_all : (n : ℕ) (r d : List ℕ) → length r ≡ n → over n r d ≡ r ++ drop (length r) d
+over_all n r d e = rw (← e, take-length)
 
 -- ---- a list whose elements a loop replaces, one after the other
 
@@ -81,17 +81,17 @@ updating f old (suc i) h = go (upto (update f) i old) (updating f old i (omega a
 pub updated : (f : ℕ → ℕ → ℕ) (n : ℕ) (old : List ℕ) → length old ≡ n → upto (update f) n old ≡ table n (λ i. f i (get_or old i 0))
 updated f n old e =
     let u = updating f old n (omega arith) in
-    is-table n (λ i. f i (get_or old i 0)) (upto (update f) n old) 0 (u.long ∙ e) u.done
+    is_table n (λ i. f i (get_or old i 0)) (upto (update f) n old) 0 (u.long ∙ e) u.done
 
 -- tables of the same elements
 pub table_same : (n : ℕ) (f g : ℕ → ℕ) → ((i : ℕ) → i < n → f i ≡ g i) → table n f ≡ table n g
-table_same n f g same = is-table n g (table n f) 0 (length-table n f) (λ i h. getD-table n f i 0 h ∙ same i h)
+table_same n f g same = is_table n g (table n f) 0 (length_table n f) (λ i h. get_d_table n f i 0 h ∙ same i h)
 
 -- zeros, also past the end
-pub getD-zeros : (n i : ℕ) → get_or {A = ℕ} (replicate n 0) i 0 ≡ 0
-getD-zeros zero i = refl
-getD-zeros (suc n) zero = refl
-getD-zeros (suc n) (suc i) = getD-zeros n i
+pub get_d_zeros : (n i : ℕ) → get_or {A = ℕ} (replicate n 0) i 0 ≡ 0
+get_d_zeros zero i = refl
+get_d_zeros (suc n) zero = refl
+get_d_zeros (suc n) (suc i) = get_d_zeros n i
 
 -- ---- a list of n zeros, into which a loop stores f 0, f 1, .., f (i - 1) at the start
 
@@ -102,7 +102,7 @@ record Storing (f : ℕ → ℕ) (n i : ℕ) (now : List ℕ) : Type 0 where
 
 storing : (f : ℕ → ℕ) (n i : ℕ) → i ≤ n → Storing f n i (upto (λ k l. set l k (f k)) i (replicate n 0))
 unfolding upto
-storing f n zero h = record { long = length-replicate {A = ℕ} n 0; done = λ k l. absurd (omega arith); left = λ k l. getD-zeros n k }
+storing f n zero h = record { long = length-replicate {A = ℕ} n 0; done = λ k l. absurd (omega arith); left = λ k l. get_d_zeros n k }
 storing f n (suc i) h = go (upto (λ k l. set l k (f k)) i (replicate n 0)) (storing f n i (omega arith))
   where
     go : (now : List ℕ) → Storing f n i now → Storing f n (suc i) (set now i (f i))
@@ -120,5 +120,5 @@ storing f n (suc i) h = go (upto (λ k l. set l k (f k)) i (replicate n 0)) (sto
 pub stored : (f : ℕ → ℕ) (n i : ℕ) → i ≤ n → upto (λ k l. set l k (f k)) i (replicate n 0) ≡ table n (λ k. cond (ltb k i) (f k) 0)
 stored f n i h =
     let u = storing f n i h in
-    is-table n (λ k. cond (ltb k i) (f k) 0) (upto (λ k l. set l k (f k)) i (replicate n 0)) 0 u.long
-    (λ k l. by-test (ltb k i) (λ t. u.done k (ltb-true k i t) ∙ sym (cond-true (f k) 0 t)) (λ t. u.left k (ltb-false k i t) ∙ sym (cond-false (f k) 0 t)))
+    is_table n (λ k. cond (ltb k i) (f k) 0) (upto (λ k l. set l k (f k)) i (replicate n 0)) 0 u.long
+    (λ k l. by_test (ltb k i) (λ t. u.done k (ltb-true k i t) ∙ sym (cond_true (f k) 0 t)) (λ t. u.left k (ltb-false k i t) ∙ sym (cond_false (f k) 0 t)))

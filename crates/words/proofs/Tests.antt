@@ -23,43 +23,43 @@ fails true h = absurd (h refl)
 fails false h = refl
 
 -- by whether a test holds
-pub by-test {ℓ} : {P : Type ℓ} (t : Bool) → (t ≡ true → P) → (t ≡ false → P) → P
-by-test true y n = y refl
-by-test false y n = n refl
+pub by_test {ℓ} : {P : Type ℓ} (t : Bool) → (t ≡ true → P) → (t ≡ false → P) → P
+by_test true y n = y refl
+by_test false y n = n refl
 
 -- two tests that are true together are equal
-pub test-same : (a b : Bool) → (a ≡ true ↔ b ≡ true) → a ≡ b
-test-same true b f = sym (f.0 refl)
-test-same false true f = f.1 refl
-test-same false false f = refl
+pub test_same : (a b : Bool) → (a ≡ true ↔ b ≡ true) → a ≡ b
+test_same true b f = sym (f.0 refl)
+test_same false true f = f.1 refl
+test_same false false f = refl
 
 -- ---- both of two tests, one of two tests, the opposite of a test
 
-pub and-says : (a b : Bool) → (a && b ≡ true) ↔ ((a ≡ true) × (b ≡ true))
-and-says true b = ((λ e. (refl, e)), (λ e. e.1))
-and-says false b = ((λ e. absurd (false≢true e)), (λ e. e.0))
+pub and_says : (a b : Bool) → (a && b ≡ true) ↔ ((a ≡ true) × (b ≡ true))
+and_says true b = ((λ e. (refl, e)), (λ e. e.1))
+and_says false b = ((λ e. absurd (false≢true e)), (λ e. e.0))
 
-pub or-says : (a b : Bool) → (a || b ≡ true) ↔ ((a ≡ true) ⊎ (b ≡ true))
-or-says true b = ((λ e. inl refl), (λ e. refl))
-or-says false b = ((λ e. inr e), ⊎_elim (λ e. absurd (false≢true e)) (λ e. e))
+pub or_says : (a b : Bool) → (a || b ≡ true) ↔ ((a ≡ true) ⊎ (b ≡ true))
+or_says true b = ((λ e. inl refl), (λ e. refl))
+or_says false b = ((λ e. inr e), ⊎_elim (λ e. absurd (false≢true e)) (λ e. e))
 
 pub and_left : (a b : Bool) → (a && b) ≡ true → a ≡ true
-and_left a b h = ((and-says a b).0 h).0
+and_left a b h = ((and_says a b).0 h).0
 
 pub and_right : (a b : Bool) → (a && b) ≡ true → b ≡ true
-and_right a b h = ((and-says a b).0 h).1
+and_right a b h = ((and_says a b).0 h).1
 
 pub and_both : (a b : Bool) → a ≡ true → b ≡ true → (a && b) ≡ true
-and_both a b p q = (and-says a b).1 (p, q)
+and_both a b p q = (and_says a b).1 (p, q)
 
 pub or_left : (a b : Bool) → a ≡ true → (a || b) ≡ true
-or_left a b p = (or-says a b).1 (inl p)
+or_left a b p = (or_says a b).1 (inl p)
 
 pub or_right : (a b : Bool) → b ≡ true → (a || b) ≡ true
-or_right a b p = (or-says a b).1 (inr p)
+or_right a b p = (or_says a b).1 (inr p)
 
 pub or_cases {ℓ} : {P : Type ℓ} (a b : Bool) → (a || b) ≡ true → (a ≡ true → P) → (b ≡ true → P) → P
-or_cases a b h f g = ⊎_elim f g ((or-says a b).0 h)
+or_cases a b h f g = ⊎_elim f g ((or_says a b).0 h)
 
 pub not_of_false : (t : Bool) → t ≡ false → not t ≡ true
 not_of_false t p = rw p
@@ -73,11 +73,11 @@ pub ⊎-iff : {A B C D : Type 0} → A ↔ C → B ↔ D → (A ⊎ B) ↔ (C �
 
 -- ---- a choice by a test
 
-pub cond-true : {A : Type 0} {t : Bool} (a b : A) → t ≡ true → cond t a b ≡ a
-cond-true a b e = ap (λ (x : Bool). cond x a b) e
+pub cond_true : {A : Type 0} {t : Bool} (a b : A) → t ≡ true → cond t a b ≡ a
+cond_true a b e = ap (λ (x : Bool). cond x a b) e
 
-pub cond-false : {A : Type 0} {t : Bool} (a b : A) → t ≡ false → cond t a b ≡ b
-cond-false a b e = ap (λ (x : Bool). cond x a b) e
+pub cond_false : {A : Type 0} {t : Bool} (a b : A) → t ≡ false → cond t a b ≡ b
+cond_false a b e = ap (λ (x : Bool). cond x a b) e
 
 -- what holds of the value chosen
 pub cond_has : {A : Type 0} (P : A → Type 0) (t : Bool) (a b : A) → (t ≡ true → P a) → (t ≡ false → P b) → P (cond t a b)
@@ -85,24 +85,24 @@ cond_has P true a b x y = x refl
 cond_has P false a b x y = y refl
 
 -- a number where a test holds, and else 0
-pub cond-cong : (t : Bool) (x y : ℕ) → (t ≡ true → x ≡ y) → cond t x 0 ≡ cond t y 0
-cond-cong true x y h = h refl
-cond-cong false x y h = refl
+pub cond_cong : (t : Bool) (x y : ℕ) → (t ≡ true → x ≡ y) → cond t x 0 ≡ cond t y 0
+cond_cong true x y h = h refl
+cond_cong false x y h = refl
 
-pub cond-least : (t : Bool) (x k : ℕ) → (t ≡ true → x ≤ k) → cond t x 0 ≤ k
-cond-least t x k h = cond_has (λ v. v ≤ k) t x 0 h (λ e. omega arith)
+pub cond_least : (t : Bool) (x k : ℕ) → (t ≡ true → x ≤ k) → cond t x 0 ≤ k
+cond_least t x k h = cond_has (λ v. v ≤ k) t x 0 h (λ e. omega arith)
 
-pub cond-at : (t : Bool) (x : ℕ) → t ≡ true → x ≤ cond t x 0
-cond-at t x e = rw e (omega arith)
+pub cond_at : (t : Bool) (x : ℕ) → t ≡ true → x ≤ cond t x 0
+cond_at t x e = rw e (omega arith)
 
-pub cond-reached : (t : Bool) (x : ℕ) → (cond t x 0 ≡ 0) ⊎ ((t ≡ true) × (cond t x 0 ≡ x))
-cond-reached true x = inr (refl, refl)
-cond-reached false x = inl refl
+pub cond_reached : (t : Bool) (x : ℕ) → (cond t x 0 ≡ 0) ⊎ ((t ≡ true) × (cond t x 0 ≡ x))
+cond_reached true x = inr (refl, refl)
+cond_reached false x = inl refl
 
 -- ---- numbers
 
-pub eqb-says : (i j : ℕ) → (eqb i j ≡ true) ↔ (i ≡ j)
-eqb-says i j = (eqb-true i j, eq-eqb i j)
+pub eqb_says : (i j : ℕ) → (eqb i j ≡ true) ↔ (i ≡ j)
+eqb_says i j = (eqb-true i j, eq-eqb i j)
 
 -- two numbers are the same, or not
 pub same_or_not : (k n : ℕ) → (k ≡ n) ⊎ (k ≡ n → ⊥)
@@ -113,5 +113,5 @@ pub below_suc : (P : ℕ → Type 0) (n : ℕ) → ((k : ℕ) → k < n → P k)
 below_suc P n all here k l = ⊎_elim (λ e. subst P (sym e) here) (λ lt. all k lt) (eq-or-lt_of_le (le_of_suc-le-suc l))
 
 -- what holds at j, and at every other number, holds at each
-pub at-or-other : (P : ℕ → Type 0) (j i : ℕ) → P j → (i ≢ j → P i) → P i
-at-or-other P j i here other = ⊎_elim (λ e. subst P (sym e) here) other (same_or_not i j)
+pub at_or_other : (P : ℕ → Type 0) (j i : ℕ) → P j → (i ≢ j → P i) → P i
+at_or_other P j i here other = ⊎_elim (λ e. subst P (sym e) here) other (same_or_not i j)

@@ -3,8 +3,8 @@ use Rattle.std.specs.Prelude.{Bool, ℕ, ◌-◌, ◌/◌, ◌%◌, ◌^◌, eqb
 use Rattle.std.specs.Int.Bits.{bit_and, bit_or}
 
 -- how many bits a word of the machine has (`words::Word`)
-abbrev pub wordBits : ℕ
-wordBits = 64
+abbrev pub word_bits : ℕ
+word_bits = 64
 
 -- the binary digit of w at the place i: 0 or 1
 unfoldable pub digit : ℕ → ℕ → ℕ
@@ -15,8 +15,8 @@ unfoldable pub bit : ℕ → ℕ → Bool
 bit w i = eqb (digit w i) 1
 
 -- w with the member i
-abbrev pub withBit : ℕ → ℕ → ℕ
-withBit w i = bit_or w (2 ^ i)
+abbrev pub with_bit : ℕ → ℕ → ℕ
+with_bit w i = bit_or w (2 ^ i)
 
 -- a without the members of b
 abbrev pub minus : ℕ → ℕ → ℕ

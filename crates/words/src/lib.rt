@@ -1,14 +1,14 @@
 // The smallest functions on words and numbers: each is one operation of the machine, with its meaning.
 ghost use Rattle.std.specs.Prelude.{◌≡◌, max, min, ◌^◌, ◌<◌};
-ghost use Rattle.words.specs.Bits.{wordBits, bit, withBit, minus, rest};
+ghost use Rattle.words.specs.Bits.{word_bits, bit, with_bit, minus, rest};
 ghost use Rattle.words.specs.Members.{count, first};
 
-// A word of the machine; it has `wordBits` bits.
+// A word of the machine; it has `word_bits` bits.
 pub type Word = u64;
 
 // Whether i is a member of the word: whether its bit is 1.
 pub fn has(w: Word, i: usize) -> bool
-    requires { i < wordBits }
+    requires { i < word_bits }
     ensures { result ≡ bit w i }
 {
     (w >> i) % 2 == 1
@@ -16,15 +16,15 @@ pub fn has(w: Word, i: usize) -> bool
 
 // The word with the member i.
 pub fn with_bit(w: Word, i: usize) -> Word
-    requires { i < wordBits }
-    ensures { result ≡ withBit w i }
+    requires { i < word_bits }
+    ensures { result ≡ with_bit w i }
 {
     w | (1 << i)
 }
 
 // The word without the member i.
 pub fn without_bit(w: Word, i: usize) -> Word
-    requires { i < wordBits }
+    requires { i < word_bits }
     ensures { result ≡ minus w (2 ^ i) }
 {
     without(w, 1 << i)
@@ -46,14 +46,14 @@ fn index(x: u32) -> usize
 
 // How many members the word has.
 pub fn size(w: Word) -> usize
-    ensures { result ≡ count wordBits (bit w) }
+    ensures { result ≡ count word_bits (bit w) }
 {
     index(u64::count_ones(w))
 }
 
 // The lowest member of the word, and the number of bits where there is none.
 pub fn lowest(w: Word) -> usize
-    ensures { result ≡ first wordBits (bit w) }
+    ensures { result ≡ first word_bits (bit w) }
 {
     index(u64::trailing_zeros(w))
 }

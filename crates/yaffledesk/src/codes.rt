@@ -1,7 +1,7 @@
 // Answers as numbers.
 ghost use Rattle.std.specs.Prelude.{◌≡◌, ◌<◌, ◌%◌, ◌^◌};
-ghost use Rattle.yaffledesk.specs.Codes.{packed, refusalCode, causeCode, verdictCode, outputCode, foundCode};
-ghost use Rattle.yaffledesk.specs.Codes.{crewCheckCode, causeWord, shownWord};
+ghost use Rattle.yaffledesk.specs.Codes.{packed, refusal_code, cause_code, verdict_code, output_code, found_code};
+ghost use Rattle.yaffledesk.specs.Codes.{crew_check_code, cause_word, shown_word};
 
 use planner::{Cause, CrewChecked, Decision, Output, Refusal};
 use schedule::Checked;
@@ -16,8 +16,8 @@ fn pack(number: u64, rest: u64) -> u64
 
 // A refusal's number, with its two values and its set's size above it.
 fn refusal_code(r: Refusal) -> u64
-    requires { refusalCode r < 2 ^ 64 }
-    ensures { result ≡ refusalCode r }
+    requires { refusal_code r < 2 ^ 64 }
+    ensures { result ≡ refusal_code r }
 {
     let set = r.set;
     let size = set.size() as u64;
@@ -25,15 +25,15 @@ fn refusal_code(r: Refusal) -> u64
 }
 
 fn cause_code(c: Cause) -> u64
-    requires { causeCode c < 2 ^ 64 }
-    ensures { result ≡ causeCode c }
+    requires { cause_code c < 2 ^ 64 }
+    ensures { result ≡ cause_code c }
 {
     refusal_code(planner::refusal_of(c))
 }
 
 pub fn verdict_code(v: Decision) -> u64
-    requires { verdictCode v < 2 ^ 64 }
-    ensures { result ≡ verdictCode v }
+    requires { verdict_code v < 2 ^ 64 }
+    ensures { result ≡ verdict_code v }
 {
     match v {
         Decision::Accepted { activities, kinds } => pack(
@@ -45,8 +45,8 @@ pub fn verdict_code(v: Decision) -> u64
 }
 
 pub fn output_code(o: Output) -> u64
-    requires { outputCode o < 2 ^ 64 }
-    ensures { result ≡ outputCode o }
+    requires { output_code o < 2 ^ 64 }
+    ensures { result ≡ output_code o }
 {
     match o {
         Output::Written(n) => pack(0, n as u64),
@@ -55,8 +55,8 @@ pub fn output_code(o: Output) -> u64
 }
 
 fn found_code(c: Checked) -> u64
-    requires { foundCode c < 2 ^ 64 }
-    ensures { result ≡ foundCode c }
+    requires { found_code c < 2 ^ 64 }
+    ensures { result ≡ found_code c }
 {
     match c {
         Checked::Fits => 0,
@@ -66,8 +66,8 @@ fn found_code(c: Checked) -> u64
 }
 
 pub fn crew_check_code(c: CrewChecked) -> u64
-    requires { crewCheckCode c < 2 ^ 64 }
-    ensures { result ≡ crewCheckCode c }
+    requires { crew_check_code c < 2 ^ 64 }
+    ensures { result ≡ crew_check_code c }
 {
     match c {
         CrewChecked::Found(found) => found_code(found),
@@ -75,9 +75,9 @@ pub fn crew_check_code(c: CrewChecked) -> u64
     }
 }
 
-// The first word of the set that a refusal shows. (It is all of it: `shown-small` of proofs/CodeBounds.antt.)
+// The first word of the set that a refusal shows. (It is all of it: `shown_small` of proofs/CodeBounds.antt.)
 fn cause_word(c: Cause) -> u64
-    ensures { result ≡ causeWord c % 2 ^ 64 }
+    ensures { result ≡ cause_word c % 2 ^ 64 }
 {
     let r = planner::refusal_of(c);
     let set = r.set;
@@ -85,7 +85,7 @@ fn cause_word(c: Cause) -> u64
 }
 
 pub fn shown_word(v: Decision) -> u64
-    ensures { result ≡ shownWord v % 2 ^ 64 }
+    ensures { result ≡ shown_word v % 2 ^ 64 }
 {
     match v {
         Decision::Accepted { activities, kinds } => 0,

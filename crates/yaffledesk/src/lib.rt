@@ -2,16 +2,16 @@
 // low 8 bits are the number of document 01, 0 where the operation is done; the bits above are its values.
 // `include/yaffledesk.h` is the same for a C reader.
 ghost use Rattle.std.specs.Prelude.{◌≡◌, length};
-ghost use Rattle.planner.specs.Verdict.{verdictAnswer};
-ghost use Rattle.planner.specs.Needs.{needsAnswer, needsOut};
-ghost use Rattle.planner.specs.Starts.{startsAnswer, startsOut};
-ghost use Rattle.planner.specs.Flow.{flowAnswer, flowOut};
-ghost use Rattle.planner.specs.Sheet.{sheetAnswer, sheetOut};
-ghost use Rattle.planner.specs.Trim.{trimAnswer, trimOut};
-ghost use Rattle.planner.specs.Overload.{overloadAnswer, overloadOut};
-ghost use Rattle.planner.specs.CrewCheck.{crewCheckAnswer};
-ghost use Rattle.yaffledesk.specs.Codes.{verdictCode, outputCode, crewCheckCode, shownWord};
-ghost use Rattle.yaffledesk.specs.Report.{reportAnswer, reportOut};
+ghost use Rattle.planner.specs.Verdict.{verdict_answer};
+ghost use Rattle.planner.specs.Needs.{needs_answer, needs_out};
+ghost use Rattle.planner.specs.Starts.{starts_answer, starts_out};
+ghost use Rattle.planner.specs.Flow.{flow_answer, flow_out};
+ghost use Rattle.planner.specs.Sheet.{sheet_answer, sheet_out};
+ghost use Rattle.planner.specs.Trim.{trim_answer, trim_out};
+ghost use Rattle.planner.specs.Overload.{overload_answer, overload_out};
+ghost use Rattle.planner.specs.CrewCheck.{crew_check_answer};
+ghost use Rattle.yaffledesk.specs.Codes.{verdict_code, output_code, crew_check_code, shown_word};
+ghost use Rattle.yaffledesk.specs.Report.{report_answer, report_out};
 
 use codes::{crew_check_code, output_code, shown_word, verdict_code};
 use text::write_report;
@@ -22,7 +22,7 @@ mod text;
 // Verdict: m + 256 * K where the plan is accepted.
 #[unsafe(no_mangle)]
 pub extern "C" fn yaffledesk_verdict(plan: &[u8]) -> u64
-    ensures { result ≡ verdictCode (verdictAnswer plan.now) }
+    ensures { result ≡ verdict_code (verdict_answer plan.now) }
 {
     verdict_code(planner::verdict(plan))
 }
@@ -30,7 +30,7 @@ pub extern "C" fn yaffledesk_verdict(plan: &[u8]) -> u64
 // The set that Verdict shows with 7, else 0.
 #[unsafe(no_mangle)]
 pub extern "C" fn yaffledesk_set(plan: &[u8]) -> u64
-    ensures { result ≡ shownWord (verdictAnswer plan.now) }
+    ensures { result ≡ shown_word (verdict_answer plan.now) }
 {
     shown_word(planner::verdict(plan))
 }
@@ -38,8 +38,8 @@ pub extern "C" fn yaffledesk_set(plan: &[u8]) -> u64
 // Needs: how many numbers are written to the front of `out`.
 #[unsafe(no_mangle)]
 pub extern "C" fn yaffledesk_needs(plan: &[u8], out: &mut [u32]) -> u64
-    ensures value { result ≡ outputCode (needsAnswer plan.now (length out.old)) }
-    ensures out_after { out.new ≡ needsOut plan.now out.old }
+    ensures value { result ≡ output_code (needs_answer plan.now (length out.old)) }
+    ensures out_after { out.new ≡ needs_out plan.now out.old }
 {
     output_code(planner::needs(plan, out))
 }
@@ -47,8 +47,8 @@ pub extern "C" fn yaffledesk_needs(plan: &[u8], out: &mut [u32]) -> u64
 // Starts: how many numbers are written to the front of `out`.
 #[unsafe(no_mangle)]
 pub extern "C" fn yaffledesk_starts(plan: &[u8], out: &mut [u32]) -> u64
-    ensures value { result ≡ outputCode (startsAnswer plan.now (length out.old)) }
-    ensures out_after { out.new ≡ startsOut plan.now out.old }
+    ensures value { result ≡ output_code (starts_answer plan.now (length out.old)) }
+    ensures out_after { out.new ≡ starts_out plan.now out.old }
 {
     output_code(planner::starts(plan, out))
 }
@@ -56,8 +56,8 @@ pub extern "C" fn yaffledesk_starts(plan: &[u8], out: &mut [u32]) -> u64
 // Flow of a kind: how many records are written to the front of `out`.
 #[unsafe(no_mangle)]
 pub extern "C" fn yaffledesk_flow(plan: &[u8], kind: u64, out: &mut [u8]) -> u64
-    ensures value { result ≡ outputCode (flowAnswer plan.now kind (length out.old)) }
-    ensures out_after { out.new ≡ flowOut plan.now kind out.old }
+    ensures value { result ≡ output_code (flow_answer plan.now kind (length out.old)) }
+    ensures out_after { out.new ≡ flow_out plan.now kind out.old }
 {
     output_code(planner::flow(plan, kind as usize, out))
 }
@@ -65,8 +65,8 @@ pub extern "C" fn yaffledesk_flow(plan: &[u8], kind: u64, out: &mut [u8]) -> u64
 // A page of the sheet of a kind: how many pages there are, where it is written to the front of `out`.
 #[unsafe(no_mangle)]
 pub extern "C" fn yaffledesk_sheet(plan: &[u8], kind: u64, page: u64, out: &mut [u8]) -> u64
-    ensures value { result ≡ outputCode (sheetAnswer plan.now kind page (length out.old)) }
-    ensures out_after { out.new ≡ sheetOut plan.now kind page out.old }
+    ensures value { result ≡ output_code (sheet_answer plan.now kind page (length out.old)) }
+    ensures out_after { out.new ≡ sheet_out plan.now kind page out.old }
 {
     output_code(planner::sheet(plan, kind as usize, page as usize, out))
 }
@@ -75,8 +75,8 @@ pub extern "C" fn yaffledesk_sheet(plan: &[u8], kind: u64, page: u64, out: &mut 
 // the front of `out`.
 #[unsafe(no_mangle)]
 pub extern "C" fn yaffledesk_trim(plan: &[u8], out: &mut [u8]) -> u64
-    ensures value { result ≡ outputCode (trimAnswer plan.now (length out.old)) }
-    ensures out_after { out.new ≡ trimOut plan.now out.old }
+    ensures value { result ≡ output_code (trim_answer plan.now (length out.old)) }
+    ensures out_after { out.new ≡ trim_out plan.now out.old }
 {
     output_code(planner::trim(plan, out))
 }
@@ -84,8 +84,8 @@ pub extern "C" fn yaffledesk_trim(plan: &[u8], out: &mut [u8]) -> u64
 // Overload: 1 where its record is written to the front of `out`, 0 where the plan is accepted.
 #[unsafe(no_mangle)]
 pub extern "C" fn yaffledesk_overload(plan: &[u8], out: &mut [u8]) -> u64
-    ensures value { result ≡ outputCode (overloadAnswer plan.now (length out.old)) }
-    ensures out_after { out.new ≡ overloadOut plan.now out.old }
+    ensures value { result ≡ output_code (overload_answer plan.now (length out.old)) }
+    ensures out_after { out.new ≡ overload_out plan.now out.old }
 {
     output_code(planner::overload(plan, out))
 }
@@ -95,7 +95,7 @@ pub extern "C" fn yaffledesk_overload(plan: &[u8], out: &mut [u8]) -> u64
 #[unsafe(no_mangle)]
 pub extern "C" fn yaffledesk_crew_check(plan: &[u8], starts: &[u32], durations: &[u32]) -> u64
     ensures { result
-        ≡ crewCheckCode (crewCheckAnswer plan.now starts.now durations.now) }
+        ≡ crew_check_code (crew_check_answer plan.now starts.now durations.now) }
 {
     crew_check_code(planner::crew_check(plan, starts, durations))
 }
@@ -103,8 +103,8 @@ pub extern "C" fn yaffledesk_crew_check(plan: &[u8], starts: &[u32], durations: 
 // The report of a plan, of a refused one too: how many bytes of text are written to the front of `out`.
 #[unsafe(no_mangle)]
 pub extern "C" fn yaffledesk_report(plan: &[u8], out: &mut [u8]) -> u64
-    ensures value { result ≡ outputCode (reportAnswer plan.now (length out.old)) }
-    ensures out_after { out.new ≡ reportOut plan.now out.old }
+    ensures value { result ≡ output_code (report_answer plan.now (length out.old)) }
+    ensures out_after { out.new ≡ report_out plan.now out.old }
 {
     output_code(write_report(plan, out))
 }

@@ -1,6 +1,6 @@
 // The report, which is no operation of the planner's, as one that writes.
 ghost use Rattle.std.specs.Prelude.{◌≡◌, length};
-ghost use Rattle.yaffledesk.specs.Report.{reportAnswer, reportOut};
+ghost use Rattle.yaffledesk.specs.Report.{report_answer, report_out};
 
 use planner::{Cause, Output};
 use report_lines::REPORT_BYTES;
@@ -8,8 +8,8 @@ use report_lines::REPORT_BYTES;
 // The report of a plan's bytes, to the front of the lent bytes. Room for the longest report is asked for first: how
 // long this one is shows only when it is written.
 pub fn write_report(plan: &[u8], out: &mut [u8]) -> Output
-    ensures value { result ≡ reportAnswer plan.now (length out.old) }
-    ensures out_after { out.new ≡ reportOut plan.now out.old }
+    ensures value { result ≡ report_answer plan.now (length out.old) }
+    ensures out_after { out.new ≡ report_out plan.now out.old }
 {
     if out.len() < REPORT_BYTES {
         return Output::Refused(Cause::Short(REPORT_BYTES));

@@ -6,7 +6,7 @@ use Rattle.bench_c.proofs.yaffledesk_bench_crew_check.Statement.{statement}
 use Rattle.bench_c.proofs.yaffledesk_bench_crew_check.Tie as tie
 
 returns : tie.Need-returns
-returns c = c.number.ensures ∙ ap number_of c.before.crew-check.ensures
+returns c = c.number.ensures ∙ ap number_of c.before.crew_check.ensures
 
 pub yaffledesk-bench-crew-check-spec : {M : Type 1} → statement M
 yaffledesk-bench-crew-check-spec = tie.close (tie.spec (λ c κs. search rules) (λ c κs. search rules) returns)

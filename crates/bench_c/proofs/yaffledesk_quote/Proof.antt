@@ -6,7 +6,7 @@ use borrow.Author.Rules.{rules}
 use Rattle.order.specs.declared.Order.{Order}
 use Rattle.order.specs.Stored.{number_of}
 use Rattle.solver.specs.declared.Quoted.{Quoted}
-use Rattle.solver.specs.model.Quote.{quoteOf, flow_of}
+use Rattle.solver.specs.model.Quote.{quote_of, flow_of}
 use Rattle.bench_c.proofs.yaffledesk_quote.Statement.{statement}
 use Rattle.bench_c.proofs.yaffledesk_quote.Tie as tie
 
@@ -17,7 +17,7 @@ returns c =
     let a = order.before.before.before.before.args in
     let e = order.of.ensures in
     let d = a.demand.now in
-    let q = told.quote.ensures.0 ∙ ap (λ (o : Order). quoteOf a.m o d) e in (
+    let q = told.quote.ensures.0 ∙ ap (λ (o : Order). quote_of a.m o d) e in (
       ap (λ (x : Quoted). x.need) q,
       c.first_word.ensures ∙ ap (λ (x : Quoted). number_of x.set % 2 ^ 64) q,
       told.quote.ensures.1 ∙ ap (λ (o : Order). flow_of a.m o d) e,

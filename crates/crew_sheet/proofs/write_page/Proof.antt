@@ -42,9 +42,9 @@ use denote.Triple.Walked.{says, needs, Stays, stay_none, stay_none_slice, gave_s
 use denote.Exit.{yes}
 use denote.Signature.{plain}
 use Rattle.crew_sheet.specs.declared.Page.{Page}
-use Rattle.crew_sheet.specs.Sheet.{pagesOf, headLine, pageLines, mostLines}
+use Rattle.crew_sheet.specs.Sheet.{pages_of, head_line, page_lines, most_lines}
 use Rattle.crew_sheet.specs.Underway.{onto, headed}
-use Rattle.crew_sheet.proofs.Filling.{head-room, head-kept, lines-room, page-said}
+use Rattle.crew_sheet.proofs.Filling.{head_room_lem, head_kept, lines_room, page_said}
 use Rattle.crew_sheet.specs.contracts.Page as T
 use Rattle.crew_sheet.proofs.Page.TheLaws as T'
 use Rattle.crew_sheet.specs.contracts.Page.begin as begin
@@ -69,7 +69,7 @@ stayed = (gave_slice (0 ∷ []) tt (plain (λ _. u8)), (stay_none_slice (1 ∷ [
 
 -- what is asked of the arguments: the lent bytes, n, the flow's bytes, page
 abbrev Asked : List ℕ → ℕ → List ℕ → ℕ → Type 0
-Asked ys k fs p = (2460 ≤ length ys) × (k ≤ mostLines) × (24 * k ≤ length fs) × (1 ≤ p) × (p ≤ mostLines)
+Asked ys k fs p = (2460 ≤ length ys) × (k ≤ most_lines) × (24 * k ≤ length fs) × (1 ≤ p) × (p ≤ most_lines)
 
 module _ {M : Type 1} {𝓤 : Ura M} (𝓛 : Logic 𝓤) (mem : Memory → SProp 𝓤) (run : Routine → Fun 𝓤) where
   -- the contracts that the proof cites
@@ -113,7 +113,7 @@ module _ {M : Type 1} {𝓤 : Ura M} (𝓛 : Logic 𝓤) (mem : Memory → SProp
 
   -- the bytes with the head, the page that `begin` returns, and the one that `head` returns
   abbrev hs : List ℕ
-  hs = onto 0 (headLine v p) ys
+  hs = onto 0 (head_line v p) ys
 
   abbrev h₀ : Page
   h₀ = record { out = x; at = 0 }
@@ -169,7 +169,7 @@ module _ {M : Type 1} {𝓤 : Ura M} (𝓛 : Logic 𝓤) (mem : Memory → SProp
 
   goes-head : (w : Val) → ent 𝓤 (sep 𝓤 (sep 𝓤 (A.lft κ q) (sem 𝓛 ftrue)) (sem 𝓛 ((T.the_row α).own_val h₀ (w ∷ [])))) ((Head 𝓛 mem run).pre (to-head w))
   goes-head w =
-      qed 𝓛 ((‵ (flft κ q) ⊛ ‵ ftrue) ∷ ‵ ((T.the_row α).own_val h₀ (w ∷ [])) ∷ []) ∵ says ! (head-room f.now g.now k v p ys asked.0) $ frame ! $
+      qed 𝓛 ((‵ (flft κ q) ⊛ ‵ ftrue) ∷ ‵ ((T.the_row α).own_val h₀ (w ∷ [])) ∷ []) ∵ says ! (head_room_lem f.now g.now k v p ys asked.0) $ frame ! $
       nothing ! $ owned ! usize (Is usize) (uint_Makes 𝓛 w64) p _ (refl, p-fits) $ fjoin ! $ owned ! u64 (Is u64) (uint_Makes 𝓛 w64) v _ (refl, v-fits) $ fjoin ! $ move ! (1 ∷ 0 ∷ []) $ fjoin ! $ done !
 
   abbrev Passed : Type 0
@@ -187,7 +187,7 @@ module _ {M : Type 1} {𝓤 : Ura M} (𝓛 : Logic 𝓤) (mem : Memory → SProp
   goes-fill : (w : Val) → ent 𝓤 (on_entry 𝓛 fill.signature κs (q, (q₁, (q₂, tt))) passed (passed-vals w)) ((Fill 𝓛 mem run).pre (to_fill w))
   goes-fill w =
       qed 𝓛 ((‵ (flft κ q) ⊛ ‵ (flft κ₁ q₁) ⊛ ‵ (flft κ₂ q₂) ⊛ ‵ ftrue) ∷ ‵ (owns (T.the_row α ∷ ShrSlice (named 1) κ₁ u8 ∷ usize ∷ ShrSlice (named 2) κ₂ u32 ∷ usize ∷ []) passed (passed-vals w)) ∷ []) ∵
-      says ! (asked.1, asked.2, asked.3, asked.4, lines-room f.now g.now k v p ys asked.0) $ frame ! $ done !
+      says ! (asked.1, asked.2, asked.3, asked.4, lines_room f.now g.now k v p ys asked.0) $ frame ! $ done !
 
   -- the page and what was kept are what `fill` asks, and the shared slices once more
   rejoin : (w : Val) → ent 𝓤 (⋆ 𝓛 ((‵ (flft κ q) ⊛ ‵ ftrue) ∷ ‵ ((T.the_row α).own_val h₁ (w ∷ [])) ∷ ‵ Kept ∷ [])) (sep 𝓤 ((Fill 𝓛 mem run).pre (to_fill w)) (sem 𝓛 (fsep Flow Starts)))
@@ -204,14 +204,14 @@ module _ {M : Type 1} {𝓤 : Ura M} (𝓛 : Logic 𝓤) (mem : Memory → SProp
 
   -- what `fill` ensures
   abbrev Said : ℕ → List ℕ → Type 0
-  Said r zs = (r ≡ pagesOf k) × (zs ≡ onto 41 (pageLines f.now g.now k p) hs)
+  Said r zs = (r ≡ pages_of k) × (zs ≡ onto 41 (page_lines f.now g.now k p) hs)
 
   exits : (r : ℕ) (w : Val) (zs : List ℕ) → Said r zs → length zs ≡ length hs
       → ent 𝓤 (⋆ 𝓛 ((‵ (flft κ q) ⊛ ‵ (flft κ₁ q₁) ⊛ ‵ (flft κ₂ q₂) ⊛ ‵ ftrue) ∷ ‵ (finally u8 γ zs) ∷ ‵ (usize.own_val r (w ∷ [])) ∷ ‵ (fsep Flow Starts) ∷ [])) (Post w)
   exits r w zs e l =
       qed 𝓛 ((‵ (flft κ q) ⊛ ‵ (flft κ₁ q₁) ⊛ ‵ (flft κ₂ q₂) ⊛ ‵ ftrue) ∷ ‵ (finally u8 γ zs) ∷ ‵ (usize.own_val r (w ∷ [])) ∷ ‵ (fsep Flow Starts) ∷ []) ∵
-      suffices ! _ (ends_at 𝓛 write-page.ended stayed (write-page.clauses 𝓛 mem run) ((κs, (q, (q₁, (q₂, tt))), tt, a, vals), tt) w r (zs, (tt, (tt, (tt, (tt, (tt, tt)))))) (l ∙ head-kept f.now g.now k v p ys asked.0, (tt, (tt, (tt, (tt, (tt, tt))))))) $
-      says ! (e.0, e.1 ∙ page-said f.now g.now k v p ys asked.0) $ frame ! $
+      suffices ! _ (ends_at 𝓛 write-page.ended stayed (write-page.clauses 𝓛 mem run) ((κs, (q, (q₁, (q₂, tt))), tt, a, vals), tt) w r (zs, (tt, (tt, (tt, (tt, (tt, tt)))))) (l ∙ head_kept f.now g.now k v p ys asked.0, (tt, (tt, (tt, (tt, (tt, tt))))))) $
+      says ! (e.0, e.1 ∙ page_said f.now g.now k v p ys asked.0) $ frame ! $
       move ! (2 ∷ []) $ fsplit ! $ nothing ! $ owned ! usize (Is usize) (uint_Makes 𝓛 w64) p _ (refl, p-fits) $ fjoin ! $ owned ! u64 (Is u64) (uint_Makes 𝓛 w64) v _ (refl, v-fits) $ fjoin ! $ move ! (2 ∷ 0 ∷ []) $ fjoin ! $ owned ! usize (Is usize) (uint_Makes 𝓛 w64) k _ (refl, k-fits) $ fjoin ! $ move ! (1 ∷ 0 ∷ []) $ fjoin ! $ move ! (1 ∷ 0 ∷ []) $ fjoin ! $ done !
 
   module _ (C : Calls 𝓤 H) (Λ : Loops 𝓤 H) (fm : FmC 𝓤 H 𝓛.laws C) (known-begin : Triple 𝓤 (C #sheet·begin) (Begin 𝓛 mem run)) (known-head : Triple 𝓤 (C #sheet·head) (Head 𝓛 mem run)) (known-fill : Triple 𝓤 (C #sheet·fill) (Fill 𝓛 mem run)) where

@@ -1,9 +1,9 @@
 -- ONLY FOR THE PROOFS OF THE CODE: records as they are written, one after another, to the start of what is
--- left of the lent bytes. That this comes to the records of `Flows` is `flow-written` of
+-- left of the lent bytes. That this comes to the records of `Flows` is `flow_written` of
 -- proofs/RecordsWritten.antt.
 use Rattle.std.specs.Prelude.{cond, List, ◌++◌, ℕ, suc, ◌+◌, ◌*◌, ◌≤◌, eqb, length, take, drop}
 use Rattle.words.specs.model.Loops.{upto}
-use Rattle.records.specs.Records.{flowRecord}
+use Rattle.records.specs.Records.{flow_record}
 
 -- there is room for n records (a pair of nodes is two bytes)
 pub record Room (n : ℕ) (out : List ℕ) : Type 0 where
@@ -24,12 +24,12 @@ appended l r = lent (l.count + 1) (take (24 * l.count) l.out ++ r ++ drop (24 * 
 
 -- that of a pair, where its units x are positive
 unfoldable pub put_pair : ℕ → ℕ → ℕ → ℕ → ℕ → Lent → Lent
-put_pair kind u v x mark l = cond (eqb x 0) l (appended l (flowRecord kind u v x mark))
+put_pair kind u v x mark l = cond (eqb x 0) l (appended l (flow_record kind u v x mark))
 
 -- those of the pairs from node u to the nodes 1 to m + 1
-unfoldable pub putRow : ℕ → (ℕ → ℕ → ℕ) → (ℕ → ℕ → ℕ) → ℕ → ℕ → Lent → Lent
-putRow kind g mark m u l = upto (λ j. put_pair kind u (suc j) (g u (suc j)) (mark u (suc j))) (m + 1) l
+unfoldable pub put_row : ℕ → (ℕ → ℕ → ℕ) → (ℕ → ℕ → ℕ) → ℕ → ℕ → Lent → Lent
+put_row kind g mark m u l = upto (λ j. put_pair kind u (suc j) (g u (suc j)) (mark u (suc j))) (m + 1) l
 
 -- those of the pairs from the nodes 0 to m
-unfoldable pub putFlow : ℕ → (ℕ → ℕ → ℕ) → (ℕ → ℕ → ℕ) → ℕ → Lent → Lent
-putFlow kind g mark m l = upto (λ u. putRow kind g mark m u) (m + 1) l
+unfoldable pub put_flow : ℕ → (ℕ → ℕ → ℕ) → (ℕ → ℕ → ℕ) → ℕ → Lent → Lent
+put_flow kind g mark m l = upto (λ u. put_row kind g mark m u) (m + 1) l

@@ -1,8 +1,8 @@
 -- `lines::put_decimal` meets its contract: each turn writes one digit more, from the last on (`Spelling`).
 use native.Mathlib.Omega.{arith}
 use borrow.Author.Rules.{rules}
-use Rattle.lines.proofs.Decimals.{places-most}
-use Rattle.lines.proofs.Texts.{Spelling, spelling-none, spelling-next, spelling-length, spelling-end}
+use Rattle.lines.proofs.Decimals.{places_most}
+use Rattle.lines.proofs.Texts.{Spelling, spelling_none, spelling_next, spelling_length, spelling_end}
 use Rattle.lines.proofs.put_decimal.Statement.{statement}
 use Rattle.lines.proofs.put_decimal.Tie as tie
 
@@ -15,35 +15,35 @@ decreases-loop out₀ at x n i₀ rest₀ out i rest = i
 loop-holds : tie.Need-loop-init invariant-loop decreases-loop
 loop-holds c =
     let a = c.before.before.args in
-    rw c.digits.ensures (spelling-none a.at a.x a.out.now)
+    rw c.digits.ensures (spelling_none a.at a.x a.out.now)
 
 add-out-2 : tie.Need-overflow-add-out-2 invariant-loop decreases-loop
-add-out-2 c = omega (arith, places-most c.before.before.before.before.args.x)
+add-out-2 c = omega (arith, places_most c.before.before.before.before.args.x)
 
 slice-write-out : tie.Need-slice-write-out invariant-loop decreases-loop
 slice-write-out c =
     let b = c.before in
     let s = b.before.before.before in
     let a = s.args in
-    let e = spelling-length a.at a.x a.out.now b.loop.i b.loop.rest b.loop.out b.loop.invariant s.requires in
-    omega (arith, places-most a.x)
+    let e = spelling_length a.at a.x a.out.now b.loop.i b.loop.rest b.loop.out b.loop.invariant s.requires in
+    omega (arith, places_most a.x)
 
 loop-again : tie.Need-loop-preserved invariant-loop decreases-loop
 loop-again c =
     let b = c.before in
     let s = b.before.before.before in
     let a = s.args in
-    spelling-next a.at a.x a.out.now b.loop.i b.loop.rest b.loop.out b.loop.invariant s.requires (omega arith)
+    spelling_next a.at a.x a.out.now b.loop.i b.loop.rest b.loop.out b.loop.invariant s.requires (omega arith)
 
 add-result : tie.Need-overflow-add-result invariant-loop decreases-loop
-add-result c = omega (arith, places-most c.before.before.before.before.args.x)
+add-result c = omega (arith, places_most c.before.before.before.before.args.x)
 
 same_length : tie.Need-same-length invariant-loop decreases-loop
 same_length c =
     let b = c.before in
     let s = b.before.before.before in
     let a = s.args in
-    spelling-length a.at a.x a.out.now b.loop.i b.loop.rest b.loop.out b.loop.invariant s.requires
+    spelling_length a.at a.x a.out.now b.loop.i b.loop.rest b.loop.out b.loop.invariant s.requires
 
 returns : tie.Need-returns invariant-loop decreases-loop
 returns c =
@@ -51,7 +51,7 @@ returns c =
     let s = b.before.before.before in
     let a = s.args in
     rw b.before.digits.ensures
-    (spelling-end a.at a.x a.out.now b.loop.i b.loop.rest b.loop.out b.loop.invariant s.requires (omega arith))
+    (spelling_end a.at a.x a.out.now b.loop.i b.loop.rest b.loop.out b.loop.invariant s.requires (omega arith))
 
 pub put-decimal-spec : {M : Type 1} → statement M
 put-decimal-spec =

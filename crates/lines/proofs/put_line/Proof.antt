@@ -1,9 +1,9 @@
--- `lines::put_line` meets its contract: the word, the numbers and the line's end, one after another (`line-more`).
+-- `lines::put_line` meets its contract: the word, the numbers and the line's end, one after another (`line_more`).
 use mathlib.Core.Path.{◌∙◌}
 use native.Mathlib.Omega.{arith}
 use borrow.Author.Rules.{rules}
 use lib.ListN.{length-set}
-use Rattle.lines.proofs.Texts.{room-numbers, line-end, line-more}
+use Rattle.lines.proofs.Texts.{room_numbers, line_end, line_more}
 use Rattle.lines.proofs.put_line.Statement.{statement}
 use Rattle.lines.proofs.put_line.Tie as tie
 
@@ -12,7 +12,7 @@ put-numbers-requires c κs =
     let v = c.before.before.before in
     let s = v.before.before.before.before.before in
     let a = s.args in
-    room-numbers a.at v.put-bytes.result a.word.now a.numbers.now a.out.now v.put-bytes.new.0 s.requires v.put-bytes.ensures
+    room_numbers a.at v.put-bytes.result a.word.now a.numbers.now a.out.now v.put-bytes.new.0 s.requires v.put-bytes.ensures
 
 slice-write-out : tie.Need-slice-write-out
 slice-write-out c =
@@ -20,7 +20,7 @@ slice-write-out c =
     let v = w.before.before.before.before in
     let s = v.before.before.before.before.before in
     let a = s.args in
-    (line-end a.at v.put-bytes.result a.word.now a.numbers.now a.out.now v.put-bytes.new.0 s.requires v.put-bytes.ensures
+    (line_end a.at v.put-bytes.result a.word.now a.numbers.now a.out.now v.put-bytes.new.0 s.requires v.put-bytes.ensures
     w.put-numbers.result w.put-numbers.new.0 w.put-numbers.ensures).0
 
 add-result : tie.Need-overflow-add-result
@@ -30,7 +30,7 @@ add-result c =
     let s = v.before.before.before.before.before in
     let a = s.args in
     let e =
-    line-end a.at v.put-bytes.result a.word.now a.numbers.now a.out.now v.put-bytes.new.0 s.requires v.put-bytes.ensures
+    line_end a.at v.put-bytes.result a.word.now a.numbers.now a.out.now v.put-bytes.new.0 s.requires v.put-bytes.ensures
     w.put-numbers.result w.put-numbers.new.0 w.put-numbers.ensures in
     omega arith
 
@@ -41,7 +41,7 @@ same_length c =
     let s = v.before.before.before.before.before in
     let a = s.args in
     length-set w.put-numbers.new.0 w.put-numbers.result _
-    ∙ (line-end a.at v.put-bytes.result a.word.now a.numbers.now a.out.now v.put-bytes.new.0 s.requires v.put-bytes.ensures
+    ∙ (line_end a.at v.put-bytes.result a.word.now a.numbers.now a.out.now v.put-bytes.new.0 s.requires v.put-bytes.ensures
     w.put-numbers.result w.put-numbers.new.0 w.put-numbers.ensures).1
 
 returns : tie.Need-returns
@@ -50,7 +50,7 @@ returns c =
     let v = w.before.before.before.before in
     let s = v.before.before.before.before.before in
     let a = s.args in
-    line-more a.at v.put-bytes.result a.word.now a.numbers.now a.out.now v.put-bytes.new.0 s.requires v.put-bytes.ensures
+    line_more a.at v.put-bytes.result a.word.now a.numbers.now a.out.now v.put-bytes.new.0 s.requires v.put-bytes.ensures
     w.put-numbers.result w.put-numbers.new.0 w.put-numbers.ensures
 
 pub put-line-spec : {M : Type 1} → statement M

@@ -3,7 +3,7 @@ use Prim.Native.Nat.{◌-◌}
 use native.Mathlib.Omega.{arith}
 use lib.ListN.{length-set}
 use borrow.Author.Rules.{rules}
-use Rattle.lines.proofs.Texts.{Listing, listing_none, listing-room, listing-next, listing-length, listing-end}
+use Rattle.lines.proofs.Texts.{Listing, listing_none, listing_room, listing_next, listing_length, listing_end}
 use Rattle.lines.proofs.put_numbers.Statement.{statement}
 use Rattle.lines.proofs.put_numbers.Tie as tie
 
@@ -23,7 +23,7 @@ slice-write-out c =
     let b = c.before in
     let s = b.before.before.before in
     let a = s.args in
-    let room = listing-room a.at a.numbers.now a.out.now b.loop.i b.loop.end b.loop.out b.loop.invariant s.requires (omega arith) in
+    let room = listing_room a.at a.numbers.now a.out.now b.loop.i b.loop.end b.loop.out b.loop.invariant s.requires (omega arith) in
     omega arith
 
 add-put-decimal : tie.Need-overflow-add-put-decimal invariant-loop decreases-loop
@@ -31,8 +31,8 @@ add-put-decimal c =
     let b = c.before.before in
     let s = b.before.before.before in
     let a = s.args in
-    let room = listing-room a.at a.numbers.now a.out.now b.loop.i b.loop.end b.loop.out b.loop.invariant s.requires (omega arith) in
-    let long = listing-length a.at a.numbers.now a.out.now b.loop.i b.loop.end b.loop.out b.loop.invariant s.requires in
+    let room = listing_room a.at a.numbers.now a.out.now b.loop.i b.loop.end b.loop.out b.loop.invariant s.requires (omega arith) in
+    let long = listing_length a.at a.numbers.now a.out.now b.loop.i b.loop.end b.loop.out b.loop.invariant s.requires in
     omega arith
 
 put-decimal-requires : tie.Need-put-decimal-requires invariant-loop decreases-loop
@@ -40,7 +40,7 @@ put-decimal-requires c κs =
     let b = c.before.before.before in
     let s = b.before.before.before in
     let a = s.args in
-    let room = listing-room a.at a.numbers.now a.out.now b.loop.i b.loop.end b.loop.out b.loop.invariant s.requires (omega arith) in
+    let room = listing_room a.at a.numbers.now a.out.now b.loop.i b.loop.end b.loop.out b.loop.invariant s.requires (omega arith) in
     rw length-set (omega arith)
 
 loop-again : tie.Need-loop-preserved invariant-loop decreases-loop
@@ -49,7 +49,7 @@ loop-again c =
     let b = c.before.before.before.before.before.before in
     let s = b.before.before.before in
     let a = s.args in
-    listing-next a.at a.numbers.now a.out.now b.loop.i b.loop.end b.loop.out b.loop.invariant s.requires
+    listing_next a.at a.numbers.now a.out.now b.loop.i b.loop.end b.loop.out b.loop.invariant s.requires
     (omega arith) w.result w.new.0 w.ensures
 
 same_length : tie.Need-same-length invariant-loop decreases-loop
@@ -57,14 +57,14 @@ same_length c =
     let b = c.before in
     let s = b.before.before.before in
     let a = s.args in
-    listing-length a.at a.numbers.now a.out.now b.loop.i b.loop.end b.loop.out b.loop.invariant s.requires
+    listing_length a.at a.numbers.now a.out.now b.loop.i b.loop.end b.loop.out b.loop.invariant s.requires
 
 returns : tie.Need-returns invariant-loop decreases-loop
 returns c =
     let b = c.before in
     let s = b.before.before.before in
     let a = s.args in
-    listing-end a.at a.numbers.now a.out.now b.loop.i b.loop.end b.loop.out b.loop.invariant s.requires (omega arith)
+    listing_end a.at a.numbers.now a.out.now b.loop.i b.loop.end b.loop.out b.loop.invariant s.requires (omega arith)
 
 pub put-numbers-spec : {M : Type 1} → statement M
 put-numbers-spec =

@@ -1,11 +1,11 @@
 -- `order::row` meets its contract: a row is a word.
 use Rattle.std.proofs.Common.{refl, rules}
-use Rattle.order.specs.Stored.{row, setOf}
+use Rattle.order.specs.Stored.{row, set_of}
 use Rattle.order.proofs.row.Statement.{statement}
 use Rattle.order.proofs.row.Tie as tie
 
 returns : tie.Need-returns
-unfolding row setOf
+unfolding row set_of
 returns c = refl
 
 pub row-spec : {M : Type 1} → statement M

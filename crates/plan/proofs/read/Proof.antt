@@ -5,25 +5,25 @@ use lib.ListN.{length}
 use borrow.Author.Rules.{rules}
 use Rattle.plan.specs.model.Reads.{read_of}
 use Rattle.plan.specs.Causes.{answer_of}
-use Rattle.plan.proofs.ReaderLoops.{told, told-not}
-use Rattle.plan.proofs.Refused.{length-says}
-use Rattle.plan.proofs.Phases.{file-read}
+use Rattle.plan.proofs.ReaderLoops.{told, told_not}
+use Rattle.plan.proofs.Refused.{length_says}
+use Rattle.plan.proofs.Phases.{file_read}
 use Rattle.plan.proofs.read.Statement.{statement}
 use Rattle.plan.proofs.read.Tie as tie
 
 returns : tie.Need-returns
 unfolding read_of answer_of
-returns c = rw (told-not c.before.before.is-length.ensures c.before.if1.true) c.refusal.ensures
+returns c = rw (told_not c.before.before.is-length.ensures c.before.if1.true) c.refusal.ensures
 
 read-file-requires : tie.Need-read-file-requires
 read-file-requires c κs =
-    let h = ((length-says (length c.before.before.before.args.s.now)).0 (told c.before.is-length.ensures c.if1.false)).1 in
+    let h = ((length_says (length c.before.before.before.args.s.now)).0 (told c.before.is-length.ensures c.if1.false)).1 in
     (omega arith, omega arith)
 
 returns-2 : tie.Need-returns-2
 returns-2 c =
     let b = c.before.before in
-    c.read-file.ensures ∙ file-read b.before.before.args.s.now (told b.is-length.ensures c.before.if1.false)
+    c.read-file.ensures ∙ file_read b.before.before.args.s.now (told b.is-length.ensures c.before.if1.false)
 
 pub read_spec : {M : Type 1} → statement M
 read_spec =

@@ -5,27 +5,27 @@ use Rattle.std.specs.Prelude.{List, ℕ, ◌+◌, ◌-◌, ◌*◌, ◌/◌, ◌
 use Rattle.words.specs.Tables.{table}
 use Rattle.records.specs.Bytes.{byte}
 use Rattle.order.specs.Stored.{elements}
-use Rattle.plan.specs.Records.{recordAt, waitIn}
-use Rattle.plan.specs.Meaning.{fileWait}
+use Rattle.plan.specs.Records.{record_at, wait_in}
+use Rattle.plan.specs.Meaning.{file_wait}
 use Rattle.plan.specs.model.ArcRows.{ArcRecord}
 
-unfoldable pub waitTable : List ℕ → List ℕ
-waitTable s = table (elements * elements) (λ x. fileWait s (x % elements) (x / elements))
+unfoldable pub wait_table : List ℕ → List ℕ
+wait_table s = table (elements * elements) (λ x. file_wait s (x % elements) (x / elements))
 
 -- ---- how it is read
 
 -- where the wait of an arc record stands
-abbrev pub waitPlace : List ℕ → ℕ
-waitPlace r = elements * (byte r 2 - 1) + (byte r 1 - 1)
+abbrev pub wait_place : List ℕ → ℕ
+wait_place r = elements * (byte r 2 - 1) + (byte r 1 - 1)
 
 -- the waits after an arc record: its own, where none that is longer stands
-abbrev pub withWait : List ℕ → List ℕ → List ℕ
-withWait r waits = set waits (waitPlace r) (max (get_or waits (waitPlace r) 0) (waitIn r))
+abbrev pub with_wait : List ℕ → List ℕ → List ℕ
+with_wait r waits = set waits (wait_place r) (max (get_or waits (wait_place r) 0) (wait_in r))
 
 -- after record p of t
-abbrev pub putWait : List ℕ → ℕ → List ℕ → List ℕ
-putWait t p waits = withWait (recordAt t p) waits
+abbrev pub put_wait : List ℕ → ℕ → List ℕ → List ℕ
+put_wait t p waits = with_wait (record_at t p) waits
 
 -- the first n records of t are arcs
 abbrev pub ArcRecords : ℕ → List ℕ → Type 0
-ArcRecords n t = (p : ℕ) → p < n → ArcRecord (recordAt t p)
+ArcRecords n t = (p : ℕ) → p < n → ArcRecord (record_at t p)

@@ -6,13 +6,13 @@ use Rattle.order.specs.Stored.{elements}
 use Rattle.plan.specs.declared.Plan.{Plan}
 use Rattle.schedule.specs.Lists.{at}
 use Rattle.schedule.specs.Starts.{end_of}
-use Rattle.schedule.specs.model.Arrays.{startsOf}
-use Rattle.planner.specs.Times.{arcWeight}
-use Rattle.planner.specs.Starts.{withEnd}
+use Rattle.schedule.specs.model.Arrays.{starts_of}
+use Rattle.planner.specs.Times.{arc_weight}
+use Rattle.planner.specs.Starts.{with_end}
 
-abbrev pub startsIn : List ℕ → List ℕ → Plan → List ℕ
-startsIn s rows q =
-    let first = startsOf rows (arcWeight s (at q.duration)) in
+abbrev pub starts_in : List ℕ → List ℕ → Plan → List ℕ
+starts_in s rows q =
+    let first = starts_of rows (arc_weight s (at q.duration)) in
     over (q.count + 1)
-    (withEnd q.count first (end_of q.count (at first) (at q.duration)))
+    (with_end q.count first (end_of q.count (at first) (at q.duration)))
     (replicate (elements + 1) 0)

@@ -3,10 +3,10 @@ ghost use Rattle.std.specs.Prelude.{◌≡◌, ◌≤◌, length};
 ghost use Rattle.order.specs.Stored.{elements};
 ghost use Rattle.plan.specs.Meaning.{Readable};
 ghost use Rattle.schedule.specs.Lists.{at};
-ghost use Rattle.schedule.specs.Checks.{checkOf};
-ghost use Rattle.schedule.specs.model.Arrays.{crewNet, workOf, Listed};
-ghost use Rattle.planner.specs.Times.{arcWeight};
-ghost use Rattle.planner.specs.CrewCheck.{checkedOf, misworked, someMisworked, badLists, crewCheckAnswer};
+ghost use Rattle.schedule.specs.Checks.{check_of};
+ghost use Rattle.schedule.specs.model.Arrays.{crew_net, work_of, Listed};
+ghost use Rattle.planner.specs.Times.{arc_weight};
+ghost use Rattle.planner.specs.CrewCheck.{checked_of, misworked, some_misworked, bad_lists, crew_check_answer};
 
 use crate::faults::{is_fine, or_cause};
 use crate::open::open_plan;
@@ -15,7 +15,7 @@ use order::{ELEMENTS, Rows};
 
 // The answer, by the fault and what was found.
 fn checked_of(fault: Fault, value: schedule::Checked) -> CrewChecked
-    ensures { result ≡ checkedOf fault value }
+    ensures { result ≡ checked_of fault value }
 {
     match fault {
         Fault::Fine => CrewChecked::Found(value),
@@ -38,7 +38,7 @@ fn misworked(duration: u32, worked: u32) -> bool
 // Whether that is so of some activity.
 fn some_misworked(durations: &[u32; ELEMENTS], worked: &[u32]) -> bool
     requires { length worked.now ≤ elements }
-    ensures { result ≡ someMisworked durations.now worked.now }
+    ensures { result ≡ some_misworked durations.now worked.now }
 {
     let n = worked.len();
     for i in 0..n {
@@ -52,7 +52,7 @@ fn some_misworked(durations: &[u32; ELEMENTS], worked: &[u32]) -> bool
 // Whether the lists are not m long, or a worked duration does not fit.
 fn bad_lists(m: usize, durations: &[u32; ELEMENTS], starts: &[u32], worked: &[u32]) -> bool
     requires { m ≤ elements }
-    ensures { result ≡ badLists m durations.now starts.now worked.now }
+    ensures { result ≡ bad_lists m durations.now starts.now worked.now }
 {
     if starts.len() != m {
         return true;
@@ -72,9 +72,9 @@ fn found_in(
     worked: &[u32],
 ) -> schedule::Checked
     requires { Readable s.now × Listed starts.now worked.now }
-    ensures { result ≡ checkOf
-        (crewNet rows.now (arcWeight s.now (at worked.now)) starts.now)
-        (workOf q.demand q.available starts.now worked.now) }
+    ensures { result ≡ check_of
+        (crew_net rows.now (arc_weight s.now (at worked.now)) starts.now)
+        (work_of q.demand q.available starts.now worked.now) }
 {
     let mut waits = [0u32; ELEMENTS * ELEMENTS];
     plan::store_waits(s, &mut waits);
@@ -85,7 +85,7 @@ fn found_in(
 
 // Crew check of a start and a worked duration for each activity of the plan.
 pub fn crew_check(s: &[u8], starts: &[u32], worked: &[u32]) -> CrewChecked
-    ensures { result ≡ crewCheckAnswer s.now starts.now worked.now }
+    ensures { result ≡ crew_check_answer s.now starts.now worked.now }
 {
     let opened = open_plan(s);
     let q = opened.plan;

@@ -1,10 +1,10 @@
 // Flow: how the units of one kind pass from activity to activity, as records.
 ghost use Rattle.std.specs.Prelude.{◌≡◌, ◌≤◌, length};
 ghost use Rattle.order.specs.Stored.{elements};
-ghost use Rattle.planner.specs.Flow.{isKind, flowAnswer, flowOut};
-ghost use Rattle.planner.specs.File.{flowLength};
-ghost use Rattle.planner.specs.model.Opening.{kindFaultIn};
-ghost use Rattle.planner.specs.model.Records.{FlowAsked, flowPut};
+ghost use Rattle.planner.specs.Flow.{is_kind, flow_answer, flow_out};
+ghost use Rattle.planner.specs.File.{flow_length};
+ghost use Rattle.planner.specs.model.Opening.{kind_fault_in};
+ghost use Rattle.planner.specs.model.Records.{FlowAsked, flow_put};
 ghost use Rattle.kinds.specs.model.Writing.{lent};
 
 use crate::answer::output_of;
@@ -15,7 +15,7 @@ use order::Order;
 
 // Whether a kind is one of 1 to n.
 pub fn is_kind(kind: usize, n: usize) -> bool
-    ensures { result ≡ isKind kind n }
+    ensures { result ≡ is_kind kind n }
 {
     if kind == 0 {
         return false;
@@ -26,7 +26,7 @@ pub fn is_kind(kind: usize, n: usize) -> bool
 // How many bytes are to be lent for a flow of m activities.
 fn flow_length(m: usize) -> usize
     requires { m ≤ elements }
-    ensures { result ≡ flowLength m }
+    ensures { result ≡ flow_length m }
 {
     if m == 0 {
         return 24;
@@ -45,7 +45,7 @@ pub fn kind_fault(
     needed: usize,
 ) -> Fault
     requires { (q.count ≤ elements) × (q.kinds ≤ 8) }
-    ensures { result ≡ kindFaultIn fault order q kind lent needed }
+    ensures { result ≡ kind_fault_in fault order q kind lent needed }
 {
     let n = q.kinds;
     let known = or_cause(fault, !is_kind(kind, n), Cause::NoKind(n));
@@ -57,7 +57,7 @@ pub fn kind_fault(
 // order. Gives their number.
 pub fn write_records(out: &mut [u8], order: Order, job: Order, q: plan::Plan, k: usize) -> usize
     requires { FlowAsked order q k out.old }
-    ensures { lent result out.new ≡ flowPut order job q k out.old }
+    ensures { lent result out.new ≡ flow_put order job q k out.old }
 {
     let demand = q.demand;
     let available = q.available;
@@ -66,8 +66,8 @@ pub fn write_records(out: &mut [u8], order: Order, job: Order, q: plan::Plan, k:
 
 // Flow: the records of a kind's flow, to the front of the lent bytes.
 pub fn flow(s: &[u8], kind: usize, out: &mut [u8]) -> Output
-    ensures value { result ≡ flowAnswer s.now kind (length out.old) }
-    ensures out_after { out.new ≡ flowOut s.now kind out.old }
+    ensures value { result ≡ flow_answer s.now kind (length out.old) }
+    ensures out_after { out.new ≡ flow_out s.now kind out.old }
 {
     let opened = open_plan(s);
     let q = opened.plan;

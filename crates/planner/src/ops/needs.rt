@@ -2,8 +2,8 @@
 ghost use Rattle.std.specs.Prelude.{◌≡◌, ◌≤◌, length, replicate};
 ghost use Rattle.words.specs.Tables.{over};
 ghost use Rattle.order.specs.Stored.{elements};
-ghost use Rattle.kinds.specs.Needs.{needsFor};
-ghost use Rattle.planner.specs.Needs.{needsAnswer, needsOut};
+ghost use Rattle.kinds.specs.Needs.{needs_for};
+ghost use Rattle.planner.specs.Needs.{needs_answer, needs_out};
 
 use crate::Output;
 use crate::answer::output_of;
@@ -14,7 +14,7 @@ use order::Order;
 // The needs of a plan's kinds, by its order, and zeros behind them.
 fn needs_of(order: Order, q: plan::Plan) -> [u32; 8]
     requires { (q.count ≤ elements) × (q.kinds ≤ 8) }
-    ensures { result ≡ over q.kinds (needsFor q.count order q.demand q.kinds) (replicate 8 0) }
+    ensures { result ≡ over q.kinds (needs_for q.count order q.demand q.kinds) (replicate 8 0) }
 {
     let demand = q.demand;
     let mut numbers = [0u32; 8];
@@ -34,8 +34,8 @@ fn put_numbers(out: &mut [u32], numbers: [u32; 8], n: usize)
 
 // Needs: the need of each kind from 1 to K, to the front of the lent numbers.
 pub fn needs(s: &[u8], out: &mut [u32]) -> Output
-    ensures value { result ≡ needsAnswer s.now (length out.old) }
-    ensures out_after { out.new ≡ needsOut s.now out.old }
+    ensures value { result ≡ needs_answer s.now (length out.old) }
+    ensures out_after { out.new ≡ needs_out s.now out.old }
 {
     let opened = open_plan(s);
     let q = opened.plan;

@@ -1,6 +1,6 @@
 // Overload: the record of the lowest kind that needs more than there is, with a set that shows it.
 ghost use Rattle.std.specs.Prelude.{◌≡◌, length};
-ghost use Rattle.planner.specs.Overload.{overloadAnswer, overloadOut};
+ghost use Rattle.planner.specs.Overload.{overload_answer, overload_out};
 
 use crate::Output;
 use crate::answer::output_of;
@@ -9,8 +9,8 @@ use crate::open::open_plan;
 
 // Overload: its record, to the front of the lent bytes, or none where the plan is accepted.
 pub fn overload(s: &[u8], out: &mut [u8]) -> Output
-    ensures value { result ≡ overloadAnswer s.now (length out.old) }
-    ensures out_after { out.new ≡ overloadOut s.now out.old }
+    ensures value { result ≡ overload_answer s.now (length out.old) }
+    ensures out_after { out.new ≡ overload_out s.now out.old }
 {
     let opened = open_plan(s);
     let before = opened.fault;

@@ -6,10 +6,10 @@ ghost use Rattle.order.specs.Before.{Acyclic};
 ghost use Rattle.order.specs.Orders.{Direct};
 ghost use Rattle.plan.specs.Meaning.{Readable};
 ghost use Rattle.schedule.specs.model.Arrays.{AllAtMost};
-ghost use Rattle.crew_sheet.specs.Sheet.{pageBytes, pagesOf, sheetPage, mostLines};
-ghost use Rattle.planner.specs.Output.{outputOf, lentAfter};
-ghost use Rattle.planner.specs.Sheet.{isPage, pageFault, sheetAnswer, sheetOut};
-ghost use Rattle.planner.specs.model.Sheets.{startsIn};
+ghost use Rattle.crew_sheet.specs.Sheet.{page_bytes, pages_of, sheet_page, most_lines};
+ghost use Rattle.planner.specs.Output.{output_of, lent_after};
+ghost use Rattle.planner.specs.Sheet.{is_page, page_fault, sheet_answer, sheet_out};
+ghost use Rattle.planner.specs.model.Sheets.{starts_in};
 
 use crate::answer::output_of;
 use crate::faults::{is_fine, or_cause};
@@ -25,7 +25,7 @@ const RECORDS: usize = 24 * (ACTIVITIES * (ACTIVITIES - 1) / 2 + 2 * ACTIVITIES 
 
 // Whether a page is one of 1 to n.
 fn is_page(page: usize, n: usize) -> bool
-    ensures { result ≡ isPage page n }
+    ensures { result ≡ is_page page n }
 {
     is_kind(page, n)
 }
@@ -34,7 +34,7 @@ fn is_page(page: usize, n: usize) -> bool
 fn starts_of(s: &[u8], rows: &Rows, q: plan::Plan) -> [u32; ELEMENTS + 1]
     requires { (q.count ≤ elements) × Readable s.now × Acyclic (Direct rows.now)
         × AllAtMost 65535 q.duration }
-    ensures { result ≡ startsIn s.now rows.now q }
+    ensures { result ≡ starts_in s.now rows.now q }
 {
     let m = q.count;
     let durations = q.duration;
@@ -54,10 +54,10 @@ fn print_page(
     kind: usize,
     page: usize,
 ) -> Output
-    requires { (pageBytes ≤ length out.old) × (n ≤ mostLines) × (24 * n ≤ length records.now) }
-    ensures value { result ≡ outputOf (pageFault n page) (pagesOf n) }
-    ensures out_after { out.new ≡ lentAfter (pageFault n page)
-        (sheetPage records.now starts.now n kind page) out.old }
+    requires { (page_bytes ≤ length out.old) × (n ≤ most_lines) × (24 * n ≤ length records.now) }
+    ensures value { result ≡ output_of (page_fault n page) (pages_of n) }
+    ensures out_after { out.new ≡ lent_after (page_fault n page)
+        (sheet_page records.now starts.now n kind page) out.old }
 {
     let pages = crew_sheet::pages(n);
     let fault = or_cause(Fault::Fine, !is_page(page, pages), Cause::NoPage(pages));
@@ -70,8 +70,8 @@ fn print_page(
 
 // Sheet: a page of a kind's flow, as text, to the front of the lent bytes.
 pub fn sheet(s: &[u8], kind: usize, page: usize, out: &mut [u8]) -> Output
-    ensures value { result ≡ sheetAnswer s.now kind page (length out.old) }
-    ensures out_after { out.new ≡ sheetOut s.now kind page out.old }
+    ensures value { result ≡ sheet_answer s.now kind page (length out.old) }
+    ensures out_after { out.new ≡ sheet_out s.now kind page out.old }
 {
     let opened = open_plan(s);
     let q = opened.plan;

@@ -6,9 +6,9 @@ ghost use Rattle.order.specs.Before.{Acyclic};
 ghost use Rattle.order.specs.Orders.{Direct};
 ghost use Rattle.plan.specs.Meaning.{Readable};
 ghost use Rattle.schedule.specs.Lists.{at};
-ghost use Rattle.schedule.specs.model.Arrays.{AllAtMost, startsOf};
-ghost use Rattle.planner.specs.Times.{arcWeight};
-ghost use Rattle.planner.specs.Starts.{startsAnswer, startsOut, withEnd};
+ghost use Rattle.schedule.specs.model.Arrays.{AllAtMost, starts_of};
+ghost use Rattle.planner.specs.Times.{arc_weight};
+ghost use Rattle.planner.specs.Starts.{starts_answer, starts_out, with_end};
 
 use crate::Output;
 use crate::answer::output_of;
@@ -19,7 +19,7 @@ use order::{ELEMENTS, Rows};
 // Writes m starts and the start of the end to the front of the lent numbers.
 pub fn put_starts(out: &mut [u32], starts: &[u32; ELEMENTS], m: usize, end: u32)
     requires { (m ≤ elements) × (m + 1 ≤ length out.old) }
-    ensures { out.new ≡ over (m + 1) (withEnd m starts.now end) out.old }
+    ensures { out.new ≡ over (m + 1) (with_end m starts.now end) out.old }
 {
     for i in 0..m {
         out[i] = starts[i];
@@ -31,7 +31,7 @@ pub fn put_starts(out: &mut [u32], starts: &[u32; ELEMENTS], m: usize, end: u32)
 // read here.
 pub fn first_starts(s: &[u8], rows: &Rows, durations: &[u32; ELEMENTS]) -> [u32; ELEMENTS]
     requires { Readable s.now × Acyclic (Direct rows.now) × AllAtMost 65535 durations.now }
-    ensures { result ≡ startsOf rows.now (arcWeight s.now (at durations.now)) }
+    ensures { result ≡ starts_of rows.now (arc_weight s.now (at durations.now)) }
 {
     let mut waits = [0u32; ELEMENTS * ELEMENTS];
     plan::store_waits(s, &mut waits);
@@ -40,8 +40,8 @@ pub fn first_starts(s: &[u8], rows: &Rows, durations: &[u32; ELEMENTS]) -> [u32;
 
 // Starts: those of the m activities, and then that of the end, to the front of the lent numbers.
 pub fn starts(s: &[u8], out: &mut [u32]) -> Output
-    ensures value { result ≡ startsAnswer s.now (length out.old) }
-    ensures out_after { out.new ≡ startsOut s.now out.old }
+    ensures value { result ≡ starts_answer s.now (length out.old) }
+    ensures out_after { out.new ≡ starts_out s.now out.old }
 {
     let opened = open_plan(s);
     let q = opened.plan;

@@ -1,11 +1,11 @@
 // Trim: a plan without the extra arcs that it can do without (document 02, change 7).
 ghost use Rattle.std.specs.Prelude.{◌≡◌, true, ◌*◌, ◌≤◌, ◌<◌, length};
 ghost use Rattle.order.specs.Stored.{elements};
-ghost use Rattle.order.specs.Orders.{afterRows, order_in, joinedRows};
-ghost use Rattle.planner.specs.Open.{planIn, planOrder, Opens};
-ghost use Rattle.planner.specs.Verdict.{isAccepted};
-ghost use Rattle.planner.specs.Trim.{trimmedRows, trimAnswer, trimOut};
-ghost use Rattle.planner.specs.model.Trimming.{followsIn, extraLeft, OrderHeld};
+ghost use Rattle.order.specs.Orders.{after_rows, order_in, joined_rows};
+ghost use Rattle.planner.specs.Open.{plan_in, plan_order, Opens};
+ghost use Rattle.planner.specs.Verdict.{is_accepted};
+ghost use Rattle.planner.specs.Trim.{trimmed_rows, trim_answer, trim_out};
+ghost use Rattle.planner.specs.model.Trimming.{follows_in, extra_left, OrderHeld};
 
 use crate::Output;
 use crate::answer::output_of;
@@ -16,7 +16,7 @@ use order::{CELLS, ELEMENTS, Order, Rows};
 // Whether the pair of an extra arc follows from the other arcs: then the order is the same without it.
 fn follows(job: &Rows, extra: &Rows, afters: &Rows, i: usize, j: usize) -> bool
     requires { (i < elements) × (j < elements) }
-    ensures { result ≡ followsIn job.now extra.now afters.now i j }
+    ensures { result ≡ follows_in job.now extra.now afters.now i j }
 {
     let others = order::row(job, i).union(order::row(extra, i).without(j));
     if others.has(j) {
@@ -42,9 +42,9 @@ fn consider(
 )
     requires { (i < elements) × (j < elements) × (m ≤ elements) × (n ≤ 8)
         × OrderHeld job.now extra.old afters.old }
-    ensures extra_after { extra.new ≡ extraLeft m job.now demand.now available.now
+    ensures extra_after { extra.new ≡ extra_left m job.now demand.now available.now
         n free.now afters.old extra.old i j }
-    ensures afters_after { afters.new ≡ afterRows (order_in (joinedRows job.now extra.new)) }
+    ensures afters_after { afters.new ≡ after_rows (order_in (joined_rows job.now extra.new)) }
 {
     if !order::row(free, i).has(j) {
         return;
@@ -69,8 +69,8 @@ fn consider(
 // The extra arcs that are left of a plan that is accepted, with its order: each arc that may go is
 // considered, by from, then to.
 fn extra_left(s: &[u8], q: plan::Plan, order: Order) -> Rows
-    requires { Opens s.now × (q ≡ planIn s.now) × (order ≡ planOrder s.now) × (isAccepted q ≡ true) }
-    ensures { result ≡ trimmedRows s.now }
+    requires { Opens s.now × (q ≡ plan_in s.now) × (order ≡ plan_order s.now) × (is_accepted q ≡ true) }
+    ensures { result ≡ trimmed_rows s.now }
 {
     let mut free: Rows = [0; CELLS];
     plan::store_free(s, &mut free);
@@ -103,8 +103,8 @@ fn extra_left(s: &[u8], q: plan::Plan, order: Order) -> Rows
 
 // Trim: the plan without the extra arcs of wait 0 that it can do without, to the front of the lent bytes.
 pub fn trim(s: &[u8], out: &mut [u8]) -> Output
-    ensures value { result ≡ trimAnswer s.now (length out.old) }
-    ensures out_after { out.new ≡ trimOut s.now out.old }
+    ensures value { result ≡ trim_answer s.now (length out.old) }
+    ensures out_after { out.new ≡ trim_out s.now out.old }
 {
     let opened = open_plan(s);
     let q = opened.plan;

@@ -1,6 +1,6 @@
 // Verdict: whether a plan is accepted.
 ghost use Rattle.std.specs.Prelude.{◌≡◌};
-ghost use Rattle.planner.specs.Verdict.{verdictOf, verdictAnswer};
+ghost use Rattle.planner.specs.Verdict.{verdict_of, verdict_answer};
 
 use crate::faults::or_overloaded;
 use crate::open::open_plan;
@@ -8,7 +8,7 @@ use crate::{Decision, Fault};
 
 // The answer, by the fault, m and K.
 fn verdict_of(fault: Fault, activities: usize, kinds: usize) -> Decision
-    ensures { result ≡ verdictOf fault activities kinds }
+    ensures { result ≡ verdict_of fault activities kinds }
 {
     match fault {
         Fault::Fine => Decision::Accepted { activities, kinds },
@@ -18,7 +18,7 @@ fn verdict_of(fault: Fault, activities: usize, kinds: usize) -> Decision
 
 // Verdict: whether the plan is accepted.
 pub fn verdict(s: &[u8]) -> Decision
-    ensures { result ≡ verdictAnswer s.now }
+    ensures { result ≡ verdict_answer s.now }
 {
     let opened = open_plan(s);
     let q = opened.plan;

@@ -2,17 +2,17 @@
 -- writing there (`tail_written`).
 use Prim.Native.Nat.{◌*◌}
 use borrow.Author.Rules.{rules}
-use Rattle.records.specs.Records.{bytes, flowRecord}
+use Rattle.records.specs.Records.{bytes, flow_record}
 use Rattle.records.proofs.Steps.{tail_written}
 use Rattle.records.proofs.append_flow.Statement.{statement}
 use Rattle.records.proofs.append_flow.Tie as tie
 
 returns : tie.Need-returns
-unfolding flowRecord bytes
+unfolding flow_record bytes
 returns c =
     let w = c.before.before in
     let a = w.before.before.before.args in
-    tail_written (24 * a.n) (flowRecord a.kind a.from a.to a.units a.mark) a.out.now w.write-flow.new.0 w.write-flow.ensures
+    tail_written (24 * a.n) (flow_record a.kind a.from a.to a.units a.mark) a.out.now w.write-flow.new.0 w.write-flow.ensures
 
 pub append-flow-spec : {M : Type 1} → statement M
 append-flow-spec =

@@ -1,8 +1,8 @@
--- `records::begin` meets its contract: zeros, and then four stores (`begin-steps`).
+-- `records::begin` meets its contract: zeros, and then four stores (`begin_steps`).
 use borrow.Author.Rules.{rules}
 use native.Mathlib.Omega.{arith}
 use lib.ListN.{length-set}
-use Rattle.records.proofs.Steps.{begin-steps}
+use Rattle.records.proofs.Steps.{begin_steps}
 use Rattle.records.proofs.begin.Statement.{statement}
 use Rattle.records.proofs.begin.Tie as tie
 
@@ -19,7 +19,7 @@ returns : tie.Need-returns
 returns c =
     let p = c.before.before in
     let a = p.before.before.before.args in
-    begin-steps a.b0 a.b1 a.b2 a.b3 a.out.now p.put.new.0 p.put.ensures
+    begin_steps a.b0 a.b1 a.b2 a.b3 a.out.now p.put.new.0 p.put.ensures
 
 pub begin-spec : {M : Type 1} → statement M
 begin-spec = tie.close (tie.spec (λ c κs. search rules) (λ c. search rules) slice-write-out-2 slice-write-out-3 slice-write-out-4 (λ c. search rules) returns)

@@ -1,7 +1,7 @@
 -- `records::put` meets its contract: each turn writes one byte more of the number (`Puts`).
 use Prim.Native.Nat.{◌-◌}
 use native.Mathlib.Omega.{arith}
-use Rattle.records.proofs.Puts.{Putting, putting-none, putting-next, putting-length, putting-all}
+use Rattle.records.proofs.Puts.{Putting, putting_none, putting_next, putting_length, putting_all}
 use Rattle.records.proofs.put.Statement.{statement}
 use Rattle.records.proofs.put.Tie as tie
 
@@ -12,32 +12,32 @@ abbrev decreases-loop : tie.decreases-loop
 decreases-loop out₀ at n x rest₀ i₀ out rest i = n - i
 
 loop-holds : tie.Need-loop-init invariant-loop decreases-loop
-loop-holds c = let a = c.args in putting-none a.at a.n a.x a.out.now
+loop-holds c = let a = c.args in putting_none a.at a.n a.x a.out.now
 
 slice-write-out : tie.Need-slice-write-out invariant-loop decreases-loop
 slice-write-out c =
     let b = c.before in
     let a = b.before.args in
-    let e = putting-length a.at a.n a.x a.out.now b.loop.rest b.loop.i b.loop.out b.loop.invariant b.before.requires in
+    let e = putting_length a.at a.n a.x a.out.now b.loop.rest b.loop.i b.loop.out b.loop.invariant b.before.requires in
     omega arith
 
 loop-again : tie.Need-loop-preserved invariant-loop decreases-loop
 loop-again c =
     let b = c.before in
     let a = b.before.args in
-    putting-next a.at a.n a.x a.out.now b.loop.rest b.loop.i b.loop.out b.loop.invariant b.before.requires (omega arith)
+    putting_next a.at a.n a.x a.out.now b.loop.rest b.loop.i b.loop.out b.loop.invariant b.before.requires (omega arith)
 
 same_length : tie.Need-same-length invariant-loop decreases-loop
 same_length c =
     let b = c.before in
     let a = b.before.args in
-    putting-length a.at a.n a.x a.out.now b.loop.rest b.loop.i b.loop.out b.loop.invariant b.before.requires
+    putting_length a.at a.n a.x a.out.now b.loop.rest b.loop.i b.loop.out b.loop.invariant b.before.requires
 
 returns : tie.Need-returns invariant-loop decreases-loop
 returns c =
     let b = c.before in
     let a = b.before.args in
-    putting-all a.at a.n a.x a.out.now b.loop.rest b.loop.i b.loop.out b.loop.invariant b.before.requires (omega arith)
+    putting_all a.at a.n a.x a.out.now b.loop.rest b.loop.i b.loop.out b.loop.invariant b.before.requires (omega arith)
 
 pub put_spec : {M : Type 1} → statement M
 put_spec =

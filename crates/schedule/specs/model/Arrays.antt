@@ -5,28 +5,28 @@ use Rattle.words.specs.Tables.{table}
 use Rattle.order.specs.Rows.{after}
 use Rattle.schedule.specs.Lists.{at}
 use Rattle.schedule.specs.Network.{Network}
-use Rattle.schedule.specs.Starts.{earliestOf}
+use Rattle.schedule.specs.Starts.{earliest_of}
 use Rattle.schedule.specs.Checks.{Work}
 use Rattle.order.specs.Stored.{elements}
 
 -- ---- for the earliest starts
 
 -- the network of all elements with an arc from i to each member of row i
-abbrev pub netOf : List ℕ → (ℕ → ℕ → ℕ) → Network
-netOf rows weight = record { elements = elements; arc = after rows; weight = weight }
+abbrev pub net_of : List ℕ → (ℕ → ℕ → ℕ) → Network
+net_of rows weight = record { elements = elements; arc = after rows; weight = weight }
 
 -- the weight of an arc without a wait: the duration of the element that it comes from
-abbrev pub byDuration : List ℕ → ℕ → ℕ → ℕ
-byDuration durations i j = at durations i
+abbrev pub by_duration : List ℕ → ℕ → ℕ → ℕ
+by_duration durations i j = at durations i
 
 -- the weight of an arc with a wait: the duration of the element that it comes from, and the wait on the arc
 -- from i to j, which stands at elements * j + i (the arcs into j together)
-abbrev pub withWaits : List ℕ → List ℕ → ℕ → ℕ → ℕ
-withWaits durations waits i j = at durations i + at waits (elements * j + i)
+abbrev pub with_waits : List ℕ → List ℕ → ℕ → ℕ → ℕ
+with_waits durations waits i j = at durations i + at waits (elements * j + i)
 
 -- the earliest starts of all elements
-unfoldable pub startsOf : List ℕ → (ℕ → ℕ → ℕ) → List ℕ
-startsOf rows weight = table elements (earliestOf (netOf rows weight))
+unfoldable pub starts_of : List ℕ → (ℕ → ℕ → ℕ) → List ℕ
+starts_of rows weight = table elements (earliest_of (net_of rows weight))
 
 -- each of the numbers is at most b (a file's durations and waits are at most 65,535)
 abbrev pub AllAtMost : ℕ → List ℕ → Type 0
@@ -44,12 +44,12 @@ pub record Listed (starts worked : List ℕ) : Type 0 where
   pub paired : length worked ≡ length starts
 
 -- the network of as many elements as there are starts
-abbrev pub crewNet : List ℕ → (ℕ → ℕ → ℕ) → List ℕ → Network
-crewNet rows weight starts = record { elements = length starts; arc = after rows; weight = weight }
+abbrev pub crew_net : List ℕ → (ℕ → ℕ → ℕ) → List ℕ → Network
+crew_net rows weight starts = record { elements = length starts; arc = after rows; weight = weight }
 
 -- the work of the crew: the demand of the element i for kind k stands at elements * k + i
-abbrev pub workOf : List ℕ → List ℕ → List ℕ → List ℕ → Work
-workOf demands available starts worked =
+abbrev pub work_of : List ℕ → List ℕ → List ℕ → List ℕ → Work
+work_of demands available starts worked =
     record {
       count = length starts;
       start = at starts;

@@ -7,24 +7,24 @@ use Rattle.words.specs.Tables.{table}
 use Rattle.words.specs.model.Loops.{each, upto}
 use Rattle.order.specs.Stored.{row}
 use Rattle.schedule.specs.Network.{Network, Schedule, Ranked}
-use Rattle.schedule.specs.Starts.{asked, earliestOf}
+use Rattle.schedule.specs.Starts.{asked, earliest_of}
 use Rattle.schedule.specs.Checks.{Work, overloaded}
-use Rattle.schedule.specs.model.Arrays.{netOf}
+use Rattle.schedule.specs.model.Arrays.{net_of}
 use Rattle.order.specs.Stored.{elements, everyone}
 
 -- ---- earliest starts. `done` is the word of the elements that have their start.
 
 -- the row of the element i, as far as it still keeps others waiting: not at all once i is done
-abbrev pub openRow : ℕ → ℕ → ℕ → ℕ
-openRow done i w = cond (bit done i) 0 w
+abbrev pub open_row : ℕ → ℕ → ℕ → ℕ
+open_row done i w = cond (bit done i) 0 w
 
 -- the elements that have an arc from one of the first n that is not done
-unfoldable pub waitingFor : ℕ → List ℕ → ℕ → ℕ
-waitingFor n rows done = upto (λ i w. bit_or w (openRow done i (row rows i))) n 0
+unfoldable pub waiting_for : ℕ → List ℕ → ℕ → ℕ
+waiting_for n rows done = upto (λ i w. bit_or w (open_row done i (row rows i))) n 0
 
 -- the elements that are not done, and whose arcs all come from elements that are
-unfoldable pub readyOf : List ℕ → ℕ → ℕ
-readyOf rows done = minus (minus (everyone) (waitingFor elements rows done)) done
+unfoldable pub ready_of : List ℕ → ℕ → ℕ
+ready_of rows done = minus (minus (everyone) (waiting_for elements rows done)) done
 
 -- one level: each ready element gets what the arcs ask of it by the starts s, in the list l
 abbrev pub place : Network → Schedule → List ℕ → ℕ → List ℕ
@@ -34,13 +34,13 @@ abbrev pub placed : Network → Schedule → List ℕ → ℕ → List ℕ
 placed g s l ready = each elements (place g s) l ready
 
 -- the starts of those that are done, and 0 for the others
-unfoldable pub startsBy : Network → ℕ → List ℕ
-startsBy g done = table elements (λ i. cond (bit done i) (earliestOf g i) 0)
+unfoldable pub starts_by : Network → ℕ → List ℕ
+starts_by g done = table elements (λ i. cond (bit done i) (earliest_of g i) 0)
 
 -- each element of rank below r is done, by whatever rank rises along every arc
 abbrev pub RanksDone : List ℕ → (ℕ → ℕ → ℕ) → ℕ → ℕ → Type 0
 RanksDone rows weight done r =
-    (R : Ranked (netOf rows weight)) (j : ℕ) → j < elements → R.rank j < r → bit done j ≡ true
+    (R : Ranked (net_of rows weight)) (j : ℕ) → j < elements → R.rank j < r → bit done j ≡ true
 
 -- ---- the first period. What is occupied rises only after a start,
 -- so only the periods that follow one are tried.
@@ -53,5 +53,5 @@ pub record Best (c : Work) (n best : ℕ) : Type 0 where
       → (0 < best) × (best ≤ suc (c.start i))
 
 -- the sooner of the periods `best` and t, where t counts if it is over, and `best` if it is not 0
-abbrev pub soonerOf : Bool → ℕ → ℕ → ℕ
-soonerOf over best t = cond over (cond (eqb best 0) t (cond (ltb t best) t best)) best
+abbrev pub sooner_of : Bool → ℕ → ℕ → ℕ
+sooner_of over best t = cond over (cond (eqb best 0) t (cond (ltb t best) t best)) best

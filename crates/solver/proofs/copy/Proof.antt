@@ -1,7 +1,7 @@
 -- `copy` meets its contract. The invariant: the list has the entries passed.
 use Rattle.std.proofs.Common.{◌≡◌, ◌-◌, ◌≤◌, refl, arith, rules}
 use Rattle.words.specs.model.Loops.{upto}
-use Rattle.words.proofs.Loops.{up_none, up-again, up-end}
+use Rattle.words.proofs.Loops.{up_none, up_again, up_end}
 use Rattle.solver.specs.model.Solve.{blanks}
 use Rattle.solver.specs.model.Quote.{copying, copied}
 use Rattle.solver.proofs.copy.Statement.{statement}
@@ -18,11 +18,11 @@ unfolding blanks
 loop-holds c = (up_none _ _, omega arith)
 
 loop-again : tie.Need-loop-preserved invariant-loop decreases-loop
-loop-again c = up-again _ _ _ _ c.before.loop-test.true c.before.before.loop.invariant refl
+loop-again c = up_again _ _ _ _ c.before.loop-test.true c.before.before.loop.invariant refl
 
 returns : tie.Need-returns invariant-loop decreases-loop
 unfolding copied
-returns c = up-end _ _ _ _ c.loop-test.false c.before.loop.invariant
+returns c = up_end _ _ _ _ c.loop-test.false c.before.loop.invariant
 
 pub copy_spec : {M : Type 1} → statement M
 copy_spec =

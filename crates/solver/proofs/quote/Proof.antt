@@ -1,6 +1,6 @@
 -- `quote` meets its contract, by that of `quote_ranked`.
 use Rattle.std.proofs.Common.{ℕ, List, ap, ◌∙◌, rules}
-use Rattle.solver.specs.model.Quote.{quoteIn, flowIn}
+use Rattle.solver.specs.model.Quote.{quote_in, flow_in}
 use Rattle.solver.proofs.quote.Statement.{statement}
 use Rattle.solver.proofs.quote.Tie as tie
 
@@ -16,8 +16,8 @@ returns c =
     let rows = c.before.before.before.before.before.before.before.before.before in
     let a = rows.before.args in
     let e = c.quote-ranked.ensures in (
-      e.0 ∙ ap (λ (x : List ℕ). quoteIn a.m x a.demand.now) rows.after-rows.ensures,
-      e.1 ∙ ap (λ (x : List ℕ). flowIn a.m x a.demand.now) rows.after-rows.ensures,
+      e.0 ∙ ap (λ (x : List ℕ). quote_in a.m x a.demand.now) rows.after_rows.ensures,
+      e.1 ∙ ap (λ (x : List ℕ). flow_in a.m x a.demand.now) rows.after_rows.ensures,
     )
 
 pub quote-spec : {M : Type 1} → statement M

@@ -1,9 +1,9 @@
 -- The handover and its moves, as functions on lists: the units at i * elements + j, for each taker the word
 -- of those that give to it, and what each giver and each taker has left.
 use Rattle.std.specs.Prelude.{ℕ, ◌+◌, ◌-◌, ◌*◌, ◌%◌, ◌^◌, min, Bool, cond, List, set, ◌==◌, nat_le, slice_index, slice_set}
-use Rattle.words.specs.Bits.{withBit, minus}
+use Rattle.words.specs.Bits.{with_bit, minus}
 use Rattle.words.specs.model.Loops.{each, run}
-use Rattle.order.specs.Stored.{elements, row as set_at, putRow}
+use Rattle.order.specs.Stored.{elements, row as set_at, put_row}
 use Rattle.order.specs.model.Places.{nonzero}
 
 pub record Network : Type 0 where
@@ -28,7 +28,7 @@ handed f i j = slice_index f (cell i j)
 
 -- the word with the member i, or without it where n is 0
 unfoldable pub giver : ℕ → ℕ → ℕ → ℕ
-giver w i n = cond (n == 0) (minus w (2 ^ i)) (withBit w i)
+giver w i n = cond (n == 0) (minus w (2 ^ i)) (with_bit w i)
 
 -- the word of the places below k at which the table's set is not empty
 abbrev pub leaders : ℕ → List ℕ → ℕ
@@ -38,22 +38,22 @@ leaders k rows = nonzero k (λ i. set_at rows i)
 abbrev pub move : Network → ℕ → ℕ → ℕ → Network
 move s i j n =
     network (slice_set s.flow (cell i j) n)
-    (putRow s.givers j (giver (set_at s.givers j) i n))
+    (put_row s.givers j (giver (set_at s.givers j) i n))
     s.left s.right
 
-abbrev pub toLeft : Network → ℕ → ℕ → Network
-toLeft s i n = network s.flow s.givers (slice_set s.left i n) s.right
+abbrev pub to_left : Network → ℕ → ℕ → Network
+to_left s i n = network s.flow s.givers (slice_set s.left i n) s.right
 
-abbrev pub toRight : Network → ℕ → ℕ → Network
-toRight s j n = network s.flow s.givers s.left (slice_set s.right j n)
+abbrev pub to_right : Network → ℕ → ℕ → Network
+to_right s j n = network s.flow s.givers s.left (slice_set s.right j n)
 
 -- what both the giver i and the taker j have left is handed over
 unfoldable pub joined : Network → ℕ → ℕ → Network
 joined s i j =
     let d = min (slice_index s.left i) (slice_index s.right j) in
     let s₁ = move s i j (wrap (slice_index s.flow (cell i j) + d)) in
-    let s₂ = toLeft s₁ i (slice_index s₁.left i - d) in
-    toRight s₂ j (slice_index s₂.right j - d)
+    let s₂ = to_left s₁ i (slice_index s₁.left i - d) in
+    to_right s₂ j (slice_index s₂.right j - d)
 
 -- units that i hands over to the taker k go to the taker j instead, so that k has the more left
 unfoldable pub shifted : Network → ℕ → ℕ → ℕ → Network
@@ -61,18 +61,18 @@ shifted s i k j =
     let d = min (slice_index s.right j) (slice_index s.flow (cell i k)) in
     let s₁ = move s i k (slice_index s.flow (cell i k) - d) in
     let s₂ = move s₁ i j (wrap (slice_index s₁.flow (cell i j) + d)) in
-    let s₃ = toRight s₂ j (slice_index s₂.right j - d) in
-    toRight s₃ k (wrap (slice_index s₃.right k + d))
+    let s₃ = to_right s₂ j (slice_index s₂.right j - d) in
+    to_right s₃ k (wrap (slice_index s₃.right k + d))
 
 -- the givers in the words of the takers in w take all back
 abbrev pub dropping : ℕ → List ℕ → ℕ → List ℕ
 dropping j f i = slice_set f (cell i j) 0
 
-abbrev pub takenFrom : List ℕ → List ℕ → ℕ → List ℕ
-takenFrom givers f j = each elements (dropping j) f (set_at givers j)
+abbrev pub taken_from : List ℕ → List ℕ → ℕ → List ℕ
+taken_from givers f j = each elements (dropping j) f (set_at givers j)
 
-unfoldable pub takenBack : List ℕ → List ℕ → ℕ → List ℕ
-takenBack givers f w = each elements (takenFrom givers) f w
+unfoldable pub taken_back : List ℕ → List ℕ → ℕ → List ℕ
+taken_back givers f w = each elements (taken_from givers) f w
 
 -- ---- the walk back from a taker with slack to a root, as the parents lead
 
@@ -93,15 +93,15 @@ parent lefts rights w = slice_index lefts (source rights w)
 abbrev pub rooted : List ℕ → List ℕ → Walk → Bool
 rooted lefts rights w = nat_le elements (parent lefts rights w)
 
-abbrev pub atRoot : List ℕ → Walk → Network
-atRoot rights w = joined w.now (source rights w) w.at
+abbrev pub at_root : List ℕ → Walk → Network
+at_root rights w = joined w.now (source rights w) w.at
 
 abbrev pub back : List ℕ → List ℕ → Walk → Walk
 back lefts rights w =
     walk (shifted w.now (source rights w) (parent lefts rights w) w.at) (parent lefts rights w)
 
 abbrev pub augmented : ℕ → List ℕ → List ℕ → Walk → Network
-augmented n lefts rights w = run (rooted lefts rights) (atRoot rights) (λ x. x.now) (back lefts rights) n w
+augmented n lefts rights w = run (rooted lefts rights) (at_root rights) (λ x. x.now) (back lefts rights) n w
 
 -- i hands over what it can to j
 unfoldable pub handing : ℕ → Network → ℕ → Network

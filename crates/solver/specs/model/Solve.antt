@@ -2,10 +2,10 @@
 -- something), and rounds until a search finds nothing. m is the number of elements in use: those from m on
 -- have no units, and are passed over.
 use Rattle.std.specs.Prelude.{◌≡◌, ℕ, ◌%◌, Bool, cond, List, replicate, ◌==◌, nat_le, nat_lt}
-use Rattle.words.specs.Bits.{bit, withBit}
+use Rattle.words.specs.Bits.{bit, with_bit}
 use Rattle.words.specs.Members.{count}
 use Rattle.words.specs.model.Loops.{each, upto, run}
-use Rattle.order.specs.Stored.{elements, cells, number_of, row as set_at, putRow}
+use Rattle.order.specs.Stored.{elements, cells, number_of, row as set_at, put_row}
 use Rattle.order.specs.model.Places.{positive}
 use Rattle.solver.specs.declared.Leads.{Leads}
 use Rattle.solver.specs.model.Search.{Look, Reached, reached, begun, reach}
@@ -15,8 +15,8 @@ unfoldable pub blanks : ℕ → List ℕ
 blanks v = replicate elements v
 
 -- a table of empty sets
-unfoldable pub blankRows : List ℕ
-blankRows = replicate (cells elements) 0
+unfoldable pub blank_rows : List ℕ
+blank_rows = replicate (cells elements) 0
 
 -- ---- the start: the elements with the fewest after them hand over first
 
@@ -26,24 +26,24 @@ abbrev pub rank_of : ℕ → ℕ
 rank_of row = count elements (bit row) % elements
 
 abbrev pub ranked_at : ℕ → ℕ → List ℕ → List ℕ
-ranked_at row i b = cond (row == 0) b (putRow b (rank_of row) (withBit (set_at b (rank_of row)) i))
+ranked_at row i b = cond (row == 0) b (put_row b (rank_of row) (with_bit (set_at b (rank_of row)) i))
 
 abbrev pub ranking : List ℕ → ℕ → List ℕ → List ℕ
 ranking rows i b = ranked_at (set_at rows i) i b
 
 unfoldable pub ranked : ℕ → List ℕ → List ℕ
-ranked m rows = upto (ranking rows) m blankRows
+ranked m rows = upto (ranking rows) m blank_rows
 
 -- an element hands over to all that it is before; then each word of the ranking
 -- that has elements, lowest number first
-abbrev pub handOver : List ℕ → Network → ℕ → Network
-handOver rows s i = each elements (handing i) s (set_at rows i)
+abbrev pub hand_over : List ℕ → Network → ℕ → Network
+hand_over rows s i = each elements (handing i) s (set_at rows i)
 
-abbrev pub handRank : List ℕ → List ℕ → Network → ℕ → Network
-handRank rows b s c = each elements (handOver rows) s (set_at b c)
+abbrev pub hand_rank : List ℕ → List ℕ → Network → ℕ → Network
+hand_rank rows b s c = each elements (hand_over rows) s (set_at b c)
 
 unfoldable pub started : List ℕ → List ℕ → Network → Network
-started rows b s = each elements (handRank rows b) s (leaders elements b)
+started rows b s = each elements (hand_rank rows b) s (leaders elements b)
 
 -- what the rounds ask of an order and its ranking
 abbrev pub LeadsOf : ℕ → List ℕ → List ℕ → Leads → Type 0

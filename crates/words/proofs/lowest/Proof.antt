@@ -1,13 +1,13 @@
--- `words::lowest` meets its contract, by `trailing-first`.
+-- `words::lowest` meets its contract, by `trailing_first`.
 use mathlib.Core.Path.{◌∙◌}
 use borrow.Author.Rules.{rules}
-use Rattle.words.specs.Bits.{wordBits}
-use Rattle.words.proofs.Members.{trailing-first}
+use Rattle.words.specs.Bits.{word_bits}
+use Rattle.words.proofs.Members.{trailing_first}
 use Rattle.words.proofs.lowest.Statement.{statement}
 use Rattle.words.proofs.lowest.Tie as tie
 
 returns : tie.Need-returns
-returns c = c.index.ensures ∙ trailing-first wordBits c.before.args.w
+returns c = c.index.ensures ∙ trailing_first word_bits c.before.args.w
 
 pub lowest-spec : {M : Type 1} → statement M
 lowest-spec = tie.close (tie.spec (λ c κs. search rules) returns)

@@ -3,13 +3,13 @@ use mathlib.Core.Path.{ap}
 use Prim.Native.Nat.{ℕ}
 use lib.Bits.{bit_or}
 use borrow.Author.Rules.{rules}
-use Rattle.words.specs.Bits.{wordBits}
+use Rattle.words.specs.Bits.{word_bits}
 use Rattle.words.proofs.Bits.{shl_one}
 use Rattle.words.proofs.with_bit.Statement.{statement}
 use Rattle.words.proofs.with_bit.Tie as tie
 
 returns : tie.Need-returns
-returns c = ap (λ (x : ℕ). bit_or c.args.w x) (shl_one wordBits c.args.i (search rules))
+returns c = ap (λ (x : ℕ). bit_or c.args.w x) (shl_one word_bits c.args.i (search rules))
 
 pub with-bit-spec : {M : Type 1} → statement M
 with-bit-spec = tie.close (tie.spec (λ c. search rules) returns)

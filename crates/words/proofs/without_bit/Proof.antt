@@ -3,14 +3,14 @@ use mathlib.Core.Path.{ap, ◌∙◌}
 use Prim.Native.Nat.{ℕ}
 use borrow.Author.Rules.{rules}
 use Rattle.words.specs.Bits.{minus}
-use Rattle.words.specs.Bits.{wordBits}
+use Rattle.words.specs.Bits.{word_bits}
 use Rattle.words.proofs.Bits.{shl_one}
 use Rattle.words.proofs.without_bit.Statement.{statement}
 use Rattle.words.proofs.without_bit.Tie as tie
 
 returns : tie.Need-returns
 returns c = let a = c.before.args in
-    c.without.ensures ∙ ap (λ (x : ℕ). minus a.w x) (shl_one wordBits a.i (search rules))
+    c.without.ensures ∙ ap (λ (x : ℕ). minus a.w x) (shl_one word_bits a.i (search rules))
 
 pub without-bit-spec : {M : Type 1} → statement M
 without-bit-spec = tie.close (tie.spec (λ c. search rules) (λ c κs. search rules) returns)

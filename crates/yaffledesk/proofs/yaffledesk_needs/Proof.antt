@@ -2,9 +2,9 @@
 -- lent is as the planner left it.
 use mathlib.Core.Path.{ap, ◌∙◌}
 use lib.ListN.{length}
-use Rattle.planner.specs.Needs.{needsAnswer}
-use Rattle.yaffledesk.specs.Codes.{outputCode}
-use Rattle.yaffledesk.proofs.CodeBounds.{needs-small, same-small}
+use Rattle.planner.specs.Needs.{needs_answer}
+use Rattle.yaffledesk.specs.Codes.{output_code}
+use Rattle.yaffledesk.proofs.CodeBounds.{needs_small, same_small}
 use borrow.Author.Rules.{rules}
 use Rattle.yaffledesk.proofs.yaffledesk_needs.Statement.{statement}
 use Rattle.yaffledesk.proofs.yaffledesk_needs.Tie as tie
@@ -12,11 +12,11 @@ use Rattle.yaffledesk.proofs.yaffledesk_needs.Tie as tie
 output-code-requires : tie.Need-output-code-requires
 output-code-requires c κs =
     let a = c.before.before.before.before.before.before.args in
-    same-small (needsAnswer a.plan.now (length a.out.now)) (search rules)
-    (needs-small a.plan.now (length a.out.now))
+    same_small (needs_answer a.plan.now (length a.out.now)) (search rules)
+    (needs_small a.plan.now (length a.out.now))
 
 returns : tie.Need-returns
-returns c = (c.output-code.ensures ∙ ap outputCode (search rules), search rules)
+returns c = (c.output-code.ensures ∙ ap output_code (search rules), search rules)
 
 pub yaffledesk-needs-spec : {M : Type 1} → statement M
 yaffledesk-needs-spec = tie.close (tie.spec (λ c κs. search rules) output-code-requires (λ c. search rules) returns)

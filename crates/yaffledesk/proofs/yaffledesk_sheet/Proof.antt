@@ -3,9 +3,9 @@
 use mathlib.Core.Path.{ap, ◌∙◌}
 use native.Mathlib.Omega.{arith}
 use lib.ListN.{length}
-use Rattle.planner.specs.Sheet.{sheetAnswer}
-use Rattle.yaffledesk.specs.Codes.{outputCode}
-use Rattle.yaffledesk.proofs.CodeBounds.{sheet-small, same-small}
+use Rattle.planner.specs.Sheet.{sheet_answer}
+use Rattle.yaffledesk.specs.Codes.{output_code}
+use Rattle.yaffledesk.proofs.CodeBounds.{sheet_small, same_small}
 use borrow.Author.Rules.{rules}
 use Rattle.yaffledesk.proofs.yaffledesk_sheet.Statement.{statement}
 use Rattle.yaffledesk.proofs.yaffledesk_sheet.Tie as tie
@@ -13,11 +13,11 @@ use Rattle.yaffledesk.proofs.yaffledesk_sheet.Tie as tie
 output-code-requires : tie.Need-output-code-requires
 output-code-requires c κs =
     let a = c.before.before.before.before.before.before.args in
-    same-small (sheetAnswer a.plan.now a.kind a.page (length a.out.now)) (search rules)
-    (sheet-small a.plan.now (λ i. omega (arith, c.before.before.before.before.before.shared-slice-known.given i)) a.kind a.page (length a.out.now))
+    same_small (sheet_answer a.plan.now a.kind a.page (length a.out.now)) (search rules)
+    (sheet_small a.plan.now (λ i. omega (arith, c.before.before.before.before.before.shared-slice-known.given i)) a.kind a.page (length a.out.now))
 
 returns : tie.Need-returns
-returns c = (c.output-code.ensures ∙ ap outputCode (search rules), search rules)
+returns c = (c.output-code.ensures ∙ ap output_code (search rules), search rules)
 
 pub yaffledesk-sheet-spec : {M : Type 1} → statement M
 yaffledesk-sheet-spec = tie.close (tie.spec (λ c κs. search rules) output-code-requires (λ c. search rules) returns)

@@ -2,9 +2,9 @@
 -- lent is as the planner left it.
 use mathlib.Core.Path.{ap, ◌∙◌}
 use lib.ListN.{length}
-use Rattle.planner.specs.Starts.{startsAnswer}
-use Rattle.yaffledesk.specs.Codes.{outputCode}
-use Rattle.yaffledesk.proofs.CodeBounds.{starts-small, same-small}
+use Rattle.planner.specs.Starts.{starts_answer}
+use Rattle.yaffledesk.specs.Codes.{output_code}
+use Rattle.yaffledesk.proofs.CodeBounds.{starts_small, same_small}
 use borrow.Author.Rules.{rules}
 use Rattle.yaffledesk.proofs.yaffledesk_starts.Statement.{statement}
 use Rattle.yaffledesk.proofs.yaffledesk_starts.Tie as tie
@@ -12,11 +12,11 @@ use Rattle.yaffledesk.proofs.yaffledesk_starts.Tie as tie
 output-code-requires : tie.Need-output-code-requires
 output-code-requires c κs =
     let a = c.before.before.before.before.before.before.args in
-    same-small (startsAnswer a.plan.now (length a.out.now)) (search rules)
-    (starts-small a.plan.now (length a.out.now))
+    same_small (starts_answer a.plan.now (length a.out.now)) (search rules)
+    (starts_small a.plan.now (length a.out.now))
 
 returns : tie.Need-returns
-returns c = (c.output-code.ensures ∙ ap outputCode (search rules), search rules)
+returns c = (c.output-code.ensures ∙ ap output_code (search rules), search rules)
 
 pub yaffledesk-starts-spec : {M : Type 1} → statement M
 yaffledesk-starts-spec = tie.close (tie.spec (λ c κs. search rules) output-code-requires (λ c. search rules) returns)

@@ -1,7 +1,7 @@
 -- `crew_sheet::Page::fill` meets its contract: a walk of its MIR, by hand. The struct is taken apart, and the slice and
 -- the number are passed to `put_lines` with the other arguments, of which the proof knows only that it meets its
 -- contract. The callee is called at the parameters' own lifetimes and shares: the page's borrow is given up for good
--- (`PageHeld.antt`'s `page-gave`); what the shared slices own is had twice, and one copy is kept for the exit.
+-- (`PageHeld.antt`'s `page_gave`); what the shared slices own is had twice, and one copy is kept for the exit.
 use mathlib.Core.Path.{◌≡◌, refl}
 use Prim.Native.Nat.{ℕ, ◌≤◌, ◌<◌, ◌^◌, ◌+◌, ◌*◌}
 use mathlib.Core.List.{[], ◌∷◌, List}
@@ -44,9 +44,9 @@ use denote.Signature.Struct.{in_struct, makes}
 use Rattle.crew_sheet.specs.declared.Page.{Page}
 use Rattle.crew_sheet.specs.contracts.Page as T
 use Rattle.crew_sheet.proofs.Page.TheLaws as T'
-use Rattle.crew_sheet.specs.Sheet.{pagesOf, pageLines, mostLines}
+use Rattle.crew_sheet.specs.Sheet.{pages_of, page_lines, most_lines}
 use Rattle.crew_sheet.specs.Underway.{onto}
-use Rattle.crew_sheet.proofs.PageHeld.{page-gave, page-gave-goes}
+use Rattle.crew_sheet.proofs.PageHeld.{page_gave, page_gave_goes}
 use Rattle.crew_sheet.specs.contracts.fill.put_lines as put-lines
 use Rattle.crew_sheet.proofs.fill.put_lines.Symbol as put-lines-def
 use Rattle.crew_sheet.proofs.fill.put_lines.Symbol.{name as #sheet·put-lines}
@@ -57,7 +57,7 @@ use Rattle.crew_sheet.proofs.Page.fill.Statement as stated
 use Rattle.crew_sheet.proofs.Page.fill.Code as code
 
 abbrev stayed : Stays (fill.ended).signature.params (fill.ended).kept
-stayed = (page-gave, (stay_none_slice (1 ∷ []) tt (plain (λ _. u8)) yes, (stay_none (λ _. usize) yes, (stay_none_slice (2 ∷ []) tt (plain (λ _. u32)) yes, (stay_none (λ _. usize) yes, tt)))))
+stayed = (page_gave, (stay_none_slice (1 ∷ []) tt (plain (λ _. u8)) yes, (stay_none (λ _. usize) yes, (stay_none_slice (2 ∷ []) tt (plain (λ _. u32)) yes, (stay_none (λ _. usize) yes, tt)))))
 
 -- the contract that the proof cites
 abbrev PutLines : {M : Type 1} {𝓤 : Ura M} (𝓛 : Logic 𝓤) (mem : Memory → SProp 𝓤) (run : Routine → Fun 𝓤) → Contract 𝓤
@@ -65,7 +65,7 @@ PutLines 𝓛 mem run = triple_of 𝓛 put-lines.signature (put-lines.spec 𝓛 
 
 -- what is asked of the arguments: at, the lent bytes, n, the flow's bytes, page
 abbrev Asked : ℕ → List ℕ → ℕ → List ℕ → ℕ → Type 0
-Asked n ys k fs p = (k ≤ mostLines) × (24 * k ≤ length fs) × (1 ≤ p) × (p ≤ mostLines) × (n + 2419 ≤ length ys)
+Asked n ys k fs p = (k ≤ most_lines) × (24 * k ≤ length fs) × (1 ≤ p) × (p ≤ most_lines) × (n + 2419 ≤ length ys)
 
 module _ {M : Type 1} {𝓤 : Ura M} (𝓛 : Logic 𝓤) (mem : Memory → SProp 𝓤) (run : Routine → Fun 𝓤) (κ κ₁ κ₂ : Lft) (q q₁ q₂ : Share) (b o : ℕ) (γ : GName) (ys : List ℕ) (f g : MutBor (List ℕ))
     (n k p : ℕ) (n-fits : n < 2 ^ 64) (k-fits : k < 2 ^ 64) (p-fits : p < 2 ^ 64) where
@@ -130,7 +130,7 @@ module _ {M : Type 1} {𝓤 : Ura M} (𝓛 : Logic 𝓤) (mem : Memory → SProp
 
   -- what `put_lines` ensures
   abbrev Said : ℕ → List ℕ → Type 0
-  Said r zs = (r ≡ pagesOf k) × (zs ≡ onto n (pageLines f.now g.now k p) ys)
+  Said r zs = (r ≡ pages_of k) × (zs ≡ onto n (page_lines f.now g.now k p) ys)
 
   goes : Asked n ys k f.now p → ent 𝓤 (on_entry 𝓛 put-lines.signature κs (q, (q₁, (q₂, tt))) passed passed-vals) ((PutLines 𝓛 mem run).pre to)
   goes asked =
@@ -206,7 +206,7 @@ fill_meets : {M : Type 1} {𝓤 : Ura M} (𝓛 : Logic 𝓤) → (mem : Memory �
     → Meets 𝓛 fill.signature (WpFn 𝓤 𝓛.H 𝓣.C 𝓣.Λ code.function) (fill.spec 𝓛 mem run)
 fill_meets {𝓤 = 𝓤} 𝓛 mem run 𝓣 known =
     walk_Meets 𝓛 fill.ended stayed
-    (page-gave-goes 𝓛, (Goes-none_slice 𝓛 3 (1 ∷ []) tt (plain (λ _. u8)) yes, (Goes-none 𝓛 3 (λ _. usize) yes (λ κs x f. refl), (Goes-none_slice 𝓛 3 (2 ∷ []) tt (plain (λ _. u32)) yes, (Goes-none 𝓛 3 (λ _. usize) yes (λ κs x f. refl), tt)))))
+    (page_gave_goes 𝓛, (Goes-none_slice 𝓛 3 (1 ∷ []) tt (plain (λ _. u8)) yes, (Goes-none 𝓛 3 (λ _. usize) yes (λ κs x f. refl), (Goes-none_slice 𝓛 3 (2 ∷ []) tt (plain (λ _. u32)) yes, (Goes-none 𝓛 3 (λ _. usize) yes (λ κs x f. refl), tt)))))
     (fill.clauses 𝓛 mem run) (WpFn 𝓤 𝓛.H 𝓣.C 𝓣.Λ code.function) (WpFn-mono 𝓤 𝓛.H 𝓛.laws 𝓣 code.function) (fill_walks 𝓛 mem run 𝓣.C 𝓣.Λ (fm_of 𝓤 𝓛.H 𝓛.laws 𝓣) known)
 
 pub fill_spec : {M : Type 1} → stated.statement M

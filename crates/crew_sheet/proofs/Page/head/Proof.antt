@@ -1,7 +1,7 @@
 -- `crew_sheet::Page::head` meets its contract: a walk of its MIR, by hand. The slice is lent again to `put_head`, for a
 -- lifetime that is made for the call, and comes back at the list that `put_head` left (`Again.antt`). It goes into the
 -- result, beside the number that `put_head` returned. All that the proof knows of `put_head` is that it meets its
--- contract. The parameter is spent, since the result names its lifetime (`PageHeld.antt`'s `page-spent`).
+-- contract. The parameter is spent, since the result names its lifetime (`PageHeld.antt`'s `page_spent`).
 use mathlib.Core.Path.{◌≡◌, refl, ap}
 use Prim.Native.Nat.{ℕ, ◌≤◌, ◌<◌, ◌^◌, ◌+◌}
 use mathlib.Core.List.{[], ◌∷◌, List}
@@ -46,10 +46,10 @@ use Rattle.crew_sheet.specs.declared.Page.{Page}
 use Rattle.crew_sheet.specs.contracts.Page as T
 use Rattle.crew_sheet.proofs.Page.TheLaws as T'
 use Rattle.lines.specs.Text.{text, more}
-use Rattle.crew_sheet.specs.Sheet.{headLine}
+use Rattle.crew_sheet.specs.Sheet.{head_line}
 use Rattle.crew_sheet.specs.Underway.{onto}
-use Rattle.crew_sheet.proofs.Filling.{head-said}
-use Rattle.crew_sheet.proofs.PageHeld.{page-spent, page-spent-goes}
+use Rattle.crew_sheet.proofs.Filling.{head_said}
+use Rattle.crew_sheet.proofs.PageHeld.{page_spent, page_spent_goes}
 use Rattle.crew_sheet.proofs.LentAgain.{LentAgain, lends_again, comes_back}
 use Rattle.crew_sheet.specs.contracts.text.put_head as put-head
 use Rattle.crew_sheet.proofs.text.put_head.Symbol as put-head-def
@@ -61,7 +61,7 @@ use Rattle.crew_sheet.proofs.Page.head.Statement as stated
 use Rattle.crew_sheet.proofs.Page.head.Code as code
 
 abbrev stayed : Stays (head.ended).signature.params (head.ended).kept
-stayed = (page-spent, (stay_none (λ _. u64) yes, (stay_none (λ _. usize) yes, tt)))
+stayed = (page_spent, (stay_none (λ _. u64) yes, (stay_none (λ _. usize) yes, tt)))
 
 -- the contract that the proof cites
 abbrev PutHead : {M : Type 1} {𝓤 : Ura M} (𝓛 : Logic 𝓤) (mem : Memory → SProp 𝓤) (run : Routine → Fun 𝓤) → Contract 𝓤
@@ -105,7 +105,7 @@ module _ {M : Type 1} {𝓤 : Ura M} (𝓛 : Logic 𝓤) (mem : Memory → SProp
 
   -- what `put_head` ensures
   abbrev Said : ℕ → List ℕ → Type 0
-  Said r zs = text r zs ≡ more (text n ys) (headLine v p)
+  Said r zs = text r zs ≡ more (text n ys) (head_line v p)
 
   goes : (ν : ℕ) (δ : GName) → n + 41 ≤ length ys → ent 𝓤 (sep 𝓤 (A.lft (ν ∷ []) full_share) (sem 𝓛 ((MutSlice (named 0) (ν ∷ []) u8).own_val (x δ ys) (s ∷ [])))) ((PutHead 𝓛 mem run).pre (to-put-head ν δ))
   goes ν δ within =
@@ -119,7 +119,7 @@ module _ {M : Type 1} {𝓤 : Ura M} (𝓛 : Logic 𝓤) (mem : Memory → SProp
   abbrev given-on : ℕ → List ℕ → List Val × (List Val × Unit {0}) → Fml
   given-on r zs vss = fsep ((MutSlice (named 0) κ u8).own_val (x γ zs) vss.0) (fsep (usize.own_val r vss.1.0) ftrue)
 
-  exits : (r : ℕ) (zs : List ℕ) → (r ≡ n + 41) × (zs ≡ onto n (headLine v p) ys) → r < 2 ^ 64 → ent 𝓤 (sep 𝓤 (A.lft κ q) (sem 𝓛 ((MutSlice (named 0) κ u8).own_val (x γ zs) (s ∷ [])))) (Post (mach r))
+  exits : (r : ℕ) (zs : List ℕ) → (r ≡ n + 41) × (zs ≡ onto n (head_line v p) ys) → r < 2 ^ 64 → ent 𝓤 (sep 𝓤 (A.lft κ q) (sem 𝓛 ((MutSlice (named 0) κ u8).own_val (x γ zs) (s ∷ [])))) (Post (mach r))
   exits r zs e r-fits =
       qed 𝓛 (‵ (flft κ q) ∷ ‵ ((MutSlice (named 0) κ u8).own_val (x γ zs) (s ∷ [])) ∷ []) ∵
       suffices ! _ (ends_at 𝓛 head.ended stayed (head.clauses 𝓛 mem run) (((κ, tt), (q, tt), tt, a, vals), tt) (mach r) (record { out = x γ zs; at = r }) ((tt, tt), (tt, (tt, tt))) ((tt, (tt, tt)), (tt, (tt, tt)))) $ says ! (λ i. record { out = x γ (e.1 i); at = e.0 i }) $
@@ -161,7 +161,7 @@ module _ {M : Type 1} {𝓤 : Ura M} (𝓛 : Logic 𝓤) (mem : Memory → SProp
         assigns ! (agg ! (and_then ! (load ! (from ! (stop !)) (look ! 8 refl)) (and_then ! (load ! (from ! (stop !)) (look ! 16 refl)) (no_more !)))) (from ! (stop !)) (init ! 26 refl (tt, ((tt, (record { fits = room.0 }, tt)), (record { fits = is.1 }, tt)))) $
         returns ! (look ! 26 refl) $ forget ! 8 refl $ forget ! 10 refl $ forget ! 12 refl $ forget ! 14 refl $ forget ! 16 refl $ forget ! 18 refl $ forget ! 20 refl $ forget ! 22 refl $ forget ! 24 refl $ forget ! 26 refl $
         move ! (26 ∷ 27 ∷ []) $ free1 ! $ move ! (24 ∷ 25 ∷ []) $ free1 ! $ move ! (22 ∷ 23 ∷ []) $ free1 ! $ move ! (20 ∷ 21 ∷ []) $ free1 ! $ move ! (18 ∷ 19 ∷ []) $ free1 ! $ move ! (16 ∷ 17 ∷ []) $ free1 ! $ move ! (14 ∷ 15 ∷ []) $ free1 ! $ move ! (12 ∷ 13 ∷ []) $ free1 ! $ move ! (10 ∷ 11 ∷ []) $ free1 ! $ move ! (8 ∷ 9 ∷ []) $ free1 ! $ free0 ! $
-        keep ! (1 ∷ 0 ∷ []) $ by ! (exits r zs.0 (head-said n r v p ys zs.0 e) is.1))))))))))))))))))))
+        keep ! (1 ∷ 0 ∷ []) $ by ! (exits r zs.0 (head_said n r v p ys zs.0 e) is.1))))))))))))))))))))
 
 module _ {M : Type 1} {𝓤 : Ura M} (𝓛 : Logic 𝓤) (mem : Memory → SProp 𝓤) (run : Routine → Fun 𝓤) where
   open 𝓛 use {H}
@@ -176,7 +176,7 @@ module _ {M : Type 1} {𝓤 : Ura M} (𝓛 : Logic 𝓤) (mem : Memory → SProp
 head_meets : {M : Type 1} {𝓤 : Ura M} (𝓛 : Logic 𝓤) → (mem : Memory → SProp 𝓤) (run : Routine → Fun 𝓤) (𝓣 : Tables 𝓤 𝓛.H) → Triple 𝓤 (𝓣.C #sheet·put-head) (PutHead 𝓛 mem run)
     → Meets 𝓛 head.signature (WpFn 𝓤 𝓛.H 𝓣.C 𝓣.Λ code.function) (head.spec 𝓛 mem run)
 head_meets {𝓤 = 𝓤} 𝓛 mem run 𝓣 known =
-    walk_Meets 𝓛 head.ended stayed (page-spent-goes 𝓛, (Goes-none 𝓛 1 (λ _. u64) yes (λ κs x f. refl), (Goes-none 𝓛 1 (λ _. usize) yes (λ κs x f. refl), tt))) (head.clauses 𝓛 mem run)
+    walk_Meets 𝓛 head.ended stayed (page_spent_goes 𝓛, (Goes-none 𝓛 1 (λ _. u64) yes (λ κs x f. refl), (Goes-none 𝓛 1 (λ _. usize) yes (λ κs x f. refl), tt))) (head.clauses 𝓛 mem run)
     (WpFn 𝓤 𝓛.H 𝓣.C 𝓣.Λ code.function) (WpFn-mono 𝓤 𝓛.H 𝓛.laws 𝓣 code.function) (head_walks 𝓛 mem run 𝓣.C 𝓣.Λ (fm_of 𝓤 𝓛.H 𝓛.laws 𝓣) known)
 
 pub head_spec : {M : Type 1} → stated.statement M

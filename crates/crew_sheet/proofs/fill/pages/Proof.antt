@@ -1,16 +1,16 @@
 -- `crew_sheet::fill::pages` meets its contract, case by case.
 use borrow.Author.Rules.{rules}
 use native.Mathlib.Omega.{arith}
-use Rattle.crew_sheet.specs.Sheet.{pagesOf}
+use Rattle.crew_sheet.specs.Sheet.{pages_of}
 use Rattle.crew_sheet.proofs.fill.pages.Statement.{statement}
 use Rattle.crew_sheet.proofs.fill.pages.Tie as tie
 
 returns : tie.Need-returns
-unfolding pagesOf
+unfolding pages_of
 returns c = omega arith
 
 returns-2 : tie.Need-returns-2
-unfolding pagesOf
+unfolding pages_of
 returns-2 c = omega arith
 
 pub pages-spec : {M : Type 1} → statement M

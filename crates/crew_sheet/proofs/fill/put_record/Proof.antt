@@ -2,7 +2,7 @@
 use borrow.Author.Rules.{rules}
 use native.Mathlib.Omega.{arith}
 use Rattle.lines.specs.Text.{text}
-use Rattle.crew_sheet.proofs.Filling.{record-put, blank-put}
+use Rattle.crew_sheet.proofs.Filling.{record_put, blank_put}
 use Rattle.crew_sheet.proofs.fill.put_record.Statement.{statement}
 use Rattle.crew_sheet.proofs.fill.put_record.Tie as tie
 
@@ -23,7 +23,7 @@ returns c =
     let w = c.before.before in
     let s = c.before.before.before.before.before.before.before.before.before.before.before.before.before.before in
     let a = s.args in
-    record-put a.flow.now a.starts.now a.n (text a.at a.out.now) a.i c.before.before.before.before.before.before.before.before.before.before.if1.true
+    record_put a.flow.now a.starts.now a.n (text a.at a.out.now) a.i c.before.before.before.before.before.before.before.before.before.before.if1.true
     c.before.before.before.before.before.before.before.before.wide.ensures.0 c.before.before.before.before.before.before.wide2.ensures.0
     c.before.before.before.before.before.four.ensures c.before.before.before.before.start_of_lem.ensures w.put-row.ensures
 
@@ -31,7 +31,7 @@ returns-2 : tie.Need-returns-2
 returns-2 c =
     let w = c.before.before in
     let a = c.before.before.before.before.before.before.before.before.args in
-    blank-put a.flow.now a.starts.now a.n (text a.at a.out.now) a.i c.before.before.before.before.if1.false w.put-blank.ensures
+    blank_put a.flow.now a.starts.now a.n (text a.at a.out.now) a.i c.before.before.before.before.if1.false w.put-blank.ensures
 
 pub put-record-spec : {M : Type 1} → statement M
 put-record-spec =

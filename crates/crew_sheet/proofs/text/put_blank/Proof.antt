@@ -3,8 +3,8 @@ use mathlib.Core.Path.{refl, ◌∙◌}
 use native.Mathlib.Omega.{arith}
 use borrow.Author.Rules.{rules}
 use lib.ListN.{replicate, length-set}
-use Rattle.crew_sheet.specs.Sheet.{blankLine}
-use Rattle.crew_sheet.proofs.LinesWritten.{Grown, grown-length, grown-room, grown-one}
+use Rattle.crew_sheet.specs.Sheet.{blank_line}
+use Rattle.crew_sheet.proofs.LinesWritten.{Grown, grown_length, grown_room, grown_one}
 use Rattle.crew_sheet.proofs.text.put_blank.Statement.{statement}
 use Rattle.crew_sheet.proofs.text.put_blank.Tie as tie
 
@@ -20,26 +20,26 @@ slice-write-out : tie.Need-slice-write-out
 slice-write-out c =
     let p = c.before.before in
     let start = (known p).before in
-    omega (arith, grown-room (first p) 1 start.pre)
+    omega (arith, grown_room (first p) 1 start.pre)
 
 add-result : tie.Need-overflow-add-result
 add-result c =
     let p = c.before.before in
     let start = (known p).before in
-    let same = grown-length (first p) (omega arith) in
-    omega (arith, grown-room (first p) 1 start.pre)
+    let same = grown_length (first p) (omega arith) in
+    omega (arith, grown_room (first p) 1 start.pre)
 
 same_length : tie.Need-same-length
 same_length c =
     let p = c.before.before in
     let start = (known p).before in
-    length-set p.put-blanks.new.0 p.put-blanks.result _ ∙ grown-length (first p) (omega arith)
+    length-set p.put-blanks.new.0 p.put-blanks.result _ ∙ grown_length (first p) (omega arith)
 
 returns : tie.Need-returns
-unfolding blankLine
+unfolding blank_line
 returns c =
     let p = c.before.before in
-    (grown-one (first p) 10 (known p).before.requires).done
+    (grown_one (first p) 10 (known p).before.requires).done
 
 pub put-blank-spec : {M : Type 1} → statement M
 put-blank-spec = tie.close (tie.spec (λ c κs. search rules) slice-write-out add-result same_length returns)

@@ -3,8 +3,8 @@ use native.Mathlib.Omega.{arith}
 use borrow.Author.Rules.{rules}
 use lib.ListN.{length-replicate}
 use Rattle.crew_sheet.specs.Sheet.{column, cell}
-use Rattle.crew_sheet.proofs.Columns.{length-column}
-use Rattle.crew_sheet.proofs.LinesWritten.{Grown, grown-room, grown-more}
+use Rattle.crew_sheet.proofs.Columns.{length_column}
+use Rattle.crew_sheet.proofs.LinesWritten.{Grown, grown_room, grown_more}
 use Rattle.crew_sheet.proofs.text.put_cell.Statement.{statement}
 use Rattle.crew_sheet.proofs.text.put_cell.Tie as tie
 
@@ -14,7 +14,7 @@ module _ (p : tie.After-put-column) where
   known = p.before.before
 
   first : Grown known.before.args.at known.before.args.out.now known.before.args.w (column known.before.args.w known.before.args.x) p.put-column.result p.put-column.last.0
-  first = record { done = p.put-column.ensures; long = length-column _ _ }
+  first = record { done = p.put-column.ensures; long = length_column _ _ }
 
 put-column-requires : tie.Need-put-column-requires
 put-column-requires c κs = omega arith
@@ -22,14 +22,14 @@ put-column-requires c κs = omega arith
 put-blanks-requires : tie.Need-put-blanks-requires
 put-blanks-requires c κs =
     let p = c.before.before.before in
-    grown-room (first p) (known p).before.args.gap (known p).before.requires
+    grown_room (first p) (known p).before.args.gap (known p).before.requires
 
 returns : tie.Need-returns
 unfolding cell
 returns c =
     let q = c.before.before in
     let p = q.before.before.before.before in
-    (grown-more (first p) (record { done = q.put-blanks.ensures; long = length-replicate _ 32 }) (known p).before.requires).done
+    (grown_more (first p) (record { done = q.put-blanks.ensures; long = length-replicate _ 32 }) (known p).before.requires).done
 
 pub put-cell-spec : {M : Type 1} → statement M
 put-cell-spec = tie.close (tie.spec put-column-requires put-blanks-requires (λ c. search rules) returns)

@@ -2,7 +2,7 @@
 -- from the last on (`Aligning`).
 use native.Mathlib.Omega.{arith}
 use borrow.Author.Rules.{rules}
-use Rattle.crew_sheet.proofs.Columns.{Aligning, aligning-none, aligning-next, aligning-length, aligning-end}
+use Rattle.crew_sheet.proofs.Columns.{Aligning, aligning_none, aligning_next, aligning_length, aligning_end}
 use Rattle.crew_sheet.proofs.text.put_column.Statement.{statement}
 use Rattle.crew_sheet.proofs.text.put_column.Tie as tie
 
@@ -13,7 +13,7 @@ abbrev decreases-loop : tie.decreases-loop
 decreases-loop out₀ at w x i₀ rest₀ out i rest = i
 
 loop-holds : tie.Need-loop-init invariant-loop decreases-loop
-loop-holds c = aligning-none
+loop-holds c = aligning_none
 
 sub-figure : tie.Need-overflow-sub-figure invariant-loop decreases-loop
 sub-figure c = c.before.loop.invariant.some
@@ -30,22 +30,22 @@ slice-write-out c =
     let t = c.before.before in
     let some = t.loop.invariant.some in
     let fits = t.before.before.requires in
-    let long = aligning-length t.loop.invariant fits in
+    let long = aligning_length t.loop.invariant fits in
     omega (arith, c.before.loop-test.true)
 
 loop-again : tie.Need-loop-preserved invariant-loop decreases-loop
 loop-again c =
     let t = c.before.before in
-    aligning-next t.loop.invariant t.before.before.requires (omega arith) (omega arith) c.figure.ensures
+    aligning_next t.loop.invariant t.before.before.requires (omega arith) (omega arith) c.figure.ensures
 
 add-result : tie.Need-overflow-add-result invariant-loop decreases-loop
 add-result c = search rules
 
 same_length : tie.Need-same-length invariant-loop decreases-loop
-same_length c = aligning-length c.before.loop.invariant c.before.before.before.requires
+same_length c = aligning_length c.before.loop.invariant c.before.before.before.requires
 
 returns : tie.Need-returns invariant-loop decreases-loop
-returns c = aligning-end c.before.loop.invariant c.before.before.before.requires (omega arith)
+returns c = aligning_end c.before.loop.invariant c.before.before.before.requires (omega arith)
 
 pub put-column-spec : {M : Type 1} → statement M
 put-column-spec =

@@ -5,8 +5,8 @@ use native.Mathlib.Omega.{arith}
 use borrow.Author.Rules.{rules}
 use Rattle.words.specs.Bits.{bit}
 use Rattle.order.specs.Rows.{after}
-use Rattle.order.proofs.Stored.{number-of}
-use Rattle.kinds.proofs.NodeUnits.{mark-end, mark-held, mark-other}
+use Rattle.order.proofs.Stored.{number_of_lem}
+use Rattle.kinds.proofs.NodeUnits.{mark_end, mark_held, mark_other}
 use Rattle.kinds.proofs.flows.mark.Statement.{statement}
 use Rattle.kinds.proofs.flows.mark.Tie as tie
 
@@ -16,23 +16,23 @@ one_less h = omega arith
 returns-2 : tie.Need-returns-2
 returns-2 c =
     let a = c.before.before.args in
-    mark-end (after a.job.now) a.m a.from a.j (omega arith)
+    mark_end (after a.job.now) a.m a.from a.j (omega arith)
 
 returns-3 : tie.Need-returns-3
 returns-3 c =
     let has = c.before in
     let row = has.before in
     let a = row.before.before.before.args in
-    mark-held (after a.job.now) a.m (a.from - 1) a.from a.j (one_less (omega arith)) (omega arith) (omega arith)
-    (sym c.if3.true ∙ has.has.ensures ∙ ap (λ (w : ℕ). bit w a.j) (number-of row.row.result row.row.ensures))
+    mark_held (after a.job.now) a.m (a.from - 1) a.from a.j (one_less (omega arith)) (omega arith) (omega arith)
+    (sym c.if3.true ∙ has.has.ensures ∙ ap (λ (w : ℕ). bit w a.j) (number_of_lem row.row.result row.row.ensures))
 
 returns-4 : tie.Need-returns-4
 returns-4 c =
     let has = c.before in
     let row = has.before in
     let a = row.before.before.before.args in
-    mark-other (after a.job.now) a.m (a.from - 1) a.from a.j (one_less (omega arith)) (omega arith) (omega arith)
-    (sym c.if3.false ∙ has.has.ensures ∙ ap (λ (w : ℕ). bit w a.j) (number-of row.row.result row.row.ensures))
+    mark_other (after a.job.now) a.m (a.from - 1) a.from a.j (one_less (omega arith)) (omega arith) (omega arith)
+    (sym c.if3.false ∙ has.has.ensures ∙ ap (λ (w : ℕ). bit w a.j) (number_of_lem row.row.result row.row.ensures))
 
 pub mark_spec : {M : Type 1} → statement M
 mark_spec =

@@ -4,17 +4,17 @@ use Prim.Native.Nat.{◌+◌, ◌≤◌, ◌-◌}
 use native.Mathlib.Omega.{arith}
 use borrow.Author.Rules.{rules}
 use Rattle.words.specs.model.Loops.{upto}
-use Rattle.words.proofs.Loops.{up_none, up-again}
+use Rattle.words.proofs.Loops.{up_none, up_again}
 use Rattle.order.specs.Rows.{after}
 use Rattle.kinds.specs.Flows.{units, mark_of}
-use Rattle.kinds.specs.model.Writing.{lent, putRow}
-use Rattle.kinds.proofs.RecordRoom.{row_room, rows-length, rows_end}
+use Rattle.kinds.specs.model.Writing.{lent, put_row}
+use Rattle.kinds.proofs.RecordRoom.{row_room, rows_length, rows_end}
 use Rattle.kinds.proofs.flows.put_flow.Statement.{statement}
 use Rattle.kinds.proofs.flows.put_flow.Tie as tie
 
 abbrev invariant-loop : tie.invariant-loop
 invariant-loop out₀ kind m demand flow spare job count₀ from₀ from_end out count from =
-    (lent count out ≡ upto (putRow kind (units m demand flow spare) (mark_of (after job) m) m) from (lent 0 out₀)) × (from ≤ m + 1)
+    (lent count out ≡ upto (put_row kind (units m demand flow spare) (mark_of (after job) m) m) from (lent 0 out₀)) × (from ≤ m + 1)
 
 abbrev decreases-loop : tie.decreases-loop
 decreases-loop out₀ kind m demand flow spare job count₀ from₀ from_end out count from = m + 1 - from
@@ -41,7 +41,7 @@ loop-again c =
     let at = w.before.before.before in
     let a = at.before.before.args in
     let g = units a.m a.demand.now a.flow.now a.spare in
-    up-again (putRow a.kind g (mark_of (after a.job.now) a.m) a.m) (a.m + 1) at.loop.from (lent 0 a.out.now) (omega arith) at.loop.invariant
+    up_again (put_row a.kind g (mark_of (after a.job.now) a.m) a.m) (a.m + 1) at.loop.from (lent 0 a.out.now) (omega arith) at.loop.invariant
     w.put-row.ensures
 
 same_length : tie.Need-same-length invariant-loop decreases-loop
@@ -50,7 +50,7 @@ same_length c =
     let s = at.before.before in
     let a = s.args in
     let g = units a.m a.demand.now a.flow.now a.spare in
-    rows-length a.kind g (mark_of (after a.job.now) a.m) a.m at.loop.from at.loop.count a.out.now at.loop.out s.requires.2
+    rows_length a.kind g (mark_of (after a.job.now) a.m) a.m at.loop.from at.loop.count a.out.now at.loop.out s.requires.2
     (omega arith) at.loop.invariant.0
 
 returns : tie.Need-returns invariant-loop decreases-loop

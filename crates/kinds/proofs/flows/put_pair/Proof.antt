@@ -3,14 +3,14 @@ use mathlib.Core.Path.{sym}
 use native.Mathlib.Omega.{arith}
 use borrow.Author.Rules.{rules}
 use Rattle.kinds.specs.model.Writing.{lent}
-use Rattle.kinds.proofs.RecordRoom.{pair-none, pair_put}
+use Rattle.kinds.proofs.RecordRoom.{pair_none, pair_put}
 use Rattle.kinds.proofs.flows.put_pair.Statement.{statement}
 use Rattle.kinds.proofs.flows.put_pair.Tie as tie
 
 returns : tie.Need-returns
 returns c =
     let a = c.before.before.args in
-    sym (pair-none a.kind a.from a.to a.units a.mark (lent a.n a.out.now) (omega arith))
+    sym (pair_none a.kind a.from a.to a.units a.mark (lent a.n a.out.now) (omega arith))
 
 append-flow-requires : tie.Need-append-flow-requires
 append-flow-requires c κs =

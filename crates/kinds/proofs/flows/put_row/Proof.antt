@@ -8,13 +8,13 @@ use Rattle.words.proofs.Loops.{up_none}
 use Rattle.order.specs.Rows.{after}
 use Rattle.kinds.specs.Flows.{units, mark_of}
 use Rattle.kinds.specs.model.Writing.{lent}
-use Rattle.kinds.proofs.RecordRoom.{pairStep, pair-room, pair-next, pairs-length, pairs_end}
+use Rattle.kinds.proofs.RecordRoom.{pair_step, pair_room, pair_next, pairs_length, pairs_end}
 use Rattle.kinds.proofs.flows.put_row.Statement.{statement}
 use Rattle.kinds.proofs.flows.put_row.Tie as tie
 
 abbrev invariant-loop : tie.invariant-loop
 invariant-loop out₀ n kind from m demand flow spare job count₀ j₀ j-end out count j =
-    (lent count out ≡ upto (pairStep kind (units m demand flow spare) (mark_of (after job) m) from) j (lent n out₀)) × (j ≤ m + 1)
+    (lent count out ≡ upto (pair_step kind (units m demand flow spare) (mark_of (after job) m) from) j (lent n out₀)) × (j ≤ m + 1)
 
 abbrev decreases-loop : tie.decreases-loop
 decreases-loop out₀ n kind from m demand flow spare job count₀ j₀ j-end out count j = m + 1 - j
@@ -31,7 +31,7 @@ put-pair-requires c κs =
     let g = units a.m a.demand.now a.flow.now a.spare in (
       omega arith,
       omega arith,
-      pair-room a.kind g (mark_of (after a.job.now) a.m) a.m a.from a.n at.loop.j at.loop.count x.units.result a.out.now
+      pair_room a.kind g (mark_of (after a.job.now) a.m) a.m a.from a.n at.loop.j at.loop.count x.units.result a.out.now
           at.loop.out s.requires.3 (omega arith) at.loop.invariant.0 x.units.ensures,
     )
 
@@ -43,7 +43,7 @@ loop-again c =
     let at = x.before.before in
     let a = at.before.before.args in
     let g = units a.m a.demand.now a.flow.now a.spare in
-    pair-next a.kind g (mark_of (after a.job.now) a.m) a.m a.from a.n at.loop.j at.loop.count (at.loop.j + 1) x.units.result
+    pair_next a.kind g (mark_of (after a.job.now) a.m) a.m a.from a.n at.loop.j at.loop.count (at.loop.j + 1) x.units.result
     k.mark.result w.put-pair.result a.out.now at.loop.out w.put-pair.new.0 (omega arith) at.loop.invariant (omega arith)
     x.units.ensures k.mark.ensures w.put-pair.ensures
 
@@ -53,7 +53,7 @@ same_length c =
     let s = at.before.before in
     let a = s.args in
     let g = units a.m a.demand.now a.flow.now a.spare in
-    pairs-length a.kind g (mark_of (after a.job.now) a.m) a.m a.from a.n at.loop.j at.loop.count a.out.now at.loop.out
+    pairs_length a.kind g (mark_of (after a.job.now) a.m) a.m a.from a.n at.loop.j at.loop.count a.out.now at.loop.out
     s.requires.3 (omega arith) at.loop.invariant.0
 
 returns : tie.Need-returns invariant-loop decreases-loop

@@ -4,10 +4,10 @@ use Prim.Native.Nat.{ℕ, ◌+◌}
 use native.Mathlib.Omega.{arith}
 use borrow.Author.Rules.{rules}
 use Rattle.solver.specs.model.Quote.{unused}
-use Rattle.kinds.specs.Flows.{pairsOf}
+use Rattle.kinds.specs.Flows.{pairs_of}
 use Rattle.kinds.specs.model.Writing.{Room, lent}
-use Rattle.kinds.proofs.NodeUnits.{mark-rows, solved-need, solved-bounded, solved-units}
-use Rattle.kinds.proofs.RecordRoom.{units-written}
+use Rattle.kinds.proofs.NodeUnits.{mark_rows, solved_need, solved_bounded, solved_units}
+use Rattle.kinds.proofs.RecordRoom.{units_written}
 use Rattle.kinds.proofs.flows.write_flow.Statement.{statement}
 use Rattle.kinds.proofs.flows.write_flow.Tie as tie
 
@@ -21,7 +21,7 @@ sub-spare c =
     let own = q.before.before.before in
     let s = own.before.before in
     let a = s.args in
-    let e = solved-need a.m a.order a.demand.now a.k _ _ q.quote.result own.demands-for.ensures q.quote.ensures.0 q.quote.ensures.1 in
+    let e = solved_need a.m a.order a.demand.now a.k _ _ q.quote.result own.demands-for.ensures q.quote.ensures.0 q.quote.ensures.1 in
     omega (arith, e, s.requires.3)
 
 put-flow-requires : tie.Need-put-flow-requires
@@ -31,11 +31,11 @@ put-flow-requires c κs =
     let s = own.before.before in
     let a = s.args in (
       s.requires.1,
-      solved-bounded a.m a.order a.demand.now a.k _ _ q.quote.result own.demands-for.ensures q.quote.ensures.0 q.quote.ensures.1
+      solved_bounded a.m a.order a.demand.now a.k _ _ q.quote.result own.demands-for.ensures q.quote.ensures.0 q.quote.ensures.1
           s.requires.2,
-      subst (λ (g : ℕ → ℕ → ℕ). Room (pairsOf g (a.m + 2)) a.out.now)
+      subst (λ (g : ℕ → ℕ → ℕ). Room (pairs_of g (a.m + 2)) a.out.now)
           (sym
-          (solved-units a.m a.order a.demand.now a.k _ _ q.quote.result own.demands-for.ensures q.quote.ensures.0 q.quote.ensures.1
+          (solved_units a.m a.order a.demand.now a.k _ _ q.quote.result own.demands-for.ensures q.quote.ensures.0 q.quote.ensures.1
           a.available))
           s.requires.4,
     )
@@ -49,10 +49,10 @@ returns c =
     let own = q.before.before.before in
     let a = own.before.before.args in
     w.put-flow.ensures
-    ∙ units-written a.m (lent 0 a.out.now) b.byte.ensures
-    (solved-units a.m a.order a.demand.now a.k _ _ q.quote.result own.demands-for.ensures q.quote.ensures.0 q.quote.ensures.1
+    ∙ units_written a.m (lent 0 a.out.now) b.byte.ensures
+    (solved_units a.m a.order a.demand.now a.k _ _ q.quote.result own.demands-for.ensures q.quote.ensures.0 q.quote.ensures.1
     a.available)
-    (mark-rows a.job a.m rows.after-rows.ensures)
+    (mark_rows a.job a.m rows.after_rows.ensures)
 
 pub write-flow-spec : {M : Type 1} → statement M
 write-flow-spec =

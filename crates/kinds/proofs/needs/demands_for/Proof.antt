@@ -7,13 +7,13 @@ use borrow.Author.Count.{below_none}
 use borrow.Author.Rules.{rules}
 use Rattle.words.proofs.Tables.{stored_next}
 use Rattle.order.specs.Stored.{elements}
-use Rattle.kinds.specs.Needs.{demandAt}
-use Rattle.kinds.proofs.KindLoops.{demands-made}
+use Rattle.kinds.specs.Needs.{demand_at}
+use Rattle.kinds.proofs.KindLoops.{demands_made}
 use Rattle.kinds.proofs.needs.demands_for.Statement.{statement}
 use Rattle.kinds.proofs.needs.demands_for.Tie as tie
 
 abbrev invariant-loop : tie.invariant-loop
-invariant-loop demand k own₀ i₀ own i = (i ≤ elements) × (length own ≡ elements) × ((j : ℕ) → j < i → get_or own j 0 ≡ demandAt demand k j)
+invariant-loop demand k own₀ i₀ own i = (i ≤ elements) × (length own ≡ elements) × ((j : ℕ) → j < i → get_or own j 0 ≡ demand_at demand k j)
 
 abbrev decreases-loop : tie.decreases-loop
 decreases-loop demand k own₀ i₀ own i = elements - i
@@ -27,14 +27,14 @@ loop-again c =
     let a = at.before.args in (
       omega arith,
       length-set at.loop.own at.loop.i _ ∙ at.loop.invariant.1,
-      stored_next 0 (demandAt a.demand.now a.k) at.loop.own at.loop.i _ (omega arith) at.loop.invariant.2 refl,
+      stored_next 0 (demand_at a.demand.now a.k) at.loop.own at.loop.i _ (omega arith) at.loop.invariant.2 refl,
     )
 
 returns : tie.Need-returns invariant-loop decreases-loop
 returns c =
     let at = c.before in
     let a = at.before.args in
-    demands-made a.demand.now a.k at.loop.own at.loop.invariant.1 (λ j l. at.loop.invariant.2 j (omega arith))
+    demands_made a.demand.now a.k at.loop.own at.loop.invariant.1 (λ j l. at.loop.invariant.2 j (omega arith))
 
 pub demands-for-spec : {M : Type 1} → statement M
 demands-for-spec =

@@ -5,16 +5,16 @@ use Prim.Native.Nat.{◌≤◌, ◌-◌}
 use native.Mathlib.Omega.{arith}
 use borrow.Author.Count.{below_none}
 use borrow.Author.Rules.{rules}
-use Rattle.order.specs.Orders.{afterRows}
+use Rattle.order.specs.Orders.{after_rows}
 use Rattle.order.specs.declared.Order.{Order}
 use Rattle.solver.specs.model.Quote.{unused}
-use Rattle.kinds.proofs.KindLoops.{NoneBelow, quoted-for, lowest-found, lowest-next, lowest-none}
+use Rattle.kinds.proofs.KindLoops.{NoneBelow, quoted_for, lowest_found, lowest_next, lowest_none}
 use Rattle.kinds.proofs.needs.lowest_overload.Statement.{statement}
 use Rattle.kinds.proofs.needs.lowest_overload.Tie as tie
 
 abbrev invariant-loop : tie.invariant-loop
 invariant-loop m demand available n rows ranks leads flow₀ k₀ flow k =
-    (k ≤ n) × ((o : Order) → rows ≡ afterRows o → NoneBelow m o demand available n k) × (flow ≡ unused)
+    (k ≤ n) × ((o : Order) → rows ≡ after_rows o → NoneBelow m o demand available n k) × (flow ≡ unused)
 
 abbrev decreases-loop : tie.decreases-loop
 decreases-loop m demand available n rows ranks leads flow₀ k₀ flow k = n - k
@@ -37,9 +37,9 @@ returns c =
     let at = own.before.before in
     let rows = at.before.before.before.before.before.before in
     let a = rows.before.args in
-    lowest-found a.m a.order a.demand.now a.available.now a.n at.loop.k q.weigh-ranked.result
-    (at.loop.invariant.1 a.order rows.after-rows.ensures) (omega arith)
-    (quoted-for a.m a.order a.demand.now at.loop.k rows.after-rows.ensures own.demands-for.ensures q.weigh-ranked.ensures.0)
+    lowest_found a.m a.order a.demand.now a.available.now a.n at.loop.k q.weigh-ranked.result
+    (at.loop.invariant.1 a.order rows.after_rows.ensures) (omega arith)
+    (quoted_for a.m a.order a.demand.now at.loop.k rows.after_rows.ensures own.demands-for.ensures q.weigh-ranked.ensures.0)
     (omega arith)
 
 loop-again : tie.Need-loop-preserved invariant-loop decreases-loop
@@ -49,8 +49,8 @@ loop-again c =
     let at = own.before.before in
     let a = at.before.before.before.before.before.before.before.args in (
       omega arith,
-      λ o e. lowest-next a.m o a.demand.now a.available.now a.n at.loop.k q.weigh-ranked.result (at.loop.invariant.1 o e)
-          (quoted-for a.m o a.demand.now at.loop.k e own.demands-for.ensures q.weigh-ranked.ensures.0) (omega arith),
+      λ o e. lowest_next a.m o a.demand.now a.available.now a.n at.loop.k q.weigh-ranked.result (at.loop.invariant.1 o e)
+          (quoted_for a.m o a.demand.now at.loop.k e own.demands-for.ensures q.weigh-ranked.ensures.0) (omega arith),
       q.weigh-ranked.ensures.1,
     )
 
@@ -59,7 +59,7 @@ returns-2 c =
     let at = c.before in
     let rows = at.before.before.before.before.before.before in
     let a = rows.before.args in
-    lowest-none a.m a.order a.demand.now a.available.now a.n at.loop.k (at.loop.invariant.1 a.order rows.after-rows.ensures)
+    lowest_none a.m a.order a.demand.now a.available.now a.n at.loop.k (at.loop.invariant.1 a.order rows.after_rows.ensures)
     (omega arith)
 
 pub lowest-overload-spec : {M : Type 1} → statement M

@@ -7,17 +7,17 @@ use native.Mathlib.Omega.{arith}
 use lib.ListN.{length, length-set}
 use borrow.Author.Rules.{rules}
 use Rattle.words.specs.Tables.{over}
-use Rattle.order.specs.Orders.{afterRows}
+use Rattle.order.specs.Orders.{after_rows}
 use Rattle.order.specs.declared.Order.{Order}
 use Rattle.solver.specs.model.Quote.{unused}
-use Rattle.kinds.specs.Needs.{needsFor}
-use Rattle.kinds.proofs.KindLoops.{quoted-for, needs-next}
+use Rattle.kinds.specs.Needs.{needs_for}
+use Rattle.kinds.proofs.KindLoops.{quoted_for, needs_next}
 use Rattle.kinds.proofs.needs.put_needs.Statement.{statement}
 use Rattle.kinds.proofs.needs.put_needs.Tie as tie
 
 abbrev invariant-loop : tie.invariant-loop
 invariant-loop out₀ m demand n rows ranks leads flow₀ k₀ out flow k =
-    (k ≤ n) × (length out ≡ length out₀) × ((o : Order) → rows ≡ afterRows o → out ≡ over k (needsFor m o demand n) out₀) × (flow ≡ unused)
+    (k ≤ n) × (length out ≡ length out₀) × ((o : Order) → rows ≡ after_rows o → out ≡ over k (needs_for m o demand n) out₀) × (flow ≡ unused)
 
 abbrev decreases-loop : tie.decreases-loop
 decreases-loop out₀ m demand n rows ranks leads flow₀ k₀ out flow k = n - k
@@ -41,8 +41,8 @@ loop-again c =
     let a = s.args in (
       omega arith,
       length-set at.loop.out at.loop.k _ ∙ at.loop.invariant.1,
-      λ o e. needs-next a.m o a.demand.now a.n at.loop.k a.out.now at.loop.out c.weigh-ranked.result (omega arith) s.requires.2
-          (at.loop.invariant.2 o e) (quoted-for a.m o a.demand.now at.loop.k e own.demands-for.ensures c.weigh-ranked.ensures.0),
+      λ o e. needs_next a.m o a.demand.now a.n at.loop.k a.out.now at.loop.out c.weigh-ranked.result (omega arith) s.requires.2
+          (at.loop.invariant.2 o e) (quoted_for a.m o a.demand.now at.loop.k e own.demands-for.ensures c.weigh-ranked.ensures.0),
       c.weigh-ranked.ensures.1,
     )
 
@@ -52,8 +52,8 @@ returns c =
     let rows = at.before.before.before.before.before.before in
     let a = rows.before.before.args in
     let e : at.loop.k ≡ a.n = omega arith in
-    at.loop.invariant.2 a.order rows.after-rows.ensures
-    ∙ ap (λ (x : ℕ). over x (needsFor a.m a.order a.demand.now a.n) a.out.now) e
+    at.loop.invariant.2 a.order rows.after_rows.ensures
+    ∙ ap (λ (x : ℕ). over x (needs_for a.m a.order a.demand.now a.n) a.out.now) e
 
 pub put-needs-spec : {M : Type 1} → statement M
 put-needs-spec =

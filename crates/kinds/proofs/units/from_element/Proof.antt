@@ -5,7 +5,7 @@ use Prim.Native.Nat.{ℕ, ◌-◌}
 use native.Mathlib.Omega.{arith}
 use borrow.Author.Rules.{rules}
 use Rattle.solver.specs.Sound.{asked}
-use Rattle.kinds.proofs.NodeUnits.{element-end, element-to}
+use Rattle.kinds.proofs.NodeUnits.{element_end, element_to}
 use Rattle.kinds.proofs.units.from_element.Statement.{statement}
 use Rattle.kinds.proofs.units.from_element.Tie as tie
 
@@ -24,12 +24,12 @@ returns : tie.Need-returns
 returns c =
     let a = c.before.before.before.args in
     ap (λ (x : ℕ). asked a.demand.now a.i - x) c.given.ensures
-    ∙ element-end a.m a.demand.now a.flow.now a.spare a.i a.j (omega arith) (omega arith)
+    ∙ element_end a.m a.demand.now a.flow.now a.spare a.i a.j (omega arith) (omega arith)
 
 returns-2 : tie.Need-returns-2
 returns-2 c =
     let a = c.before.before.args in
-    element-to a.m a.demand.now a.flow.now a.spare a.i a.j (omega arith) (omega arith)
+    element_to a.m a.demand.now a.flow.now a.spare a.i a.j (omega arith) (omega arith)
 
 pub from-element-spec : {M : Type 1} → statement M
 from-element-spec =

@@ -5,14 +5,14 @@ use Prim.Native.Nat.{ℕ, ◌-◌}
 use native.Mathlib.Omega.{arith}
 use borrow.Author.Rules.{rules}
 use Rattle.solver.specs.Sound.{asked}
-use Rattle.kinds.proofs.NodeUnits.{start-end, start-to}
+use Rattle.kinds.proofs.NodeUnits.{start_end, start_to}
 use Rattle.kinds.proofs.units.from_start.Statement.{statement}
 use Rattle.kinds.proofs.units.from_start.Tie as tie
 
 returns : tie.Need-returns
 returns c =
     let a = c.before.args in
-    start-end a.m a.demand.now a.flow.now a.spare a.j (omega arith)
+    start_end a.m a.demand.now a.flow.now a.spare a.j (omega arith)
 
 taken-requires : tie.Need-taken-requires
 taken-requires c κs =
@@ -29,7 +29,7 @@ returns-2 : tie.Need-returns-2
 returns-2 c =
     let a = c.before.before.before.args in
     ap (λ (x : ℕ). asked a.demand.now a.j - x) c.taken.ensures
-    ∙ start-to a.m a.demand.now a.flow.now a.spare a.j (omega arith)
+    ∙ start_to a.m a.demand.now a.flow.now a.spare a.j (omega arith)
 
 pub from-start-spec : {M : Type 1} → statement M
 from-start-spec = tie.close (tie.spec returns (λ c. search rules) (λ c. search rules) taken-requires sub-result returns-2)

@@ -4,7 +4,7 @@ use Prim.Native.Nat.{ℕ, ◌≤◌, ◌-◌}
 use native.Mathlib.Omega.{arith}
 use borrow.Author.Rules.{rules}
 use Rattle.flow_math.specs.Handover.{row}
-use Rattle.flow_math.proofs.Rows.{row-none, row_step, row_next}
+use Rattle.flow_math.proofs.Rows.{row_none, row_step, row_next}
 use Rattle.solver.specs.model.Network.{handed}
 use Rattle.kinds.proofs.units.given.Statement.{statement}
 use Rattle.kinds.proofs.units.given.Tie as tie
@@ -16,7 +16,7 @@ abbrev decreases-loop : tie.decreases-loop
 decreases-loop flow m i x₀ j₀ x j = m - j
 
 loop-holds : tie.Need-loop-init invariant-loop decreases-loop
-loop-holds c = (row-none (handed c.args.flow.now) c.args.i, omega arith)
+loop-holds c = (row_none (handed c.args.flow.now) c.args.i, omega arith)
 
 add-x-2 : tie.Need-overflow-add-x-2 invariant-loop decreases-loop
 add-x-2 c =

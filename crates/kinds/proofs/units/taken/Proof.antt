@@ -4,7 +4,7 @@ use Prim.Native.Nat.{ℕ, ◌≤◌, ◌-◌}
 use native.Mathlib.Omega.{arith}
 use borrow.Author.Rules.{rules}
 use Rattle.flow_math.specs.Handover.{col}
-use Rattle.flow_math.proofs.Rows.{col-none, col-step, col-next}
+use Rattle.flow_math.proofs.Rows.{col_none, col_step, col_next}
 use Rattle.solver.specs.model.Network.{handed}
 use Rattle.kinds.proofs.units.taken.Statement.{statement}
 use Rattle.kinds.proofs.units.taken.Tie as tie
@@ -16,19 +16,19 @@ abbrev decreases-loop : tie.decreases-loop
 decreases-loop flow m j x₀ i₀ x i = m - i
 
 loop-holds : tie.Need-loop-init invariant-loop decreases-loop
-loop-holds c = (col-none (handed c.args.flow.now) c.args.j, omega arith)
+loop-holds c = (col_none (handed c.args.flow.now) c.args.j, omega arith)
 
 add-x-2 : tie.Need-overflow-add-x-2 invariant-loop decreases-loop
 add-x-2 c =
     let at = c.before.before in
     let a = at.before.args in
-    omega (arith, col-step (handed a.flow.now) at.loop.i a.m a.j (omega arith))
+    omega (arith, col_step (handed a.flow.now) at.loop.i a.m a.j (omega arith))
 
 loop-again : tie.Need-loop-preserved invariant-loop decreases-loop
 loop-again c =
     let at = c.before.before in
     let a = at.before.args in
-    (col-next (handed a.flow.now) at.loop.i a.j at.loop.x at.loop.invariant.0, omega arith)
+    (col_next (handed a.flow.now) at.loop.i a.j at.loop.x at.loop.invariant.0, omega arith)
 
 returns : tie.Need-returns invariant-loop decreases-loop
 returns c =

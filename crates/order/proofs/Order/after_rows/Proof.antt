@@ -1,11 +1,11 @@
 -- `Order::after_rows` meets its contract: they are its rows.
 use Rattle.std.proofs.Common.{refl}
-use Rattle.order.specs.Orders.{afterRows}
+use Rattle.order.specs.Orders.{after_rows}
 use Rattle.order.proofs.Order.after_rows.Statement.{statement}
 use Rattle.order.proofs.Order.after_rows.Tie as tie
 
 returns : tie.Need-returns
-unfolding afterRows
+unfolding after_rows
 returns c = refl
 
 pub after-rows-spec : {M : Type 1} → statement M

@@ -1,24 +1,24 @@
 -- `Order::of` meets its contract: the rows are closed.
 use Rattle.std.proofs.Common.{ℕ, List, get_or, ap, w64, Fits, rules}
 use Rattle.order.specs.Stored.{cells}
-use Rattle.order.specs.Orders.{afterRows}
+use Rattle.order.specs.Orders.{after_rows}
 use Rattle.order.specs.declared.Order.{Order}
-use Rattle.order.proofs.Stored.{words-fit}
+use Rattle.order.proofs.Stored.{words_fit}
 use Rattle.order.proofs.Order.of.Statement.{statement}
 use Rattle.order.proofs.Order.of.Tie as tie
 
-abbrev ofRows : List ℕ → Order
-ofRows rs = record { rows = rs }
+abbrev of_rows : List ℕ → Order
+of_rows rs = record { rows = rs }
 
 close-requires : tie.Need-close-requires
 unfolding cells
 close-requires c κs =
     let arcs = c.before.args.arcs in
-    (search rules, words-fit arcs (λ k. let f : Fits w64 (get_or arcs k 0) = search rules in f.fits))
+    (search rules, words_fit arcs (λ k. let f : Fits w64 (get_or arcs k 0) = search rules in f.fits))
 
 returns : tie.Need-returns
-unfolding afterRows
-returns c = ap ofRows c.close.ensures
+unfolding after_rows
+returns c = ap of_rows c.close.ensures
 
 pub of_spec : {M : Type 1} → statement M
 of_spec = tie.close (tie.spec close-requires returns)

@@ -1,11 +1,11 @@
 -- `Set::lowest` meets its contract, by the number of the word.
 use Rattle.std.proofs.Common.{rules}
-use Rattle.order.specs.Stored.{number_of, setOf}
+use Rattle.order.specs.Stored.{number_of, set_of}
 use Rattle.order.proofs.Set.lowest.Statement.{statement}
 use Rattle.order.proofs.Set.lowest.Tie as tie
 
 returns : tie.Need-returns
-unfolding number_of setOf
+unfolding number_of set_of
 returns c = c.lowest.ensures
 
 pub lowest-spec : {M : Type 1} → statement M

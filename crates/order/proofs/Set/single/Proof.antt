@@ -1,11 +1,11 @@
 -- `Set::single` meets its contract, by that of `with`.
 use Rattle.std.proofs.Common.{rules}
-use Rattle.order.specs.Stored.{number_of, setOf}
+use Rattle.order.specs.Stored.{number_of, set_of}
 use Rattle.order.proofs.Set.single.Statement.{statement}
 use Rattle.order.proofs.Set.single.Tie as tie
 
 returns : tie.Need-returns
-unfolding number_of setOf
+unfolding number_of set_of
 returns c = c.with.ensures
 
 pub single-spec : {M : Type 1} → statement M

@@ -1,11 +1,11 @@
 -- `Set::size` meets its contract, by the number of the word.
 use Rattle.std.proofs.Common.{rules}
-use Rattle.order.specs.Stored.{number_of, setOf}
+use Rattle.order.specs.Stored.{number_of, set_of}
 use Rattle.order.proofs.Set.size.Statement.{statement}
 use Rattle.order.proofs.Set.size.Tie as tie
 
 returns : tie.Need-returns
-unfolding number_of setOf
+unfolding number_of set_of
 returns c = c.size.ensures
 
 pub size-spec : {M : Type 1} → statement M

@@ -1,11 +1,11 @@
 -- `Set::union` meets its contract, by the number of the word.
 use Rattle.std.proofs.Common.{refl}
-use Rattle.order.specs.Stored.{number_of, setOf}
+use Rattle.order.specs.Stored.{number_of, set_of}
 use Rattle.order.proofs.Set.union.Statement.{statement}
 use Rattle.order.proofs.Set.union.Tie as tie
 
 returns : tie.Need-returns
-unfolding number_of setOf
+unfolding number_of set_of
 returns c = refl
 
 pub union-spec : {M : Type 1} → statement M

@@ -1,12 +1,12 @@
 -- `Set::with` meets its contract, by the number of the word.
 use Rattle.std.proofs.Common.{ap, rules}
-use Rattle.order.specs.Stored.{number_of, setOf}
+use Rattle.order.specs.Stored.{number_of, set_of}
 use Rattle.order.proofs.Set.with.Statement.{statement}
 use Rattle.order.proofs.Set.with.Tie as tie
 
 returns : tie.Need-returns
-unfolding number_of setOf
-returns c = ap setOf c.with-bit.ensures
+unfolding number_of set_of
+returns c = ap set_of c.with-bit.ensures
 
 pub with-spec : {M : Type 1} → statement M
 with-spec = tie.close (tie.spec (λ c κs. search rules) returns)

@@ -3,7 +3,7 @@ use Rattle.std.proofs.Common.{◌≡◌, ℕ, ◌+◌, ◌-◌, ◌*◌, ◌%◌
 use lib.Bits.{bit_or, or_shifted}
 use Rattle.order.specs.Stored.{elements}
 use Rattle.order.specs.model.Places.{positive}
-use Rattle.order.proofs.Nonzero.{nonzero-start, positive-more, positive-fits, positive-cat, positive-first}
+use Rattle.order.proofs.Nonzero.{nonzero_start, positive_more, positive_fits, positive_cat, positive_first}
 use Rattle.order.proofs.halves.places_word.Statement.{statement}
 use Rattle.order.proofs.halves.places_word.Tie as tie
 
@@ -14,15 +14,15 @@ abbrev decreases-loop : tie.decreases-loop
 decreases-loop a m low₀ high₀ i₀ low high i = 32 - i
 
 loop-holds : tie.Need-loop-init invariant-loop decreases-loop
-loop-holds c = let a = c.args.a.now in (nonzero-start (λ i. get_or a i 0), nonzero-start (λ i. get_or (drop 32 a) i 0), omega arith)
+loop-holds c = let a = c.args.a.now in (nonzero_start (λ i. get_or a i 0), nonzero_start (λ i. get_or (drop 32 a) i 0), omega arith)
 
 loop-again : tie.Need-loop-preserved invariant-loop decreases-loop
 loop-again c =
     let first = c.before.before in
     let l = first.before.before.before.loop in
     let a = first.before.before.before.before.args.a.now in (
-      positive-more a l.i l.low _ _ l.invariant.0 first.half-bit.ensures refl,
-      positive-more (drop 32 a) l.i l.high _ _ l.invariant.1 c.half-bit2.ensures (sym (get_or-drop 32 a l.i 0)),
+      positive_more a l.i l.low _ _ l.invariant.0 first.half-bit.ensures refl,
+      positive_more (drop 32 a) l.i l.high _ _ l.invariant.1 c.half-bit2.ensures (sym (get_or-drop 32 a l.i 0)),
       omega (arith, first.before.before.loop-test.true),
     )
 
@@ -30,13 +30,13 @@ loop-again c =
 word : (a : List ℕ) (m low high l h w r : ℕ) → m ≤ elements → low ≡ positive 32 a → high ≡ positive 32 (drop 32 a) → l ≡ low → h ≡ high
     → w ≡ bit_or (h * 2 ^ 32 % 2 ^ 64) l → r ≡ w % 2 ^ m → r ≡ positive m a
 word a m low high l h w r hm el eh ql qh qw qr =
-    let fl = positive-fits 32 a in
-    let fh = positive-fits 32 (drop 32 a) in
+    let fl = positive_fits 32 a in
+    let fh = positive_fits 32 (drop 32 a) in
     let small : h * 2 ^ 32 % 2 ^ 64 ≡ h * 2 ^ 32 = mod-eq_of_lt (omega (arith, fh, eh, qh)) in
     let e : w ≡ positive 64 a =
     qw ∙ ap (λ (x : ℕ). bit_or x l) small ∙ or_shifted h 32 l (omega (arith, fl, el, ql)) ∙ ap (λ (x : ℕ). x * 2 ^ 32 + l) (qh ∙ eh) ∙ ap (λ (x : ℕ). positive 32 (drop 32 a) * 2 ^ 32 + x) (ql ∙ el)
-    ∙ sym (positive-cat 32 32 a) in
-    qr ∙ ap (λ (x : ℕ). x % 2 ^ m) e ∙ positive-first 64 m hm a
+    ∙ sym (positive_cat 32 32 a) in
+    qr ∙ ap (λ (x : ℕ). x % 2 ^ m) e ∙ positive_first 64 m hm a
 
 returns : tie.Need-returns invariant-loop decreases-loop
 returns c =

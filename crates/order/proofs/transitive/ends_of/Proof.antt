@@ -1,27 +1,27 @@
 -- `transitive::ends_of` meets its contract. The invariant: the set has the ends of the rows passed.
 use Rattle.std.proofs.Common.{◌≡◌, ◌-◌, ◌≤◌, ◌∙◌, ap₂, add-one, arith, rules}
 use lib.Bits.{bit_or}
-use Rattle.order.specs.Stored.{elements, number_of, setOf}
-use Rattle.order.specs.model.Warshall.{endsIn}
-use Rattle.order.proofs.Stored.{number-of, number-set}
+use Rattle.order.specs.Stored.{elements, number_of, set_of}
+use Rattle.order.specs.model.Warshall.{ends_in}
+use Rattle.order.proofs.Stored.{number_of_lem, number_set}
 use Rattle.order.proofs.transitive.ends_of.Statement.{statement}
 use Rattle.order.proofs.transitive.ends_of.Tie as tie
 
 abbrev invariant-loop : tie.invariant-loop
-invariant-loop rows ends₀ i₀ ends i = (i ≤ elements) × (number_of ends ≡ endsIn i rows)
+invariant-loop rows ends₀ i₀ ends i = (i ≤ elements) × (number_of ends ≡ ends_in i rows)
 
 abbrev decreases-loop : tie.decreases-loop
 decreases-loop rows ends₀ i₀ ends i = elements - i
 
 loop-holds : tie.Need-loop-init invariant-loop decreases-loop
-unfolding endsIn setOf
-loop-holds c = (omega arith, number-set 0)
+unfolding ends_in set_of
+loop-holds c = (omega arith, number_set 0)
 
 loop-again : tie.Need-loop-preserved invariant-loop decreases-loop
-unfolding endsIn
+unfolding ends_in
 loop-again c =
     let at = c.before.before.before in
-    (omega arith, rw add-one (number-of _ c.union.ensures ∙ ap₂ bit_or at.loop.invariant.1 (number-of _ c.before.row.ensures)))
+    (omega arith, rw add-one (number_of_lem _ c.union.ensures ∙ ap₂ bit_or at.loop.invariant.1 (number_of_lem _ c.before.row.ensures)))
 
 returns : tie.Need-returns invariant-loop decreases-loop
 returns c =

@@ -1,17 +1,17 @@
 -- `plan::activity::activity_cause` meets its contract: it rewrites with the calls, each one the next rule of the chain.
 use borrow.Author.Rules.{rules}
-use Rattle.plan.specs.Causes.{activityCause}
+use Rattle.plan.specs.Causes.{activity_cause}
 use Rattle.plan.proofs.activity.activity_cause.Statement.{statement}
 use Rattle.plan.proofs.activity.activity_cause.Tie as tie
 
 returns : tie.Need-returns
-unfolding activityCause
+unfolding activity_cause
 returns c =
     let timed = c.before.before in
     let fields = timed.before.before in
     simp (
       c.rule3.ensures,
-      c.before.all-zero.ensures,
+      c.before.all_zero.ensures,
       timed.rule2.ensures,
       timed.before.activity-timed.ensures,
       fields.rule.ensures,

@@ -4,15 +4,15 @@ use Prim.Native.Nat.{◌-◌, ◌≤◌}
 use native.Mathlib.Omega.{arith}
 use borrow.Author.Rules.{rules}
 use Rattle.words.specs.model.Loops.{upto}
-use Rattle.words.proofs.Loops.{up_none, up-again, up-end}
-use Rattle.plan.specs.model.Phases.{putDemands}
-use Rattle.records.proofs.Steps.{rest-of}
-use Rattle.plan.proofs.ReaderLoops.{record-left}
+use Rattle.words.proofs.Loops.{up_none, up_again, up_end}
+use Rattle.plan.specs.model.Phases.{put_demands}
+use Rattle.records.proofs.Steps.{rest_of_lem}
+use Rattle.plan.proofs.ReaderLoops.{record_left}
 use Rattle.plan.proofs.activity.store_demands.Statement.{statement}
 use Rattle.plan.proofs.activity.store_demands.Tie as tie
 
 abbrev invariant-loop : tie.invariant-loop
-invariant-loop s m demands₀ i₀ demands i = (demands ≡ upto (putDemands s) i demands₀) × (i ≤ m)
+invariant-loop s m demands₀ i₀ demands i = (demands ≡ upto (put_demands s) i demands₀) × (i ≤ m)
 
 abbrev decreases-loop : tie.decreases-loop
 decreases-loop s m demands₀ i₀ demands i = m - i
@@ -24,19 +24,19 @@ store-demands-of-requires : tie.Need-store-demands-of-requires invariant-loop de
 store-demands-of-requires c κs =
     let b = c.before.before.before in
     let a = b.before.before.args in
-    (record-left a.m b.loop.i a.s.now (omega arith) (omega arith), omega arith)
+    (record_left a.m b.loop.i a.s.now (omega arith) (omega arith), omega arith)
 
 loop-again : tie.Need-loop-preserved invariant-loop decreases-loop
 loop-again c =
     let b = c.before.before.before.before in
     let a = b.before.before.args in
-    up-again (putDemands a.s.now) a.m b.loop.i a.demands.now (omega arith) b.loop.invariant (rw rest-of at c.store-demands-of.ensures)
+    up_again (put_demands a.s.now) a.m b.loop.i a.demands.now (omega arith) b.loop.invariant (rw rest_of_lem at c.store-demands-of.ensures)
 
 returns : tie.Need-returns invariant-loop decreases-loop
 returns c =
     let b = c.before in
     let a = b.before.before.args in
-    up-end (putDemands a.s.now) a.m b.loop.i a.demands.now (omega arith) b.loop.invariant
+    up_end (put_demands a.s.now) a.m b.loop.i a.demands.now (omega arith) b.loop.invariant
 
 pub store-demands-spec : {M : Type 1} → statement M
 store-demands-spec =

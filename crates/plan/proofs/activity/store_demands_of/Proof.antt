@@ -4,13 +4,13 @@ use Prim.Native.Nat.{◌-◌, ◌≤◌}
 use native.Mathlib.Omega.{arith}
 use borrow.Author.Rules.{rules}
 use Rattle.words.specs.model.Loops.{upto}
-use Rattle.words.proofs.Loops.{up_none, up-again, up-end}
-use Rattle.plan.specs.model.Phases.{putDemand}
+use Rattle.words.proofs.Loops.{up_none, up_again, up_end}
+use Rattle.plan.specs.model.Phases.{put_demand}
 use Rattle.plan.proofs.activity.store_demands_of.Statement.{statement}
 use Rattle.plan.proofs.activity.store_demands_of.Tie as tie
 
 abbrev invariant-loop : tie.invariant-loop
-invariant-loop r i demands₀ k₀ demands k = (demands ≡ upto (putDemand r i) k demands₀) × (k ≤ 8)
+invariant-loop r i demands₀ k₀ demands k = (demands ≡ upto (put_demand r i) k demands₀) × (k ≤ 8)
 
 abbrev decreases-loop : tie.decreases-loop
 decreases-loop r i demands₀ k₀ demands k = 8 - k
@@ -22,13 +22,13 @@ loop-again : tie.Need-loop-preserved invariant-loop decreases-loop
 loop-again c =
     let b = c.before.before in
     let a = b.before.before.args in
-    up-again (putDemand a.r.now a.i) 8 b.loop.k a.demands.now (omega arith) b.loop.invariant (rw c.half.ensures.0)
+    up_again (put_demand a.r.now a.i) 8 b.loop.k a.demands.now (omega arith) b.loop.invariant (rw c.half.ensures.0)
 
 returns : tie.Need-returns invariant-loop decreases-loop
 returns c =
     let b = c.before in
     let a = b.before.before.args in
-    up-end (putDemand a.r.now a.i) 8 b.loop.k a.demands.now (omega arith) b.loop.invariant
+    up_end (put_demand a.r.now a.i) 8 b.loop.k a.demands.now (omega arith) b.loop.invariant
 
 pub store-demands-of-spec : {M : Type 1} → statement M
 store-demands-of-spec =

@@ -4,15 +4,15 @@ use Prim.Native.Nat.{◌-◌, ◌≤◌}
 use native.Mathlib.Omega.{arith}
 use borrow.Author.Rules.{rules}
 use Rattle.words.specs.model.Loops.{upto}
-use Rattle.words.proofs.Loops.{up_none, up-again, up-end}
-use Rattle.plan.specs.model.Phases.{putDuration}
-use Rattle.records.proofs.Steps.{rest-of}
-use Rattle.plan.proofs.ReaderLoops.{record-left}
+use Rattle.words.proofs.Loops.{up_none, up_again, up_end}
+use Rattle.plan.specs.model.Phases.{put_duration}
+use Rattle.records.proofs.Steps.{rest_of_lem}
+use Rattle.plan.proofs.ReaderLoops.{record_left}
 use Rattle.plan.proofs.activity.store_durations.Statement.{statement}
 use Rattle.plan.proofs.activity.store_durations.Tie as tie
 
 abbrev invariant-loop : tie.invariant-loop
-invariant-loop s m durations₀ i₀ durations i = (durations ≡ upto (putDuration s) i durations₀) × (i ≤ m)
+invariant-loop s m durations₀ i₀ durations i = (durations ≡ upto (put_duration s) i durations₀) × (i ≤ m)
 
 abbrev decreases-loop : tie.decreases-loop
 decreases-loop s m durations₀ i₀ durations i = m - i
@@ -24,20 +24,20 @@ half-requires : tie.Need-half-requires invariant-loop decreases-loop
 half-requires c κs =
     let b = c.before.before in
     let a = b.before.before.args in
-    let h = record-left a.m b.loop.i a.s.now (omega arith) (omega arith) in
+    let h = record_left a.m b.loop.i a.s.now (omega arith) (omega arith) in
     omega arith
 
 loop-again : tie.Need-loop-preserved invariant-loop decreases-loop
 loop-again c =
     let b = c.before.before.before in
     let a = b.before.before.args in
-    up-again (putDuration a.s.now) a.m b.loop.i a.durations.now (omega arith) b.loop.invariant (rw (c.half.ensures.0, rest-of))
+    up_again (put_duration a.s.now) a.m b.loop.i a.durations.now (omega arith) b.loop.invariant (rw (c.half.ensures.0, rest_of_lem))
 
 returns : tie.Need-returns invariant-loop decreases-loop
 returns c =
     let b = c.before in
     let a = b.before.before.args in
-    up-end (putDuration a.s.now) a.m b.loop.i a.durations.now (omega arith) b.loop.invariant
+    up_end (put_duration a.s.now) a.m b.loop.i a.durations.now (omega arith) b.loop.invariant
 
 pub store-durations-spec : {M : Type 1} → statement M
 store-durations-spec =

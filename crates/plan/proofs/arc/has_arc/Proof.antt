@@ -1,6 +1,6 @@
 -- `plan::arc::has_arc` meets its contract.
 use borrow.Author.Rules.{rules}
-use Rattle.order.proofs.Stored.{number-of}
+use Rattle.order.proofs.Stored.{number_of_lem}
 use Rattle.plan.proofs.arc.has_arc.Statement.{statement}
 use Rattle.plan.proofs.arc.has_arc.Tie as tie
 
@@ -9,7 +9,7 @@ returns c =
     let old = c.before in
     let to = old.before in
     let from = to.before.before in
-    simp (c.has.ensures, number-of old.row.result old.row.ensures, to.index2.ensures.0, from.index.ensures.0)
+    simp (c.has.ensures, number_of_lem old.row.result old.row.ensures, to.index2.ensures.0, from.index.ensures.0)
 
 pub has-arc-spec : {M : Type 1} → statement M
 has-arc-spec =

@@ -1,18 +1,18 @@
 -- `plan::arc::store_arc` meets its contract.
 use borrow.Author.Rules.{rules}
-use Rattle.order.proofs.Stored.{number-of}
-use Rattle.plan.specs.model.ArcRows.{withArc}
+use Rattle.order.proofs.Stored.{number_of_lem}
+use Rattle.plan.specs.model.ArcRows.{with_arc}
 use Rattle.plan.proofs.arc.store_arc.Statement.{statement}
 use Rattle.plan.proofs.arc.store_arc.Tie as tie
 
 returns : tie.Need-returns
-unfolding withArc
+unfolding with_arc
 returns c =
     let new = c.before.before in
     let old = new.before in
     let to = old.before.before in
     let from = to.before.before in
-    simp (c.put-row.ensures, number-of new.with.result new.with.ensures, number-of old.row.result old.row.ensures, to.index2.ensures.0, from.index.ensures.0)
+    simp (c.put-row.ensures, number_of_lem new.with.result new.with.ensures, number_of_lem old.row.result old.row.ensures, to.index2.ensures.0, from.index.ensures.0)
 
 pub store-arc-spec : {M : Type 1} → statement M
 store-arc-spec =

@@ -3,8 +3,8 @@ use native.Mathlib.Omega.{arith}
 use lib.ListN.{get_or}
 use borrow.Author.Tests.{lt-ltb, le-ltb, lt-leb, le-leb}
 use borrow.Author.Rules.{rules}
-use Rattle.plan.specs.Records.{crewFields}
-use Rattle.plan.proofs.ReaderLoops.{told, told-not}
+use Rattle.plan.specs.Records.{crew_fields}
+use Rattle.plan.proofs.ReaderLoops.{told, told_not}
 use Rattle.plan.proofs.crew.crew_fields.Statement.{statement}
 use Rattle.plan.proofs.crew.crew_fields.Tie as tie
 
@@ -12,28 +12,28 @@ cast-k : tie.Need-overflow-cast-k
 cast-k c = omega (arith, c.shared-slice-known2.given 1)
 
 returns : tie.Need-returns
-unfolding crewFields
+unfolding crew_fields
 returns c =
     let k = get_or c.before.before.before.args.r.now 1 0 in
     rw (le-ltb 0 k (omega arith))
 
 returns-2 : tie.Need-returns-2
-unfolding crewFields
+unfolding crew_fields
 returns-2 c =
     let k = get_or c.before.before.before.before.args.r.now 1 0 in
     rw (lt-ltb 0 k (omega arith), lt-leb k 8 (omega arith))
 
 returns-3 : tie.Need-returns-3
-unfolding crewFields
+unfolding crew_fields
 returns-3 c =
     let k = get_or c.before.before.before.before.before.before.args.r.now 1 0 in
-    rw (lt-ltb 0 k (omega arith), le-leb k 8 (omega arith), told-not c.before.all-zero.ensures c.if3.true)
+    rw (lt-ltb 0 k (omega arith), le-leb k 8 (omega arith), told_not c.before.all_zero.ensures c.if3.true)
 
 returns-4 : tie.Need-returns-4
-unfolding crewFields
+unfolding crew_fields
 returns-4 c =
     let k = get_or c.before.before.before.before.before.before.before.args.r.now 1 0 in
-    rw (lt-ltb 0 k (omega arith), le-leb k 8 (omega arith), told c.before.before.all-zero.ensures c.before.if3.false) c.no-demand-from.ensures
+    rw (lt-ltb 0 k (omega arith), le-leb k 8 (omega arith), told c.before.before.all_zero.ensures c.before.if3.false) c.no-demand-from.ensures
 
 pub crew-fields-spec : {M : Type 1} → statement M
 crew-fields-spec =

@@ -6,7 +6,7 @@ use native.Mathlib.Omega.{arith}
 use borrow.Author.Rules.{rules}
 use lib.Seq.{slice}
 use Rattle.records.specs.Bytes.{zeros}
-use Rattle.records.proofs.Zeros.{zeros-step, zeros-stop, zeros-none}
+use Rattle.records.proofs.Zeros.{zeros_step, zeros_stop, zeros_none}
 use Rattle.order.specs.Stored.{elements}
 use Rattle.plan.proofs.crew.no_demand_from.Statement.{statement}
 use Rattle.plan.proofs.crew.no_demand_from.Tie as tie
@@ -24,19 +24,19 @@ returns : tie.Need-returns invariant-loop decreases-loop
 returns c =
     let b = c.before.before.before in
     let a = b.before.args in
-    sym (zeros-stop a.demand.now b.loop.i (8 * elements) (omega arith) c.if1.true) ∙ b.loop.invariant.1
+    sym (zeros_stop a.demand.now b.loop.i (8 * elements) (omega arith) c.if1.true) ∙ b.loop.invariant.1
 
 loop-again : tie.Need-loop-preserved invariant-loop decreases-loop
 loop-again c =
     let b = c.before.before.before in
     let a = b.before.args in
-    (omega arith, sym (zeros-step a.demand.now b.loop.i (8 * elements) (omega arith) c.if1.false) ∙ b.loop.invariant.1)
+    (omega arith, sym (zeros_step a.demand.now b.loop.i (8 * elements) (omega arith) c.if1.false) ∙ b.loop.invariant.1)
 
 returns-2 : tie.Need-returns-2 invariant-loop decreases-loop
 returns-2 c =
     let a = c.before.before.args in
     let e : c.before.loop.i ≡ 8 * elements = omega arith in
-    sym (zeros-none a.demand.now (8 * elements)) ∙ rw e at c.before.loop.invariant.1
+    sym (zeros_none a.demand.now (8 * elements)) ∙ rw e at c.before.loop.invariant.1
 
 pub no-demand-from-spec : {M : Type 1} → statement M
 no-demand-from-spec =

@@ -5,7 +5,7 @@ use native.Mathlib.Omega.{arith}
 use borrow.Author.Rules.{rules}
 use lib.Seq.{slice}
 use Rattle.records.specs.Bytes.{zeros}
-use Rattle.records.proofs.Zeros.{zeros-step, zeros-stop, zeros-none}
+use Rattle.records.proofs.Zeros.{zeros_step, zeros_stop, zeros_none}
 use Rattle.plan.proofs.field.all_zero.Statement.{statement}
 use Rattle.plan.proofs.field.all_zero.Tie as tie
 
@@ -22,19 +22,19 @@ returns : tie.Need-returns invariant-loop decreases-loop
 returns c =
     let b = c.before.before.before in
     let a = b.before.args in
-    sym (zeros-stop a.r.now b.loop.i a.to (omega arith) c.if1.true) ∙ b.loop.invariant.1
+    sym (zeros_stop a.r.now b.loop.i a.to (omega arith) c.if1.true) ∙ b.loop.invariant.1
 
 loop-again : tie.Need-loop-preserved invariant-loop decreases-loop
 loop-again c =
     let b = c.before.before.before in
     let a = b.before.args in
-    (omega arith, sym (zeros-step a.r.now b.loop.i a.to (omega arith) c.if1.false) ∙ b.loop.invariant.1)
+    (omega arith, sym (zeros_step a.r.now b.loop.i a.to (omega arith) c.if1.false) ∙ b.loop.invariant.1)
 
 returns-2 : tie.Need-returns-2 invariant-loop decreases-loop
 returns-2 c =
     let a = c.before.before.args in
     let e : c.before.loop.i ≡ a.to = omega arith in
-    sym (zeros-none a.r.now a.to) ∙ rw e at c.before.loop.invariant.1
+    sym (zeros_none a.r.now a.to) ∙ rw e at c.before.loop.invariant.1
 
 pub all-zero-spec : {M : Type 1} → statement M
 all-zero-spec =

@@ -7,7 +7,7 @@ use native.Mathlib.Omega.{arith}
 use borrow.Author.Rules.{rules}
 use lib.ListN.{drop}
 use Rattle.plan.specs.Records.{leading}
-use Rattle.plan.proofs.ReaderLoops.{leading-done, leading-turn, leading-stop}
+use Rattle.plan.proofs.ReaderLoops.{leading_done, leading_turn, leading_stop}
 use Rattle.plan.proofs.file.leading_records.Statement.{statement}
 use Rattle.plan.proofs.file.leading_records.Tie as tie
 
@@ -24,21 +24,21 @@ returns : tie.Need-returns invariant-loop decreases-loop
 returns c =
     let b = c.before.before.before in
     let a = b.before.args in
-    let e = leading-stop a.of a.n b.loop.i a.s.now (omega arith) c.if1.true in
+    let e = leading_stop a.of a.n b.loop.i a.s.now (omega arith) c.if1.true in
     (omega arith, omega arith)
 
 loop-again : tie.Need-loop-preserved invariant-loop decreases-loop
 loop-again c =
     let b = c.before.before.before in
     let a = b.before.args in
-    let e = leading-turn a.of a.n b.loop.i a.s.now (omega arith) c.if1.false in
+    let e = leading_turn a.of a.n b.loop.i a.s.now (omega arith) c.if1.false in
     (omega arith, omega arith)
 
 returns-2 : tie.Need-returns-2 invariant-loop decreases-loop
 returns-2 c =
     let b = c.before in
     let a = b.before.args in
-    let e = leading-done a.of a.n b.loop.i (drop (24 * b.loop.i) a.s.now) (omega arith) in
+    let e = leading_done a.of a.n b.loop.i (drop (24 * b.loop.i) a.s.now) (omega arith) in
     (omega arith, omega arith)
 
 pub leading-records-spec : {M : Type 1} → statement M

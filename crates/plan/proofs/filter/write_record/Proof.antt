@@ -6,8 +6,8 @@ use native.Mathlib.Omega.{arith}
 use lib.ListN.{length, get_or, set, take, drop}
 use lib.Seq.{length-take-le}
 use borrow.Author.Rules.{rules}
-use Rattle.records.specs.Records.{startingWith}
-use Rattle.plan.proofs.Staying.{copy_more, copy-length, copy-all}
+use Rattle.records.specs.Records.{starting_with}
+use Rattle.plan.proofs.Staying.{copy_more, copy_length, copy_all}
 use Rattle.plan.proofs.filter.write_record.Statement.{statement}
 use Rattle.plan.proofs.filter.write_record.Tie as tie
 
@@ -23,16 +23,16 @@ loop-holds c = (refl, omega arith)
 -- the record is there, and i of its bytes are written
 module _ (c : tie.After-record-bytes invariant-loop decreases-loop) where
   abbrev b : List ℕ
-  b = c.record-bytes.result
+  b = c.record_bytes.result
 
   abbrev old : List ℕ
   old = c.before.before.before.args.out.now
 
   long : length b ≡ 24
-  long = let start = c.before.before.before in ap length c.record-bytes.ensures ∙ length-take-le 24 start.args.r.now start.requires.0
+  long = let start = c.before.before.before in ap length c.record_bytes.ensures ∙ length-take-le 24 start.args.r.now start.requires.0
 
   same : (i : ℕ) (out : List ℕ) → out ≡ take i b ++ drop i old → i ≤ 24 → length out ≡ length old
-  same i out e l = ap length e ∙ copy-length b old i (omega (arith, long)) (omega (arith, c.before.before.before.requires.1))
+  same i out e l = ap length e ∙ copy_length b old i (omega (arith, long)) (omega (arith, c.before.before.before.requires.1))
 
 slice-write-out : tie.Need-slice-write-out invariant-loop decreases-loop
 slice-write-out c =
@@ -56,7 +56,7 @@ returns c =
     let l = c.before.loop in
     let r = c.before.before in
     let e : l.i ≡ 24 = omega arith in
-    rw e at l.invariant.0 ∙ copy-all (b r) (old r) 24 (long r) ∙ ap (λ (x : List ℕ). startingWith x (old r)) r.record-bytes.ensures
+    rw e at l.invariant.0 ∙ copy_all (b r) (old r) 24 (long r) ∙ ap (λ (x : List ℕ). starting_with x (old r)) r.record_bytes.ensures
 
 pub write-record-spec : {M : Type 1} → statement M
 write-record-spec =

@@ -8,29 +8,29 @@ use Prim.Native.Nat.{ℕ, ◌+◌, ◌-◌, ◌*◌, ◌≤◌, ◌<◌}
 use native.Mathlib.Omega.{arith}
 use lib.ListN.{length, take}
 use borrow.Author.Rules.{rules}
-use Rattle.records.proofs.Steps.{rest-of, tail_written}
-use Rattle.plan.specs.Records.{recordAt, recordCount}
-use Rattle.plan.specs.model.ArcRows.{staysBy}
+use Rattle.records.proofs.Steps.{rest_of_lem, tail_written}
+use Rattle.plan.specs.Records.{record_at, record_count}
+use Rattle.plan.specs.model.ArcRows.{stays_by}
 use Rattle.plan.proofs.ReaderLoops.{length_rest}
-use Rattle.plan.proofs.Staying.{Staying, record-whole, extra-record, staying-none, staying-few, staying-length, staying-one, staying-skip, staying-number, staying-all}
+use Rattle.plan.proofs.Staying.{Staying, record_whole, extra_record, staying_none, staying_few, staying_length, staying_one, staying_skip, staying_number, staying_all}
 use Rattle.plan.proofs.filter.write_staying.Statement.{statement}
 use Rattle.plan.proofs.filter.write_staying.Tie as tie
 
 abbrev invariant-loop : tie.invariant-loop
-invariant-loop s extra out₀ all n₀ p₀ out n p = Staying (staysBy extra s) s out₀ p n out
+invariant-loop s extra out₀ all n₀ p₀ out n p = Staying (stays_by extra s) s out₀ p n out
 
 abbrev decreases-loop : tie.decreases-loop
 decreases-loop s extra out₀ all n₀ p₀ out n p = all - p
 
 loop-holds : tie.Need-loop-init invariant-loop decreases-loop
-loop-holds c = let a = c.before.before.args in staying-none (staysBy a.extra.now a.s.now) a.s.now a.out.now
+loop-holds c = let a = c.before.before.args in staying_none (stays_by a.extra.now a.s.now) a.s.now a.out.now
 
 stays-requires : tie.Need-stays-requires invariant-loop decreases-loop
 stays-requires c κs =
     let b = c.before.before in
     let start = b.before.before.before in
     let s = start.args.s.now in
-    rw (rest-of (24 * b.loop.p) s) (record-whole s b.loop.p (omega arith), extra-record s start.requires.0 b.loop.p (omega arith))
+    rw (rest_of_lem (24 * b.loop.p) s) (record_whole s b.loop.p (omega arith), extra_record s start.requires.0 b.loop.p (omega arith))
 
 -- a record is looked at
 module _ (c : tie.After-stays invariant-loop decreases-loop) where
@@ -41,7 +41,7 @@ module _ (c : tie.After-stays invariant-loop decreases-loop) where
   old = c.before.before.before.before.before.before.args.out.now
 
   abbrev keep : ℕ → Bool
-  keep = staysBy c.before.before.before.before.before.before.args.extra.now s
+  keep = stays_by c.before.before.before.before.before.before.args.extra.now s
 
   abbrev p : ℕ
   p = c.before.before.before.loop.p
@@ -55,20 +55,20 @@ module _ (c : tie.After-stays invariant-loop decreases-loop) where
   some : Staying keep s old p n out
   some = c.before.before.before.loop.invariant
 
-  more : p < recordCount s
+  more : p < record_count s
   more = omega arith
 
   tested : c.stays.result ≡ keep p
-  tested = rw (rest-of (24 * p) s) at c.stays.ensures
+  tested = rw (rest_of_lem (24 * p) s) at c.stays.ensures
 
   -- not all of s is written, and there is room for one more
-  under : n < recordCount s
-  under = omega (arith, more, staying-few keep s old p n out some)
+  under : n < record_count s
+  under = omega (arith, more, staying_few keep s old p n out some)
 
   room : 24 * n + 24 ≤ length out
   room =
       let start = c.before.before.before.before.before.before in
-      omega (arith, under, start.requires.1, staying-length keep s old p n out some start.requires.1)
+      omega (arith, under, start.requires.1, staying_length keep s old p n out some start.requires.1)
 
 write-record-requires : tie.Need-write-record-requires invariant-loop decreases-loop
 write-record-requires c κs =
@@ -80,9 +80,9 @@ loop-again c =
     let b = c.before in
     ⊎_elim
     (λ w.
-    staying-one (keep b) (s b) (old b) (p b) (n b) (out b) (some b) (more b) (sym (tested b) ∙ w.0.taken) w.6
-    (w.5 ∙ tail_written (24 * n b) (take 24 (recordAt (s b) (p b))) (out b) w.2.last.1.0 (rw (rest-of (24 * p b) (s b)) at w.2.ensures)))
-    (λ w. staying-skip (keep b) (s b) (old b) (p b) (n b) (out b) (some b) (more b) (sym (tested b) ∙ w.0.left) w.2 w.1)
+    staying_one (keep b) (s b) (old b) (p b) (n b) (out b) (some b) (more b) (sym (tested b) ∙ w.0.taken) w.6
+    (w.5 ∙ tail_written (24 * n b) (take 24 (record_at (s b) (p b))) (out b) w.2.last.1.0 (rw (rest_of_lem (24 * p b) (s b)) at w.2.ensures)))
+    (λ w. staying_skip (keep b) (s b) (old b) (p b) (n b) (out b) (some b) (more b) (sym (tested b) ∙ w.0.left) w.2 w.1)
     c.if1.branch
 
 same_length : tie.Need-same-length invariant-loop decreases-loop
@@ -90,15 +90,15 @@ same_length c =
     let b = c.before in
     let start = b.before.before.before in
     let a = start.args in
-    staying-length (staysBy a.extra.now a.s.now) a.s.now a.out.now b.loop.p b.loop.n b.loop.out b.loop.invariant start.requires.1
+    staying_length (stays_by a.extra.now a.s.now) a.s.now a.out.now b.loop.p b.loop.n b.loop.out b.loop.invariant start.requires.1
 
 returns : tie.Need-returns invariant-loop decreases-loop
 returns c =
     let b = c.before in
     let a = b.before.before.before.args in
-    let keep = staysBy a.extra.now a.s.now in (
-      staying-number keep a.s.now a.out.now b.loop.p b.loop.n b.loop.out b.loop.invariant (omega arith),
-      staying-all keep a.s.now a.out.now b.loop.p b.loop.n b.loop.out b.loop.invariant (omega arith),
+    let keep = stays_by a.extra.now a.s.now in (
+      staying_number keep a.s.now a.out.now b.loop.p b.loop.n b.loop.out b.loop.invariant (omega arith),
+      staying_all keep a.s.now a.out.now b.loop.p b.loop.n b.loop.out b.loop.invariant (omega arith),
     )
 
 pub write-staying-spec : {M : Type 1} → statement M

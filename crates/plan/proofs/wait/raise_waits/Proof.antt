@@ -4,14 +4,14 @@ use Prim.Native.Nat.{◌-◌, ◌≤◌}
 use native.Mathlib.Omega.{arith}
 use borrow.Author.Rules.{rules}
 use Rattle.words.specs.model.Loops.{upto}
-use Rattle.words.proofs.Loops.{up_none, up-again, up-end}
-use Rattle.records.proofs.Steps.{rest-of}
-use Rattle.plan.specs.model.Waits.{putWait}
+use Rattle.words.proofs.Loops.{up_none, up_again, up_end}
+use Rattle.records.proofs.Steps.{rest_of_lem}
+use Rattle.plan.specs.model.Waits.{put_wait}
 use Rattle.plan.proofs.wait.raise_waits.Statement.{statement}
 use Rattle.plan.proofs.wait.raise_waits.Tie as tie
 
 abbrev invariant-loop : tie.invariant-loop
-invariant-loop t n waits₀ p₀ waits p = (waits ≡ upto (putWait t) p waits₀) × (p ≤ n)
+invariant-loop t n waits₀ p₀ waits p = (waits ≡ upto (put_wait t) p waits₀) × (p ≤ n)
 
 abbrev decreases-loop : tie.decreases-loop
 decreases-loop t n waits₀ p₀ waits p = n - p
@@ -23,19 +23,19 @@ raise-wait-requires : tie.Need-raise-wait-requires invariant-loop decreases-loop
 raise-wait-requires c κs =
     let b = c.before.before.before in
     let start = b.before.before in
-    rw rest-of (start.requires.1 b.loop.p (omega arith))
+    rw rest_of_lem (start.requires.1 b.loop.p (omega arith))
 
 loop-again : tie.Need-loop-preserved invariant-loop decreases-loop
 loop-again c =
     let b = c.before.before.before.before in
     let a = b.before.before.args in
-    up-again (putWait a.t.now) a.n b.loop.p a.waits.now (omega arith) b.loop.invariant (rw rest-of at c.raise-wait.ensures)
+    up_again (put_wait a.t.now) a.n b.loop.p a.waits.now (omega arith) b.loop.invariant (rw rest_of_lem at c.raise-wait.ensures)
 
 returns : tie.Need-returns invariant-loop decreases-loop
 returns c =
     let b = c.before in
     let a = b.before.before.args in
-    up-end (putWait a.t.now) a.n b.loop.p a.waits.now (omega arith) b.loop.invariant
+    up_end (put_wait a.t.now) a.n b.loop.p a.waits.now (omega arith) b.loop.invariant
 
 pub raise-waits-spec : {M : Type 1} → statement M
 raise-waits-spec =

@@ -6,9 +6,9 @@ use Prim.Native.Nat.{ℕ, ◌+◌, ◌*◌, ◌/◌, ◌≤◌}
 use native.Mathlib.Omega.{arith}
 use lib.ListN.{length, length-drop}
 use borrow.Author.Rules.{rules}
-use Rattle.records.proofs.Steps.{rest-of}
-use Rattle.plan.specs.Records.{activityCount}
-use Rattle.plan.proofs.Waits.{arcs-there, arcs-recorded, waits-stored}
+use Rattle.records.proofs.Steps.{rest_of_lem}
+use Rattle.plan.specs.Records.{activity_count}
+use Rattle.plan.proofs.Waits.{arcs_there, arcs_recorded, waits_stored}
 use Rattle.plan.proofs.wait.store_waits.Statement.{statement}
 use Rattle.plan.proofs.wait.store_waits.Tie as tie
 
@@ -18,7 +18,7 @@ module _ (c : tie.After-leading-records) where
   s = c.before.before.args.s.now
 
   there : c.leading-records.result + 1 ≤ length s / 24
-  there = omega (arith, c.leading-records.ensures.0, arcs-there s c.before.before.requires.0)
+  there = omega (arith, c.leading-records.ensures.0, arcs_there s c.before.before.requires.0)
 
 sub-raise-waits : tie.Need-overflow-sub-raise-waits
 sub-raise-waits c = omega (arith, there c)
@@ -32,12 +32,12 @@ sub-raise-waits-2 c = there c.before
 raise-waits-requires : tie.Need-raise-waits-requires
 raise-waits-requires c κs =
     let b = c.before.before in
-    rw (rest-of, b.leading-records.ensures.0) (omega (arith, length-drop (24 * (activityCount (s b) + 1)) (s b)), arcs-recorded (s b) b.before.before.requires.0)
+    rw (rest_of_lem, b.leading-records.ensures.0) (omega (arith, length-drop (24 * (activity_count (s b) + 1)) (s b)), arcs_recorded (s b) b.before.before.requires.0)
 
 returns : tie.Need-returns
 returns c =
     let b = c.before.before.before in
-    rw (rest-of, b.leading-records.ensures.0, b.before.before.requires.1) at c.raise-waits.ensures ∙ waits-stored (s b) b.before.before.requires.0
+    rw (rest_of_lem, b.leading-records.ensures.0, b.before.before.requires.1) at c.raise-waits.ensures ∙ waits_stored (s b) b.before.before.requires.0
 
 pub store-waits-spec : {M : Type 1} → statement M
 store-waits-spec =

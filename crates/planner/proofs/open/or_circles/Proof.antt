@@ -1,16 +1,16 @@
 -- `planner::open::or_circles` meets its contract, from the two circles.
 use native.Mathlib.Omega.{arith}
-use Rattle.order.proofs.Orders.{circle-le}
+use Rattle.order.proofs.Orders.{circle_le}
 use Rattle.planner.proofs.OpenLaws.{circles-as}
 use borrow.Author.Rules.{rules}
 use Rattle.planner.proofs.open.or_circles.Statement.{statement}
 use Rattle.planner.proofs.open.or_circles.Tie as tie
 
 add-t8 : tie.Need-overflow-add-t8
-add-t8 c = record { fits = omega (arith, c.circle.ensures, circle-le c.before.args.job) }
+add-t8 c = record { fits = omega (arith, c.circle.ensures, circle_le c.before.args.job) }
 
 add-t8-2 : tie.Need-overflow-add-t8-2
-add-t8-2 c = record { fits = omega (arith, c.circle2.ensures, circle-le c.before.before.before.args.whole) }
+add-t8-2 c = record { fits = omega (arith, c.circle2.ensures, circle_le c.before.before.before.args.whole) }
 
 returns : tie.Need-returns
 returns c =

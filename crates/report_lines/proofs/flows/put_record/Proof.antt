@@ -3,7 +3,7 @@ use mathlib.Core.Path.{ap, ◌∙◌}
 use native.Mathlib.Omega.{arith}
 use borrow.Author.Rules.{rules}
 use Rattle.lines.specs.Text.{text, more}
-use Rattle.report_lines.proofs.FlowLines.{record-line}
+use Rattle.report_lines.proofs.FlowLines.{record_line_lem}
 use Rattle.report_lines.proofs.flows.put_record.Statement.{statement}
 use Rattle.report_lines.proofs.flows.put_record.Tie as tie
 
@@ -22,7 +22,7 @@ returns c =
     let a = s.args in
     w.put-line.ensures
     ∙ ap (more (text a.at a.out.now))
-    (record-line a.bytes.now x.wide.ensures.0 y.wide2.ensures.0 z.wide3.ensures.0 u.units.ensures e.wide4.ensures.0)
+    (record_line_lem a.bytes.now x.wide.ensures.0 y.wide2.ensures.0 z.wide3.ensures.0 u.units.ensures e.wide4.ensures.0)
 
 pub put-record-spec : {M : Type 1} → statement M
 put-record-spec =

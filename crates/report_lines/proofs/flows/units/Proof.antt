@@ -1,6 +1,6 @@
 -- `report_lines::flows::units` meets its contract: the four bytes that it read are the four of `field`.
 use borrow.Author.Rules.{rules}
-use Rattle.report_lines.proofs.FlowLines.{units-field}
+use Rattle.report_lines.proofs.FlowLines.{units_field}
 use Rattle.report_lines.proofs.flows.units.Statement.{statement}
 use Rattle.report_lines.proofs.flows.units.Tie as tie
 
@@ -10,7 +10,7 @@ returns c =
     let y = z.before.before in
     let x = y.before.before in
     let s = x.before.before.before in
-    units-field s.args.bytes.now x.wide.ensures.0 y.wide2.ensures.0 z.wide3.ensures.0 c.wide4.ensures.0
+    units_field s.args.bytes.now x.wide.ensures.0 y.wide2.ensures.0 z.wide3.ensures.0 c.wide4.ensures.0
 
 pub units-spec : {M : Type 1} → statement M
 units-spec =

@@ -1,7 +1,7 @@
--- `report_lines::head::head_text` meets its contract: the four parts, one after another (`head-end`).
+-- `report_lines::head::head_text` meets its contract: the four parts, one after another (`head_end`).
 use native.Mathlib.Omega.{arith}
 use borrow.Author.Rules.{rules}
-use Rattle.report_lines.proofs.HeadLines.{needs-room, starts-room, started-at, head-length, head-end}
+use Rattle.report_lines.proofs.HeadLines.{needs_room, starts_room, started_at, head_length, head_end}
 use Rattle.report_lines.proofs.head.head_text.Statement.{statement}
 use Rattle.report_lines.proofs.head.head_text.Tie as tie
 
@@ -12,7 +12,7 @@ put-needs-requires c κs =
     let s = z.before.before.before.before.before in
     let a = s.args in
     let room =
-    needs-room a.m a.n a.needs.now a.available.now a.starts.now a.out.now p.new.0 p.new.0 p.new.0
+    needs_room a.m a.n a.needs.now a.available.now a.starts.now a.out.now p.new.0 p.new.0 p.new.0
     p.result 0 0 s.requires.0 s.requires.1 s.requires.2 p.ensures in
     (s.requires.1, room)
 
@@ -25,7 +25,7 @@ put-starts-requires c κs =
     let s = z.before.before.before.before.before in
     let a = s.args in
     let room =
-    starts-room a.m a.n a.needs.now a.available.now a.starts.now a.out.now p.new.0 q.new.0 q.new.0
+    starts_room a.m a.n a.needs.now a.available.now a.starts.now a.out.now p.new.0 q.new.0 q.new.0
     p.result q.result 0 s.requires.0 s.requires.1 s.requires.2 p.ensures q.ensures in
     (s.requires.0, room)
 
@@ -40,7 +40,7 @@ put-line-requires-2 c κs =
     let s = z.before.before.before.before.before in
     let a = s.args in
     let room =
-    started-at a.m a.n a.needs.now a.available.now a.starts.now a.out.now p.new.0 q.new.0 t.new.0
+    started_at a.m a.n a.needs.now a.available.now a.starts.now a.out.now p.new.0 q.new.0 t.new.0
     p.result q.result t.result s.requires.0 s.requires.1 s.requires.2 p.ensures q.ensures t.ensures in
     omega arith
 
@@ -56,7 +56,7 @@ same_length c =
     let p = z.put-line in
     let s = z.before.before.before.before.before in
     let a = s.args in
-    head-length a.m a.n a.needs.now a.available.now a.starts.now a.out.now p.new.0 q.new.0 t.new.0
+    head_length a.m a.n a.needs.now a.available.now a.starts.now a.out.now p.new.0 q.new.0 t.new.0
     p.result q.result t.result s.requires.0 s.requires.1 s.requires.2 p.ensures q.ensures t.ensures
     l.result _ l.new.0 l.ensures
 
@@ -74,7 +74,7 @@ returns c =
     let p = z.put-line in
     let s = z.before.before.before.before.before in
     let a = s.args in
-    head-end a.m a.n a.needs.now a.available.now a.starts.now a.out.now p.new.0 q.new.0 t.new.0
+    head_end a.m a.n a.needs.now a.available.now a.starts.now a.out.now p.new.0 q.new.0 t.new.0
     p.result q.result t.result s.requires.0 s.requires.1 s.requires.2 p.ensures q.ensures t.ensures
     l.result _ l.new.0 l.ensures i
 

@@ -4,24 +4,24 @@ use Prim.Native.Nat.{◌-◌}
 use native.Mathlib.Omega.{arith}
 use borrow.Author.Rules.{rules}
 use Rattle.lines.specs.Text.{text, more}
-use Rattle.lines.proofs.Putting.{Putting, putting-none, putting-length, putting-room, putting-next, putting-end}
-use Rattle.report_lines.proofs.HeadLines.{needLine, need-short, need-line, needs-end}
+use Rattle.lines.proofs.Putting.{Putting, putting_none, putting_length, putting_room, putting_next, putting_end}
+use Rattle.report_lines.proofs.HeadLines.{need_line, need_short, need_line_lem, needs_end}
 use Rattle.report_lines.proofs.head.put_needs.Statement.{statement}
 use Rattle.report_lines.proofs.head.put_needs.Tie as tie
 
 abbrev invariant-loop : tie.invariant-loop
-invariant-loop out₀ at n rules available end₀ k₀ t9 out end k = Putting (needLine rules available) 68 n at out₀ k end out
+invariant-loop out₀ at n rules available end₀ k₀ t9 out end k = Putting (need_line rules available) 68 n at out₀ k end out
 
 abbrev decreases-loop : tie.decreases-loop
 decreases-loop out₀ at n rules available end₀ k₀ t9 out end k = n - k
 
 loop-holds : tie.Need-loop-init invariant-loop decreases-loop
-loop-holds c = putting-none
+loop-holds c = putting_none
 
 put-line-requires : tie.Need-put-line-requires invariant-loop decreases-loop
 put-line-requires c κs =
     let t = c.before.before.before.before.before.before.before.before in
-    let room = putting-room t.loop.invariant t.before.before.requires.1 (omega arith) in
+    let room = putting_room t.loop.invariant t.before.before.requires.1 (omega arith) in
     omega arith
 
 loop-again : tie.Need-loop-preserved invariant-loop decreases-loop
@@ -32,21 +32,21 @@ loop-again c =
     let t = x.before.before.before in
     let s = t.before.before in
     let a = s.args in
-    putting-next t.loop.invariant s.requires.1 (omega arith)
+    putting_next t.loop.invariant s.requires.1 (omega arith)
     (w.put-line.ensures
-    ∙ ap (more (text t.loop.end t.loop.out)) (need-line a.needs.now a.available.now t.loop.k x.wide.ensures.0 y.wide2.ensures.0))
-    (need-short a.needs.now a.available.now t.loop.k)
+    ∙ ap (more (text t.loop.end t.loop.out)) (need_line_lem a.needs.now a.available.now t.loop.k x.wide.ensures.0 y.wide2.ensures.0))
+    (need_short a.needs.now a.available.now t.loop.k)
 
 same_length : tie.Need-same-length invariant-loop decreases-loop
-same_length c = putting-length c.before.loop.invariant c.before.before.before.requires.1
+same_length c = putting_length c.before.loop.invariant c.before.before.before.requires.1
 
 returns : tie.Need-returns invariant-loop decreases-loop
 returns c =
     let t = c.before in
     let s = t.before.before in
     let a = s.args in
-    (putting-end t.loop.invariant s.requires.1 (omega arith)).0
-    ∙ ap (more (text a.at a.out.now)) (needs-end a.n a.needs.now a.available.now)
+    (putting_end t.loop.invariant s.requires.1 (omega arith)).0
+    ∙ ap (more (text a.at a.out.now)) (needs_end a.n a.needs.now a.available.now)
 
 pub put-needs-spec : {M : Type 1} → statement M
 put-needs-spec =

@@ -4,8 +4,8 @@ use mathlib.Core.Path.{ap, ◌∙◌}
 use native.Mathlib.Omega.{arith}
 use lib.ListN.{length-set}
 use borrow.Author.Rules.{rules}
-use Rattle.report_lines.specs.Lines.{refusalNumbers}
-use Rattle.report_lines.proofs.RefusalLine.{values-first}
+use Rattle.report_lines.specs.Lines.{refusal_numbers}
+use Rattle.report_lines.proofs.RefusalLine.{values_first}
 use Rattle.report_lines.proofs.refusal.put_cause.Statement.{statement}
 use Rattle.report_lines.proofs.refusal.put_cause.Tie as tie
 
@@ -19,8 +19,8 @@ returns c =
     let t = v.before.before.before in
     let s = t.before.before in
     let r = t.refusal-of.result in
-    let front = values-first s.args.numbers.now r.number r.first r.second r.values s.requires in
-    (w.0, w.1 ∙ rw (v.plain-values.ensures, front) (ap refusalNumbers t.refusal-of.ensures))
+    let front = values_first s.args.numbers.now r.number r.first r.second r.values s.requires in
+    (w.0, w.1 ∙ rw (v.plain-values.ensures, front) (ap refusal_numbers t.refusal-of.ensures))
 
 pub put-cause-spec : {M : Type 1} → statement M
 put-cause-spec =

@@ -2,9 +2,9 @@
 use native.Mathlib.Omega.{arith}
 use borrow.Author.Rules.{rules}
 use Rattle.order.specs.Stored.{number_of}
-use Rattle.order.proofs.Stored.{number-of}
-use Rattle.order.proofs.Listing.{some_left, none_left, listed_below, listing-less}
-use Rattle.report_lines.proofs.RefusalLine.{Listed, listed-none, listed-room, listed_next, listed-end}
+use Rattle.order.proofs.Stored.{number_of_lem}
+use Rattle.order.proofs.Listing.{some_left, none_left, listed_below, listing_less}
+use Rattle.report_lines.proofs.RefusalLine.{Listed, listed_none, listed_room, listed_next, listed_end}
 use Rattle.report_lines.proofs.refusal.put_members.Statement.{statement}
 use Rattle.report_lines.proofs.refusal.put_members.Tie as tie
 
@@ -17,7 +17,7 @@ decreases-loop numbers₀ n end₀ left₀ numbers end left = number_of left
 loop-holds : tie.Need-loop-init invariant-loop decreases-loop
 loop-holds c =
     let a = c.before.args in
-    listed-none a.n (number_of a.set) a.numbers.now c.before.requires.1
+    listed_none a.n (number_of a.set) a.numbers.now c.before.requires.1
 
 add-numbers : tie.Need-overflow-add-numbers invariant-loop decreases-loop
 add-numbers c =
@@ -34,7 +34,7 @@ slice-write-numbers c =
     omega (
       arith,
       t.loop.invariant.long,
-      listed-room a.n (number_of a.set) a.numbers.now t.loop.end (number_of t.loop.left) t.loop.numbers t.loop.invariant some e.is-empty.ensures.1,
+      listed_room a.n (number_of a.set) a.numbers.now t.loop.end (number_of t.loop.left) t.loop.numbers t.loop.invariant some e.is-empty.ensures.1,
     )
 
 mul-numbers : tie.Need-overflow-mul-numbers invariant-loop decreases-loop
@@ -46,7 +46,7 @@ mul-numbers c =
     record {
       fits = omega (
         arith,
-        listed-room a.n (number_of a.set) a.numbers.now t.loop.end (number_of t.loop.left) t.loop.numbers t.loop.invariant some
+        listed_room a.n (number_of a.set) a.numbers.now t.loop.end (number_of t.loop.left) t.loop.numbers t.loop.invariant some
             e.is-empty.ensures.1,
       );
     }
@@ -60,7 +60,7 @@ add-end c =
     record {
       fits = omega (
         arith,
-        listed-room a.n (number_of a.set) a.numbers.now t.loop.end (number_of t.loop.left) t.loop.numbers t.loop.invariant some
+        listed_room a.n (number_of a.set) a.numbers.now t.loop.end (number_of t.loop.left) t.loop.numbers t.loop.invariant some
             e.is-empty.ensures.1,
       );
     }
@@ -68,7 +68,7 @@ add-end c =
 loop-less : tie.Need-loop-smaller invariant-loop decreases-loop
 loop-less c =
     let e = c.before.before.before in
-    listing-less e.before.loop.left e.is-empty.result e.is-empty.ensures c.without-lowest.result c.before.before.if1.true
+    listing_less e.before.loop.left e.is-empty.result e.is-empty.ensures c.without-lowest.result c.before.before.if1.true
     c.without-lowest.ensures
 
 loop-again : tie.Need-loop-preserved invariant-loop decreases-loop
@@ -79,7 +79,7 @@ loop-again c =
     let a = s.args in
     let some = some_left t.loop.left e.is-empty.result e.is-empty.ensures c.before.before.if1.true in
     listed_next a.n (number_of a.set) a.numbers.now t.loop.end (number_of t.loop.left) t.loop.numbers t.loop.invariant some e.is-empty.ensures.1
-    s.requires.0 c.before.lowest.ensures (number-of c.without-lowest.result c.without-lowest.ensures)
+    s.requires.0 c.before.lowest.ensures (number_of_lem c.without-lowest.result c.without-lowest.ensures)
 
 same_length : tie.Need-same-length invariant-loop decreases-loop
 same_length c = c.before.before.loop.invariant.long
@@ -89,7 +89,7 @@ returns c =
     let e = c.before in
     let t = e.before in
     let a = t.before.before.args in
-    listed-end a.n (number_of a.set) a.numbers.now t.loop.end (number_of t.loop.left) t.loop.numbers t.loop.invariant
+    listed_end a.n (number_of a.set) a.numbers.now t.loop.end (number_of t.loop.left) t.loop.numbers t.loop.invariant
     (none_left t.loop.left e.is-empty.result e.is-empty.ensures c.if1.false)
 
 pub put-members-spec : {M : Type 1} → statement M

@@ -3,8 +3,8 @@ use mathlib.Core.Path.{◌≡◌, sym}
 use native.Mathlib.Omega.{arith}
 use lib.ListN.{length}
 use borrow.Author.Rules.{rules}
-use Rattle.report_lines.specs.Lines.{refusedNumbers, refusedLine, slots}
-use Rattle.report_lines.proofs.RefusalLine.{numbers-few, refused_end, refused-within}
+use Rattle.report_lines.specs.Lines.{refused_numbers, refused_line, slots}
+use Rattle.report_lines.proofs.RefusalLine.{numbers_few, refused_end, refused_within}
 use Rattle.report_lines.proofs.refusal.refused_text.Statement.{statement}
 use Rattle.report_lines.proofs.refusal.refused_text.Tie as tie
 
@@ -14,7 +14,7 @@ slice-aggregate-put-line-2 c =
     let e : length x.new.0 ≡ slots = search rules in
     let s = c.before.before.before.before.before.before.before in
     let a = s.args in
-    let few = numbers-few x.result x.new.0 (refusedNumbers a.c) a.out.now x.ensures e s.requires in
+    let few = numbers_few x.result x.new.0 (refused_numbers a.c) a.out.now x.ensures e s.requires in
     sym few
 
 put-line-requires : tie.Need-put-line-requires
@@ -23,7 +23,7 @@ put-line-requires c κs =
     let e : length x.new.0 ≡ slots = search rules in
     let s = c.before.before.before.before.before.before.before in
     let a = s.args in
-    let few = numbers-few x.result x.new.0 (refusedNumbers a.c) a.out.now x.ensures e s.requires in
+    let few = numbers_few x.result x.new.0 (refused_numbers a.c) a.out.now x.ensures e s.requires in
     omega arith
 
 same_length : tie.Need-same-length
@@ -32,25 +32,25 @@ same_length c =
     let e : length x.new.0 ≡ slots = search rules in
     let s = c.before.before.before.before.before.before.before.before.before.before in
     let a = s.args in
-    let few = numbers-few x.result x.new.0 (refusedNumbers a.c) a.out.now x.ensures e s.requires in
+    let few = numbers_few x.result x.new.0 (refused_numbers a.c) a.out.now x.ensures e s.requires in
     let w = c.before.before.put-line in
-    (refused-within x.result x.new.0 (refusedNumbers a.c) a.out.now x.ensures e s.requires
+    (refused_within x.result x.new.0 (refused_numbers a.c) a.out.now x.ensures e s.requires
     w.result w.new.0 w.ensures).1
 
 returns : tie.Need-returns
-unfolding refusedLine
+unfolding refused_line
 returns c =
     let x = c.before.before.before.before.before.before.before.put-cause in
     let e : length x.new.0 ≡ slots = search rules in
     let s = c.before.before.before.before.before.before.before.before.before.before in
     let a = s.args in
-    let few = numbers-few x.result x.new.0 (refusedNumbers a.c) a.out.now x.ensures e s.requires in
+    let few = numbers_few x.result x.new.0 (refused_numbers a.c) a.out.now x.ensures e s.requires in
     let w = c.before.before.put-line in
     let within =
-    refused-within x.result x.new.0 (refusedNumbers a.c) a.out.now x.ensures e s.requires
+    refused_within x.result x.new.0 (refused_numbers a.c) a.out.now x.ensures e s.requires
     w.result w.new.0 w.ensures in
     let whole =
-    refused_end x.result x.new.0 (refusedNumbers a.c) a.out.now x.ensures e s.requires
+    refused_end x.result x.new.0 (refused_numbers a.c) a.out.now x.ensures e s.requires
     w.result w.new.0 w.ensures in
     (whole, within.0)
 

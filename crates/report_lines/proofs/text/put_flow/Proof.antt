@@ -1,10 +1,10 @@
--- `report_lines::text::put_flow` meets its contract: the lines are those of what Flow wrote (`written-lines`), and it
--- does not refuse (`not-refused`).
+-- `report_lines::text::put_flow` meets its contract: the lines are those of what Flow wrote (`written_lines`), and it
+-- does not refuse (`not_refused`).
 use mathlib.Core.Path.{ap, ◌∙◌}
 use native.Mathlib.Omega.{arith}
 use borrow.Author.Rules.{rules}
 use Rattle.lines.specs.Text.{text, more}
-use Rattle.report_lines.proofs.KindLines.{not-refused, written-lines}
+use Rattle.report_lines.proofs.KindLines.{not_refused, written_lines}
 use Rattle.report_lines.proofs.text.put_flow.Statement.{statement}
 use Rattle.report_lines.proofs.text.put_flow.Tie as tie
 
@@ -17,7 +17,7 @@ put-records-requires c κs =
     let s = k.before.before in
     let a = s.args in
     let held =
-    written-lines a.s.now s.requires.0 a.kind s.requires.1 s.requires.2 z.flow-buffer.result (omega arith) f.flow.ensures.0
+    written_lines a.s.now s.requires.0 a.kind s.requires.1 s.requires.2 z.flow-buffer.result (omega arith) f.flow.ensures.0
     (λ i. omega (arith, k.shared-slice-known.given i)) _ w.written.given.1 f.flow.ensures.1 in
     (held.0, omega arith, omega arith)
 
@@ -31,7 +31,7 @@ returns c =
     let s = k.before.before in
     let a = s.args in
     let held =
-    written-lines a.s.now s.requires.0 a.kind s.requires.1 s.requires.2 z.flow-buffer.result (omega arith) f.flow.ensures.0
+    written_lines a.s.now s.requires.0 a.kind s.requires.1 s.requires.2 z.flow-buffer.result (omega arith) f.flow.ensures.0
     (λ i. omega (arith, k.shared-slice-known.given i)) _ w.written.given.1 f.flow.ensures.1 in
     (p.put-records.ensures.0 ∙ ap (more (text a.at a.out.now)) held.1, omega arith)
 
@@ -41,7 +41,7 @@ returns-2 c =
     let z = f.before.before in
     let s = z.before.before.before in
     let a = s.args in
-    absurd (not-refused a.s.now s.requires.0 a.kind s.requires.1 s.requires.2 z.flow-buffer.result (omega arith) f.flow.ensures.0
+    absurd (not_refused a.s.now s.requires.0 a.kind s.requires.1 s.requires.2 z.flow-buffer.result (omega arith) f.flow.ensures.0
     _ c.enum_told.given.1)
 
 pub put-flow-spec : {M : Type 1} → statement M

@@ -4,27 +4,27 @@ use Prim.Native.Nat.{ℕ, ◌+◌, ◌-◌}
 use native.Mathlib.Omega.{arith}
 use borrow.Author.Rules.{rules}
 use Rattle.lines.specs.Text.{text, more}
-use Rattle.planner.specs.Open.{planIn}
-use Rattle.report_lines.specs.Report.{flowRoom, kindLines}
-use Rattle.lines.proofs.Texts.{grown-by}
-use Rattle.lines.proofs.Putting.{Putting, putting-none, putting-length, putting-next, putting-end}
+use Rattle.planner.specs.Open.{plan_in}
+use Rattle.report_lines.specs.Report.{flow_room, kind_lines}
+use Rattle.lines.proofs.Texts.{grown_by}
+use Rattle.lines.proofs.Putting.{Putting, putting_none, putting_length, putting_next, putting_end}
 use Rattle.report_lines.proofs.text.put_flows.Statement.{statement}
 use Rattle.report_lines.proofs.text.put_flows.Tie as tie
 
 abbrev invariant-loop : tie.invariant-loop
-invariant-loop out₀ at s n end₀ k₀ out end k = Putting (kindLines (planIn s)) flowRoom n at out₀ k end out
+invariant-loop out₀ at s n end₀ k₀ out end k = Putting (kind_lines (plan_in s)) flow_room n at out₀ k end out
 
 abbrev decreases-loop : tie.decreases-loop
 decreases-loop out₀ at s n end₀ k₀ out end k = n - k
 
 loop-holds : tie.Need-loop-init invariant-loop decreases-loop
-loop-holds c = putting-none
+loop-holds c = putting_none
 
 put-flow-requires : tie.Need-put-flow-requires invariant-loop decreases-loop
 put-flow-requires c κs =
     let t = c.before.before in
     let s = t.before.before.before in
-    let long = putting-length t.loop.invariant (omega arith) in
+    let long = putting_length t.loop.invariant (omega arith) in
     (s.requires.0, omega arith, omega arith, omega (arith, t.loop.invariant.short))
 
 loop-again : tie.Need-loop-preserved invariant-loop decreases-loop
@@ -35,15 +35,15 @@ loop-again c =
     let k = t.loop.k in
     let e : k + 1 - 1 ≡ k = omega arith in
     let more_of = more (text t.loop.end t.loop.out) in
-    let done = w.ensures.0 ∙ ap (λ (i : ℕ). more_of (kindLines (planIn s.args.s.now) i)) e in
-    putting-next t.loop.invariant (omega arith) (omega arith) done
-    (omega (arith, w.ensures.1, grown-by t.loop.end w.result (kindLines (planIn s.args.s.now) k) t.loop.out w.new.0 done))
+    let done = w.ensures.0 ∙ ap (λ (i : ℕ). more_of (kind_lines (plan_in s.args.s.now) i)) e in
+    putting_next t.loop.invariant (omega arith) (omega arith) done
+    (omega (arith, w.ensures.1, grown_by t.loop.end w.result (kind_lines (plan_in s.args.s.now) k) t.loop.out w.new.0 done))
 
 same_length : tie.Need-same-length invariant-loop decreases-loop
-same_length c = putting-length c.before.loop.invariant (omega arith)
+same_length c = putting_length c.before.loop.invariant (omega arith)
 
 returns : tie.Need-returns invariant-loop decreases-loop
-returns c = putting-end c.before.loop.invariant (omega arith) (omega arith)
+returns c = putting_end c.before.loop.invariant (omega arith) (omega arith)
 
 pub put-flows-spec : {M : Type 1} → statement M
 put-flows-spec =

@@ -2,14 +2,14 @@
 use native.Mathlib.Omega.{arith}
 use borrow.Author.Rules.{rules}
 use Rattle.lines.specs.Text.{text}
-use Rattle.report_lines.proofs.Whole.{sizes-few, head_read}
+use Rattle.report_lines.proofs.Whole.{sizes_few, head_read}
 use Rattle.report_lines.proofs.text.put_head.Statement.{statement}
 use Rattle.report_lines.proofs.text.put_head.Tie as tie
 
 head-text-requires : tie.Need-head-text-requires
 head-text-requires c κs =
     let s = c.before.before.before.before.before.before.before.before.before.before.before.before.before in
-    let few = sizes-few s.args.s.now s.requires.1 s.requires.2 in
+    let few = sizes_few s.args.s.now s.requires.1 s.requires.2 in
     (few.0, few.1, s.requires.3)
 
 returns : tie.Need-returns

@@ -1,8 +1,8 @@
--- `report_lines::text::put_plan` meets its contract: the head, and the flows behind it (`plan-end`).
+-- `report_lines::text::put_plan` meets its contract: the head, and the flows behind it (`plan_end`).
 use native.Mathlib.Nat.{le_of_eq}
 use native.Mathlib.Omega.{arith}
 use borrow.Author.Rules.{rules}
-use Rattle.report_lines.proofs.Whole.{flows-room, plan-end}
+use Rattle.report_lines.proofs.Whole.{flows_room, plan_end}
 use Rattle.report_lines.proofs.text.put_plan.Statement.{statement}
 use Rattle.report_lines.proofs.text.put_plan.Tie as tie
 
@@ -11,7 +11,7 @@ put-flows-requires c κs =
     let h = c.before.before.before in
     let s = h.before.before.before.before in
     let a = s.args in
-    let room = flows-room a.s.now s.requires.1 s.requires.2 a.out.now s.requires.3 h.put-head.ensures in
+    let room = flows_room a.s.now s.requires.1 s.requires.2 a.out.now s.requires.3 h.put-head.ensures in
     (s.requires.0, le_of_eq s.requires.2, omega arith)
 
 returns : tie.Need-returns
@@ -20,7 +20,7 @@ returns c =
     let h = c.before.before.before.before.before.before in
     let s = h.before.before.before.before in
     let a = s.args in
-    plan-end a.s.now s.requires.1 s.requires.2 a.out.now s.requires.3 h.put-head.ensures f.ensures.0 f.ensures.1
+    plan_end a.s.now s.requires.1 s.requires.2 a.out.now s.requires.3 h.put-head.ensures f.ensures.0 f.ensures.1
 
 pub put-plan-spec : {M : Type 1} → statement M
 put-plan-spec =

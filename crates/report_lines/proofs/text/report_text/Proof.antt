@@ -1,9 +1,9 @@
--- `report_lines::text::report_text` meets its contract, by Verdict's answer (`report-is`).
+-- `report_lines::text::report_text` meets its contract, by Verdict's answer (`report_is`).
 use mathlib.Core.Path.{ap, ◌∙◌}
 use borrow.Author.Rules.{rules}
 use Rattle.lines.specs.Text.{text, more}
 use Rattle.report_lines.proofs.Accepted.{accepted}
-use Rattle.report_lines.proofs.Whole.{report-is, counts-within}
+use Rattle.report_lines.proofs.Whole.{report_is, counts_within}
 use Rattle.report_lines.proofs.text.report_text.Statement.{statement}
 use Rattle.report_lines.proofs.text.report_text.Tie as tie
 
@@ -21,7 +21,7 @@ returns c =
     let d = p.before.before.before in
     let v = d.before.before in
     let a = v.before.before.before.args in
-    (p.put-plan.ensures.0 ∙ ap (more (text 0 a.out.now)) (report-is a.s.now v.verdict.ensures d.decision.given.1), p.put-plan.ensures.1)
+    (p.put-plan.ensures.0 ∙ ap (more (text 0 a.out.now)) (report_is a.s.now v.verdict.ensures d.decision.given.1), p.put-plan.ensures.1)
 
 returns-2 : tie.Need-returns-2
 returns-2 c =
@@ -29,7 +29,7 @@ returns-2 c =
     let d = p.before.before.before in
     let v = d.before.before in
     let a = v.before.before.before.args in
-    (p.refused-text.ensures.0 ∙ ap (more (text 0 a.out.now)) (report-is a.s.now v.verdict.ensures d.decision2.given.1), counts-within _ _ p.refused-text.ensures.1)
+    (p.refused-text.ensures.0 ∙ ap (more (text 0 a.out.now)) (report_is a.s.now v.verdict.ensures d.decision2.given.1), counts_within _ _ p.refused-text.ensures.1)
 
 pub report-text-spec : {M : Type 1} → statement M
 report-text-spec =

@@ -9,10 +9,10 @@ use borrow.Author.Count.{below_none, below_more}
 use borrow.Author.Rules.{rules}
 use Rattle.words.specs.Bits.{bit}
 use Rattle.order.specs.Stored.{elements}
-use Rattle.order.proofs.Stored.{number-of}
-use Rattle.words.proofs.Firsts.{first-stop, first-end}
-use Rattle.schedule.specs.Checks.{breaks, brokenTo}
-use Rattle.schedule.specs.model.Arrays.{crewNet, withWaits}
+use Rattle.order.proofs.Stored.{number_of_lem}
+use Rattle.words.proofs.Firsts.{first_stop, first_end}
+use Rattle.schedule.specs.Checks.{breaks, broken_to}
+use Rattle.schedule.specs.model.Arrays.{crew_net, with_waits}
 use Rattle.schedule.specs.Lists.{at}
 use Rattle.schedule.proofs.Arcs.{breaks-by}
 use Rattle.schedule.proofs.crew.broken_to.Statement.{statement}
@@ -20,7 +20,7 @@ use Rattle.schedule.proofs.crew.broken_to.Tie as tie
 
 abbrev invariant-loop : tie.invariant-loop
 invariant-loop rows waits starts worked i row finish m j₀ j =
-    (j ≤ length starts) × (finish ≡ at starts i + at worked i) × ((k : ℕ) → k < j → breaks (crewNet rows (withWaits worked waits) starts) (at starts) i k ≡ false)
+    (j ≤ length starts) × (finish ≡ at starts i + at worked i) × ((k : ℕ) → k < j → breaks (crew_net rows (with_waits worked waits) starts) (at starts) i k ≡ false)
 
 abbrev decreases-loop : tie.decreases-loop
 decreases-loop rows waits starts worked i row finish m j₀ j = m - j
@@ -29,7 +29,7 @@ loop-holds : tie.Need-loop-init invariant-loop decreases-loop
 loop-holds c = (omega arith, omega arith, below_none _)
 
 returns : tie.Need-returns invariant-loop decreases-loop
-unfolding brokenTo
+unfolding broken_to
 returns c =
     let a = c.before.before.before.before in
     let s = a.before.before.before.before.before.before.before.before.args in
@@ -37,9 +37,9 @@ returns c =
     let W = s.waits.now in
     let S = s.starts.now in
     let D = s.worked.now in
-    let f = c.before.breaks-at.ensures ∙ ap (λ (w : ℕ). bit w a.loop.j && ltb (at S a.loop.j) (a.before.before.before.wide.result + a.before.wide2.result + at W (elements * a.loop.j + s.i))) (number-of _ a.before.before.before.before.before.row.ensures) in
+    let f = c.before.breaks-at.ensures ∙ ap (λ (w : ℕ). bit w a.loop.j && ltb (at S a.loop.j) (a.before.before.before.wide.result + a.before.wide2.result + at W (elements * a.loop.j + s.i))) (number_of_lem _ a.before.before.before.before.before.row.ensures) in
     let e = breaks-by R W S D s.i a.loop.j _ a.loop.invariant.1 f in
-    first-stop (length S) (breaks (crewNet R (withWaits D W) S) (at S) s.i) a.loop.j a.loop.invariant.2 (omega arith) (e ∙ c.if1.true)
+    first_stop (length S) (breaks (crew_net R (with_waits D W) S) (at S) s.i) a.loop.j a.loop.invariant.2 (omega arith) (e ∙ c.if1.true)
 
 loop-again : tie.Need-loop-preserved invariant-loop decreases-loop
 loop-again c =
@@ -49,16 +49,16 @@ loop-again c =
     let W = s.waits.now in
     let S = s.starts.now in
     let D = s.worked.now in
-    let f = c.before.breaks-at.ensures ∙ ap (λ (w : ℕ). bit w a.loop.j && ltb (at S a.loop.j) (a.before.before.before.wide.result + a.before.wide2.result + at W (elements * a.loop.j + s.i))) (number-of _ a.before.before.before.before.before.row.ensures) in
+    let f = c.before.breaks-at.ensures ∙ ap (λ (w : ℕ). bit w a.loop.j && ltb (at S a.loop.j) (a.before.before.before.wide.result + a.before.wide2.result + at W (elements * a.loop.j + s.i))) (number_of_lem _ a.before.before.before.before.before.row.ensures) in
     let e = breaks-by R W S D s.i a.loop.j _ a.loop.invariant.1 f in
-    (omega arith, a.loop.invariant.1, below_more (λ k. breaks (crewNet R (withWaits D W) S) (at S) s.i k ≡ false) a.loop.j a.loop.invariant.2 (e ∙ c.if1.false))
+    (omega arith, a.loop.invariant.1, below_more (λ k. breaks (crew_net R (with_waits D W) S) (at S) s.i k ≡ false) a.loop.j a.loop.invariant.2 (e ∙ c.if1.false))
 
 returns-2 : tie.Need-returns-2 invariant-loop decreases-loop
-unfolding brokenTo
+unfolding broken_to
 returns-2 c =
     let a = c.before in
     let s = a.before.before.before.before.before.before.before.before.args in
-    first-end (length s.starts.now) (breaks (crewNet s.rows.now (withWaits s.worked.now s.waits.now) s.starts.now) (at s.starts.now) s.i) a.loop.j a.loop.invariant.2 (omega arith)
+    first_end (length s.starts.now) (breaks (crew_net s.rows.now (with_waits s.worked.now s.waits.now) s.starts.now) (at s.starts.now) s.i) a.loop.j a.loop.invariant.2 (omega arith)
 
 pub broken-to-spec : {M : Type 1} → statement M
 broken-to-spec =

@@ -2,12 +2,12 @@
 use mathlib.Core.Path.{◌≡◌}
 use native.Mathlib.Omega.{arith}
 use borrow.Author.Rules.{rules}
-use Rattle.schedule.specs.Checks.{brokenFrom}
-use Rattle.schedule.specs.model.Arrays.{crewNet, withWaits, workOf}
+use Rattle.schedule.specs.Checks.{broken_from}
+use Rattle.schedule.specs.model.Arrays.{crew_net, with_waits, work_of}
 use Rattle.schedule.specs.Lists.{at}
-use Rattle.schedule.proofs.Arcs.{broken-to-first}
-use Rattle.schedule.proofs.Periods.{lowest-first}
-use Rattle.schedule.proofs.Answers.{check-broken, check-over, check-fits}
+use Rattle.schedule.proofs.Arcs.{broken_to_first}
+use Rattle.schedule.proofs.Periods.{lowest_first}
+use Rattle.schedule.proofs.Answers.{check_broken, check_over, check_fits}
 use Rattle.schedule.proofs.crew.crew_check.Statement.{statement}
 use Rattle.schedule.proofs.crew.crew_check.Tie as tie
 
@@ -17,7 +17,7 @@ add-t14 c =
     let s = b.before.before.before.args in
     let S = s.starts.now in
     let D = s.worked.now in
-    omega (arith, c.broken-to.ensures, (broken-to-first (crewNet s.rows.now (withWaits D s.waits.now) S) (at S) b.broken-from.result).within)
+    omega (arith, c.broken-to.ensures, (broken_to_first (crew_net s.rows.now (with_waits D s.waits.now) S) (at S) b.broken-from.result).within)
 
 returns : tie.Need-returns
 returns c =
@@ -25,10 +25,10 @@ returns c =
     let s = b.before.before.before.args in
     let S = s.starts.now in
     let D = s.worked.now in
-    let G = crewNet s.rows.now (withWaits D s.waits.now) S in
-    let W = workOf s.demands.now s.available.now S D in
-    let f : b.broken-from.result ≡ brokenFrom G (at S) = b.broken-from.ensures in
-    check-broken G W b.broken-from.result c.broken-to.result f (omega arith)
+    let G = crew_net s.rows.now (with_waits D s.waits.now) S in
+    let W = work_of s.demands.now s.available.now S D in
+    let f : b.broken-from.result ≡ broken_from G (at S) = b.broken-from.ensures in
+    check_broken G W b.broken-from.result c.broken-to.result f (omega arith)
     c.broken-to.ensures
 
 add-t16 : tie.Need-overflow-add-t16
@@ -37,7 +37,7 @@ add-t16 c =
     let s = b.before.before.before.args in
     let S = s.starts.now in
     let D = s.worked.now in
-    omega (arith, c.lowest-kind.ensures, (lowest-first (workOf s.demands.now s.available.now S D) c.before.before.first-period.result).within)
+    omega (arith, c.lowest-kind.ensures, (lowest_first (work_of s.demands.now s.available.now S D) c.before.before.first-period.result).within)
 
 returns-2 : tie.Need-returns-2
 returns-2 c =
@@ -45,10 +45,10 @@ returns-2 c =
     let s = b.before.before.before.args in
     let S = s.starts.now in
     let D = s.worked.now in
-    let G = crewNet s.rows.now (withWaits D s.waits.now) S in
-    let W = workOf s.demands.now s.available.now S D in
-    let f : b.broken-from.result ≡ brokenFrom G (at S) = b.broken-from.ensures in
-    check-over G W b.broken-from.result c.before.before.first-period.result c.lowest-kind.result f (omega arith) c.before.before.first-period.ensures (omega arith) c.lowest-kind.ensures
+    let G = crew_net s.rows.now (with_waits D s.waits.now) S in
+    let W = work_of s.demands.now s.available.now S D in
+    let f : b.broken-from.result ≡ broken_from G (at S) = b.broken-from.ensures in
+    check_over G W b.broken-from.result c.before.before.first-period.result c.lowest-kind.result f (omega arith) c.before.before.first-period.ensures (omega arith) c.lowest-kind.ensures
 
 returns-3 : tie.Need-returns-3
 returns-3 c =
@@ -56,10 +56,10 @@ returns-3 c =
     let s = b.before.before.before.args in
     let S = s.starts.now in
     let D = s.worked.now in
-    let G = crewNet s.rows.now (withWaits D s.waits.now) S in
-    let W = workOf s.demands.now s.available.now S D in
-    let f : b.broken-from.result ≡ brokenFrom G (at S) = b.broken-from.ensures in
-    check-fits G W b.broken-from.result c.before.first-period.result f (omega arith) c.before.first-period.ensures (omega arith)
+    let G = crew_net s.rows.now (with_waits D s.waits.now) S in
+    let W = work_of s.demands.now s.available.now S D in
+    let f : b.broken-from.result ≡ broken_from G (at S) = b.broken-from.ensures in
+    check_fits G W b.broken-from.result c.before.first-period.result f (omega arith) c.before.first-period.ensures (omega arith)
 
 pub crew-check-spec : {M : Type 1} → statement M
 crew-check-spec =

@@ -6,16 +6,16 @@ use native.Mathlib.Omega.{arith}
 use borrow.Author.Count.{below_none, below_more}
 use borrow.Author.Rules.{rules}
 use borrow.Author.Tests.{lt-ltb, le-ltb}
-use Rattle.words.proofs.Firsts.{first-stop, first-end}
-use Rattle.schedule.specs.Checks.{exceeds, lowestKind}
-use Rattle.schedule.specs.model.Arrays.{workOf}
+use Rattle.words.proofs.Firsts.{first_stop, first_end}
+use Rattle.schedule.specs.Checks.{exceeds, lowest_kind}
+use Rattle.schedule.specs.model.Arrays.{work_of}
 use Rattle.schedule.specs.Lists.{at}
-use Rattle.schedule.proofs.Candidates.{exceeds-by}
+use Rattle.schedule.proofs.Candidates.{exceeds_by}
 use Rattle.schedule.proofs.crew.lowest_kind.Statement.{statement}
 use Rattle.schedule.proofs.crew.lowest_kind.Tie as tie
 
 abbrev invariant-loop : tie.invariant-loop
-invariant-loop demands available starts worked t load k₀ k = (k ≤ 8) × ((x : ℕ) → x < k → exceeds (workOf demands available starts worked) t x ≡ false)
+invariant-loop demands available starts worked t load k₀ k = (k ≤ 8) × ((x : ℕ) → x < k → exceeds (work_of demands available starts worked) t x ≡ false)
 
 abbrev decreases-loop : tie.decreases-loop
 decreases-loop demands available starts worked t load k₀ k = 8 - k
@@ -24,34 +24,34 @@ loop-holds : tie.Need-loop-init invariant-loop decreases-loop
 loop-holds c = (omega arith, below_none _)
 
 returns : tie.Need-returns invariant-loop decreases-loop
-unfolding lowestKind
+unfolding lowest_kind
 returns c =
     let a = c.before.before.before.before in
     let s = a.before.before.before.before.args in
     let A = s.available.now in
-    let L = a.before.period-load in
-    let W = workOf s.demands.now A s.starts.now s.worked.now in
-    let e = exceeds-by s.demands.now A s.starts.now s.worked.now s.t a.loop.k a.before.before.before.before.requires.1 (omega arith) L.ensures in
-    first-stop 8 (exceeds W s.t) a.loop.k a.loop.invariant.1 (omega arith) (e ∙ lt-ltb (at A a.loop.k) (at L.result a.loop.k) (omega arith))
+    let L = a.before.period_load in
+    let W = work_of s.demands.now A s.starts.now s.worked.now in
+    let e = exceeds_by s.demands.now A s.starts.now s.worked.now s.t a.loop.k a.before.before.before.before.requires.1 (omega arith) L.ensures in
+    first_stop 8 (exceeds W s.t) a.loop.k a.loop.invariant.1 (omega arith) (e ∙ lt-ltb (at A a.loop.k) (at L.result a.loop.k) (omega arith))
 
 loop-again : tie.Need-loop-preserved invariant-loop decreases-loop
 loop-again c =
     let a = c.before.before.before.before in
     let s = a.before.before.before.before.args in
     let A = s.available.now in
-    let L = a.before.period-load in
-    let W = workOf s.demands.now A s.starts.now s.worked.now in
-    let e = exceeds-by s.demands.now A s.starts.now s.worked.now s.t a.loop.k a.before.before.before.before.requires.1 (omega arith) L.ensures in (
+    let L = a.before.period_load in
+    let W = work_of s.demands.now A s.starts.now s.worked.now in
+    let e = exceeds_by s.demands.now A s.starts.now s.worked.now s.t a.loop.k a.before.before.before.before.requires.1 (omega arith) L.ensures in (
       omega arith,
       below_more (λ x. exceeds W s.t x ≡ false) a.loop.k a.loop.invariant.1 (e ∙ le-ltb (at A a.loop.k) (at L.result a.loop.k) (omega arith)),
     )
 
 returns-2 : tie.Need-returns-2 invariant-loop decreases-loop
-unfolding lowestKind
+unfolding lowest_kind
 returns-2 c =
     let a = c.before in
     let s = a.before.before.before.before.args in
-    first-end 8 (exceeds (workOf s.demands.now s.available.now s.starts.now s.worked.now) s.t) a.loop.k a.loop.invariant.1 (omega arith)
+    first_end 8 (exceeds (work_of s.demands.now s.available.now s.starts.now s.worked.now) s.t) a.loop.k a.loop.invariant.1 (omega arith)
 
 pub lowest-kind-spec : {M : Type 1} → statement M
 lowest-kind-spec =

@@ -5,7 +5,7 @@ use native.Mathlib.Omega.{arith}
 use lib.ListN.{get_or}
 use borrow.Author.Rules.{rules}
 use Rattle.words.specs.Sums.{maximum}
-use Rattle.words.proofs.Maxima.{maximum-next}
+use Rattle.words.proofs.Maxima.{maximum_next}
 use Rattle.schedule.specs.Starts.{end_of}
 use Rattle.schedule.proofs.early.end_start.Statement.{statement}
 use Rattle.schedule.proofs.early.end_start.Tie as tie
@@ -27,7 +27,7 @@ add-larger c =
 loop-again : tie.Need-loop-preserved invariant-loop decreases-loop
 loop-again c =
     let a = c.before.before.before.before in
-    (omega arith, maximum-next a.loop.i _ a.loop.last _ c.larger.result a.loop.invariant.1 refl c.larger.ensures)
+    (omega arith, maximum_next a.loop.i _ a.loop.last _ c.larger.result a.loop.invariant.1 refl c.larger.ensures)
 
 returns : tie.Need-returns invariant-loop decreases-loop
 unfolding end_of

@@ -6,9 +6,9 @@ use native.Mathlib.Omega.{arith}
 use borrow.Author.Rules.{rules}
 use Rattle.words.specs.Bits.{bit}
 use Rattle.words.specs.Sums.{maximum}
-use Rattle.words.proofs.Maxima.{maximum-next}
+use Rattle.words.proofs.Maxima.{maximum_next}
 use Rattle.order.specs.Stored.{elements}
-use Rattle.order.proofs.Stored.{number-of}
+use Rattle.order.proofs.Stored.{number_of_lem}
 use Rattle.order.specs.Rows.{after}
 use Rattle.schedule.specs.Starts.{asked}
 use Rattle.schedule.specs.Lists.{at}
@@ -44,8 +44,8 @@ loop-again c =
     let i = a.loop.i in
     let start = at s.starts.now i + (at s.durations.now i + at s.waits.now (elements * s.j + i)) in
     let sum : at s.starts.now i + at s.durations.now i + at s.waits.now (elements * s.j + i) ≡ start = omega arith in
-    let asked = c.before.asks.ensures ∙ ap₂ (λ (w x : ℕ). cond (bit w s.j) x 0) (number-of _ r.row.ensures) sum in
-    (omega arith, maximum-next i _ a.loop.best c.before.asks.result c.larger.result a.loop.invariant.1 (sym asked) c.larger.ensures)
+    let asked = c.before.asks.ensures ∙ ap₂ (λ (w x : ℕ). cond (bit w s.j) x 0) (number_of_lem _ r.row.ensures) sum in
+    (omega arith, maximum_next i _ a.loop.best c.before.asks.result c.larger.result a.loop.invariant.1 (sym asked) c.larger.ensures)
 
 returns : tie.Need-returns invariant-loop decreases-loop
 unfolding asked

@@ -5,8 +5,8 @@ use native.Mathlib.Omega.{arith}
 use lib.ListN.{set}
 use borrow.Author.Rules.{rules}
 use Rattle.order.specs.Stored.{number_of}
-use Rattle.order.proofs.Listing.{listed_below, listing-less, listing-again, listing-end}
-use Rattle.schedule.specs.model.Arrays.{netOf, withWaits}
+use Rattle.order.proofs.Listing.{listed_below, listing_less, listing_again, listing_end}
+use Rattle.schedule.specs.model.Arrays.{net_of, with_waits}
 use Rattle.schedule.specs.Lists.{at}
 use Rattle.schedule.specs.model.Levels.{place, placed}
 use Rattle.schedule.proofs.early.place.Statement.{statement}
@@ -14,7 +14,7 @@ use Rattle.schedule.proofs.early.place.Tie as tie
 
 abbrev invariant-loop : tie.invariant-loop
 invariant-loop rows durations waits before starts₀ left₀ starts left =
-    placed (netOf rows (withWaits durations waits)) (at before) starts (number_of left) ≡ placed (netOf rows (withWaits durations waits)) (at before) starts₀ (number_of left₀)
+    placed (net_of rows (with_waits durations waits)) (at before) starts (number_of left) ≡ placed (net_of rows (with_waits durations waits)) (at before) starts₀ (number_of left₀)
 
 abbrev decreases-loop : tie.decreases-loop
 decreases-loop rows durations waits before starts₀ left₀ starts left = number_of left
@@ -36,7 +36,7 @@ element-write-starts c =
 loop-less : tie.Need-loop-smaller invariant-loop decreases-loop
 loop-less c =
     let at = c.before.before.before in
-    listing-less _ _ at.before.is-empty.ensures _ at.if1.true c.without-lowest.ensures
+    listing_less _ _ at.before.is-empty.ensures _ at.if1.true c.without-lowest.ensures
 
 loop-again : tie.Need-loop-preserved invariant-loop decreases-loop
 loop-again c =
@@ -44,11 +44,11 @@ loop-again c =
     let t = low.before in
     let l = t.before.before.loop in
     let s = t.before.before.before.args in
-    listing-again _ _ t.before.is-empty.ensures (place (netOf s.rows.now (withWaits s.durations.now s.waits.now)) (at s.before.now)) _ l.invariant _ _ t.if1.true
+    listing_again _ _ t.before.is-empty.ensures (place (net_of s.rows.now (with_waits s.durations.now s.waits.now)) (at s.before.now)) _ l.invariant _ _ t.if1.true
     low.lowest.ensures (ap (set l.starts low.lowest.result) c.before.latest.ensures) c.without-lowest.ensures
 
 returns : tie.Need-returns invariant-loop decreases-loop
-returns c = listing-end _ _ c.before.is-empty.ensures _ _ c.before.before.loop.invariant c.if1.false
+returns c = listing_end _ _ c.before.is-empty.ensures _ _ c.before.before.loop.invariant c.if1.false
 
 pub place-spec : {M : Type 1} → statement M
 place-spec = tie.close (tie.spec invariant-loop decreases-loop (λ c. search rules) (λ c κs. search rules) (λ c κs. search rules) latest-requires mul-starts element-write-starts (λ c κs. search rules) loop-less loop-again returns)

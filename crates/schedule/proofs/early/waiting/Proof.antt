@@ -8,9 +8,9 @@ use borrow.Author.Rules.{rules}
 use Rattle.words.specs.Bits.{minus}
 use Rattle.words.specs.model.Loops.{each}
 use Rattle.order.specs.Stored.{elements, number_of, row}
-use Rattle.order.proofs.Stored.{number-of, number-none, number-all}
-use Rattle.order.proofs.Listing.{listed_below, listing-less, listing-again, listing-end}
-use Rattle.schedule.proofs.Levels.{waiting-members}
+use Rattle.order.proofs.Stored.{number_of_lem, number_none, number_all}
+use Rattle.order.proofs.Listing.{listed_below, listing_less, listing_again, listing_end}
+use Rattle.schedule.proofs.Levels.{waiting_members}
 use Rattle.schedule.proofs.early.waiting.Statement.{statement}
 use Rattle.schedule.proofs.early.waiting.Tie as tie
 
@@ -29,15 +29,15 @@ row-requires c κs = listed_below _ _ c.before.before.is-empty.ensures c.before.
 loop-less : tie.Need-loop-smaller invariant-loop decreases-loop
 loop-less c =
     let at = c.before.before.before.before in
-    listing-less _ _ at.before.is-empty.ensures _ at.if1.true c.without-lowest.ensures
+    listing_less _ _ at.before.is-empty.ensures _ at.if1.true c.without-lowest.ensures
 
 loop-again : tie.Need-loop-preserved invariant-loop decreases-loop
 loop-again c =
     let low = c.before.before.before in
     let at = low.before in
     let l = at.before.before.loop in
-    listing-again _ _ at.before.is-empty.ensures (step at.before.before.before.before.args.rows.now) _ l.invariant _ _ at.if1.true low.lowest.ensures
-    (number-of _ c.before.union.ensures ∙ ap (bit_or (number_of l.held)) (number-of _ c.before.before.row.ensures))
+    listing_again _ _ at.before.is-empty.ensures (step at.before.before.before.before.args.rows.now) _ l.invariant _ _ at.if1.true low.lowest.ensures
+    (number_of_lem _ c.before.union.ensures ∙ ap (bit_or (number_of l.held)) (number_of_lem _ c.before.before.row.ensures))
     c.without-lowest.ensures
 
 returns : tie.Need-returns invariant-loop decreases-loop
@@ -45,9 +45,9 @@ returns c =
     let at = c.before in
     let m = at.before.before in
     let a = m.before.args in
-    listing-end _ _ at.is-empty.ensures _ _ at.before.loop.invariant c.if1.false
-    ∙ ap₂ (each elements (step a.rows.now)) number-none (number-of _ m.minus.ensures ∙ ap (λ (w : ℕ). minus w (number_of a.done)) number-all)
-    ∙ waiting-members a.rows.now (number_of a.done)
+    listing_end _ _ at.is-empty.ensures _ _ at.before.loop.invariant c.if1.false
+    ∙ ap₂ (each elements (step a.rows.now)) number_none (number_of_lem _ m.minus.ensures ∙ ap (λ (w : ℕ). minus w (number_of a.done)) number_all)
+    ∙ waiting_members a.rows.now (number_of a.done)
 
 pub waiting-spec : {M : Type 1} → statement M
 waiting-spec = tie.close (tie.spec invariant-loop decreases-loop (λ c κs. search rules) (λ c. search rules) (λ c κs. search rules) (λ c κs. search rules) row-requires (λ c κs. search rules) (λ c κs. search rules) loop-less loop-again returns)

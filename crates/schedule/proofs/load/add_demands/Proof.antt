@@ -7,8 +7,8 @@ use lib.ListN.{length, set, length-set}
 use lib.Seq.{get_or-set_same, get_or-set_other}
 use borrow.Author.Count.{below_none}
 use borrow.Author.Rules.{rules}
-use Rattle.words.proofs.Tables.{stored_next, is-table}
-use Rattle.words.proofs.Tests.{at-or-other}
+use Rattle.words.proofs.Tables.{stored_next, is_table}
+use Rattle.words.proofs.Tests.{at_or_other}
 use Rattle.order.specs.Stored.{elements}
 use Rattle.schedule.specs.Lists.{at}
 use Rattle.schedule.specs.model.Arrays.{AllAtMost}
@@ -47,7 +47,7 @@ loop-again c =
       length-set a.loop.load k v ∙ a.loop.invariant.1,
       stored_next 0 (λ x. at e.load.now x + at e.demands.now (elements * x + e.i)) a.loop.load k v long a.loop.invariant.2 (omega (arith, old, c.wide.ensures.0)),
       (λ x l. get_or-set_other a.loop.load k x v 0 (omega arith) ∙ a.loop.invariant.3 x (omega arith)),
-      (λ x. at-or-other (λ y. at (set a.loop.load k v) y ≤ (e.i + 1) * 2 ^ 32) k x
+      (λ x. at_or_other (λ y. at (set a.loop.load k v) y ≤ (e.i + 1) * 2 ^ 32) k x
           (omega (arith, get_or-set_same a.loop.load k v 0 long, old, a.before.requires.2 k, c.wide.ensures.1))
           (λ n. omega (arith, get_or-set_other a.loop.load k x v 0 n, a.loop.invariant.4 x))),
     )
@@ -56,7 +56,7 @@ returns : tie.Need-returns invariant-loop decreases-loop
 returns c =
     let a = c.before in
     let e = a.before.args in (
-      is-table 8 (λ k. at e.load.now k + at e.demands.now (elements * k + e.i)) a.loop.load 0 a.loop.invariant.1 (λ x l. a.loop.invariant.2 x (omega arith)),
+      is_table 8 (λ k. at e.load.now k + at e.demands.now (elements * k + e.i)) a.loop.load 0 a.loop.invariant.1 (λ x l. a.loop.invariant.2 x (omega arith)),
       a.loop.invariant.4,
     )
 

@@ -2,7 +2,7 @@
 -- walk comes to from the start.
 use Rattle.std.proofs.Common.{◌≡◌, ◌-◌, ◌<◌, ◌≤◌, get_or, ◌∙◌, arith, rules, le-leb}
 use borrow.Author.Tests.{lt-leb}
-use Rattle.words.proofs.Loops.{run-again, run-stop, run_end}
+use Rattle.words.proofs.Loops.{run_again, run_stop, run_end}
 use Rattle.order.specs.Stored.{elements}
 use Rattle.solver.specs.model.Network.{network, walk, augmented}
 use Rattle.solver.proofs.Digits.{masked}
@@ -33,7 +33,7 @@ returns : tie.Need-returns invariant-loop decreases-loop
 returns c =
     let test = c.before.before.before.before.before in
     let at = test.before.before.before in
-    c.join.ensures ∙ run-stop _ _ _ _ elements _ _ at.loop-test.true (le-leb _ _ test.if1.true) at.before.loop.invariant.0
+    c.join.ensures ∙ run_stop _ _ _ _ elements _ _ at.loop-test.true (le-leb _ _ test.if1.true) at.before.loop.invariant.0
 
 shift-requires : tie.Need-shift-requires invariant-loop decreases-loop
 shift-requires c κs =
@@ -45,7 +45,7 @@ loop-again : tie.Need-loop-preserved invariant-loop decreases-loop
 loop-again c =
     let test = c.before.before.before.before in
     let at = test.before.before.before in
-    (run-again _ _ _ _ elements _ _ at.loop-test.true (lt-leb _ _ test.if1.false) at.before.loop.invariant.0 (walks _ (c.shift.ensures _)), test.if1.false)
+    (run_again _ _ _ _ elements _ _ at.loop-test.true (lt-leb _ _ test.if1.false) at.before.loop.invariant.0 (walks _ (c.shift.ensures _)), test.if1.false)
 
 returns-2 : tie.Need-returns-2 invariant-loop decreases-loop
 returns-2 c = run_end _ _ _ _ elements _ _ c.loop-test.false c.before.loop.invariant.0

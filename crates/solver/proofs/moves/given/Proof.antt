@@ -1,15 +1,15 @@
 -- `moves::given` meets its contract, by the test.
 use Rattle.std.proofs.Common.{rules}
-use Rattle.order.proofs.Stored.{number-of}
-use Rattle.solver.proofs.Steps.{given-none, given-some}
+use Rattle.order.proofs.Stored.{number_of_lem}
+use Rattle.solver.proofs.Steps.{given_none, given_some}
 use Rattle.solver.proofs.moves.given.Statement.{statement}
 use Rattle.solver.proofs.moves.given.Tie as tie
 
 returns : tie.Need-returns
-returns c = given-none _ _ _ (number-of _ c.without.ensures) c.before.if1.true
+returns c = given_none _ _ _ (number_of_lem _ c.without.ensures) c.before.if1.true
 
 returns-2 : tie.Need-returns-2
-returns-2 c = given-some _ _ _ (number-of _ c.with.ensures) c.before.if1.false
+returns-2 c = given_some _ _ _ (number_of_lem _ c.with.ensures) c.before.if1.false
 
 pub given-spec : {M : Type 1} → statement M
 given-spec = tie.close (tie.spec (λ c κs. search rules) (λ c κs. search rules) returns returns-2)

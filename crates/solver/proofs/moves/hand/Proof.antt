@@ -3,9 +3,9 @@
 use Rattle.std.proofs.Common.{◌≡◌, rules}
 use Rattle.words.specs.model.Loops.{each}
 use Rattle.order.specs.Stored.{elements, number_of}
-use Rattle.order.proofs.Listing.{listed_below, listing-less, listing-again, listing-end, listing-still}
+use Rattle.order.proofs.Listing.{listed_below, listing_less, listing_again, listing_end, listing_still}
 use Rattle.solver.specs.model.Network.{network, handing}
-use Rattle.solver.proofs.Steps.{hands-spent}
+use Rattle.solver.proofs.Steps.{hands_spent}
 use Rattle.solver.proofs.moves.hand.Statement.{statement}
 use Rattle.solver.proofs.moves.hand.Tie as tie
 
@@ -19,7 +19,7 @@ decreases-loop flow₀ givers₀ left₀ right₀ i w₀ flow givers left right 
 returns : tie.Need-returns invariant-loop decreases-loop
 returns c =
     let at = c.before.before.before in
-    listing-still _ _ at.is-empty.ensures _ _ at.before.loop.invariant (hands-spent _ _ c.if2.true)
+    listing_still _ _ at.is-empty.ensures _ _ at.before.loop.invariant (hands_spent _ _ c.if2.true)
 
 pass-requires : tie.Need-pass-requires invariant-loop decreases-loop
 pass-requires c κs =
@@ -30,17 +30,17 @@ pass-requires c κs =
 loop-less : tie.Need-loop-smaller invariant-loop decreases-loop
 loop-less c =
     let at = c.before.before.before.before.before.before.before.before.before in
-    listing-less _ _ at.before.is-empty.ensures _ at.if1.true c.without-lowest.ensures
+    listing_less _ _ at.before.is-empty.ensures _ at.if1.true c.without-lowest.ensures
 
 loop-again : tie.Need-loop-preserved invariant-loop decreases-loop
 loop-again c =
     let low = c.before.before.before.before.before.before in
     let at = low.before.before.before in
-    listing-again _ _ at.before.is-empty.ensures _ _ at.before.before.loop.invariant _ _ at.if1.true low.lowest.ensures c.before.pass.ensures
+    listing_again _ _ at.before.is-empty.ensures _ _ at.before.before.loop.invariant _ _ at.if1.true low.lowest.ensures c.before.pass.ensures
     c.without-lowest.ensures
 
 returns-2 : tie.Need-returns-2 invariant-loop decreases-loop
-returns-2 c = listing-end _ _ c.before.is-empty.ensures _ _ c.before.before.loop.invariant c.if1.false
+returns-2 c = listing_end _ _ c.before.is-empty.ensures _ _ c.before.before.loop.invariant c.if1.false
 
 pub hand-spec : {M : Type 1} → statement M
 hand-spec = tie.close (tie.spec invariant-loop decreases-loop (λ c. search rules) (λ c κs. search rules) (λ c. search rules) (λ c. search rules) returns (λ c κs. search rules) pass-requires (λ c κs. search rules) loop-less loop-again returns-2)

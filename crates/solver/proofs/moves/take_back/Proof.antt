@@ -3,14 +3,14 @@
 use Rattle.std.proofs.Common.{◌≡◌, ap, ◌∙◌, rules}
 use Rattle.words.specs.model.Loops.{each}
 use Rattle.order.specs.Stored.{elements, number_of}
-use Rattle.order.proofs.Stored.{number-of}
-use Rattle.order.proofs.Listing.{listed_below, listing-less, listing-again, listing-end}
-use Rattle.solver.specs.model.Network.{dropping, takenFrom, takenBack}
+use Rattle.order.proofs.Stored.{number_of_lem}
+use Rattle.order.proofs.Listing.{listed_below, listing_less, listing_again, listing_end}
+use Rattle.solver.specs.model.Network.{dropping, taken_from, taken_back}
 use Rattle.solver.proofs.moves.take_back.Statement.{statement}
 use Rattle.solver.proofs.moves.take_back.Tie as tie
 
 abbrev invariant-loop : tie.invariant-loop
-invariant-loop flow₀ givers w₀ flow w = each elements (takenFrom givers) flow (number_of w) ≡ each elements (takenFrom givers) flow₀ (number_of w₀)
+invariant-loop flow₀ givers w₀ flow w = each elements (taken_from givers) flow (number_of w) ≡ each elements (taken_from givers) flow₀ (number_of w₀)
 
 abbrev decreases-loop : tie.decreases-loop
 decreases-loop flow₀ givers w₀ flow w = number_of w
@@ -28,7 +28,7 @@ take-from-requires c κs =
 loop-less : tie.Need-loop-smaller invariant-loop decreases-loop
 loop-less c =
     let at = c.before.before.before.before.before in
-    listing-less _ _ at.before.is-empty.ensures _ at.if1.true c.without-lowest.ensures
+    listing_less _ _ at.before.is-empty.ensures _ at.if1.true c.without-lowest.ensures
 
 loop-again : tie.Need-loop-preserved invariant-loop decreases-loop
 loop-again c =
@@ -36,13 +36,13 @@ loop-again c =
     let low = row.before.before in
     let at = low.before in
     let l = at.before.before.loop in
-    listing-again _ _ at.before.is-empty.ensures (takenFrom at.before.before.before.args.givers.now) _ l.invariant _ _ at.if1.true low.lowest.ensures
-    (c.before.take-from.ensures ∙ ap (each elements (dropping low.lowest.result) l.flow) (number-of _ row.row.ensures))
+    listing_again _ _ at.before.is-empty.ensures (taken_from at.before.before.before.args.givers.now) _ l.invariant _ _ at.if1.true low.lowest.ensures
+    (c.before.take-from.ensures ∙ ap (each elements (dropping low.lowest.result) l.flow) (number_of_lem _ row.row.ensures))
     c.without-lowest.ensures
 
 returns : tie.Need-returns invariant-loop decreases-loop
-unfolding takenBack
-returns c = listing-end _ _ c.before.is-empty.ensures (takenFrom c.before.before.before.args.givers.now) _ c.before.before.loop.invariant c.if1.false
+unfolding taken_back
+returns c = listing_end _ _ c.before.is-empty.ensures (taken_from c.before.before.before.args.givers.now) _ c.before.before.loop.invariant c.if1.false
 
 pub take-back-spec : {M : Type 1} → statement M
 take-back-spec =

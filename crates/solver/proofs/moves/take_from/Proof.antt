@@ -3,7 +3,7 @@
 use Rattle.std.proofs.Common.{◌≡◌, refl, arith, rules}
 use Rattle.words.specs.model.Loops.{each}
 use Rattle.order.specs.Stored.{elements, number_of}
-use Rattle.order.proofs.Listing.{listed_below, listing-less, listing-again, listing-end}
+use Rattle.order.proofs.Listing.{listed_below, listing_less, listing_again, listing_end}
 use Rattle.solver.specs.model.Network.{dropping}
 use Rattle.solver.proofs.moves.take_from.Statement.{statement}
 use Rattle.solver.proofs.moves.take_from.Tie as tie
@@ -37,15 +37,15 @@ element-write-flow c =
 loop-less : tie.Need-loop-smaller invariant-loop decreases-loop
 loop-less c =
     let at = c.before.before in
-    listing-less _ _ at.before.is-empty.ensures _ at.if1.true c.without-lowest.ensures
+    listing_less _ _ at.before.is-empty.ensures _ at.if1.true c.without-lowest.ensures
 
 loop-again : tie.Need-loop-preserved invariant-loop decreases-loop
 loop-again c =
     let at = c.before.before in
-    listing-again _ _ at.before.is-empty.ensures (dropping _) _ at.before.before.loop.invariant _ _ at.if1.true c.before.lowest.ensures refl c.without-lowest.ensures
+    listing_again _ _ at.before.is-empty.ensures (dropping _) _ at.before.before.loop.invariant _ _ at.if1.true c.before.lowest.ensures refl c.without-lowest.ensures
 
 returns : tie.Need-returns invariant-loop decreases-loop
-returns c = listing-end _ _ c.before.is-empty.ensures (dropping _) _ c.before.before.loop.invariant c.if1.false
+returns c = listing_end _ _ c.before.is-empty.ensures (dropping _) _ c.before.before.loop.invariant c.if1.false
 
 pub take_from_spec : {M : Type 1} → statement M
 take_from_spec =

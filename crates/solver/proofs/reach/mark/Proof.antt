@@ -2,7 +2,7 @@
 -- makes of those at the start.
 use Rattle.std.proofs.Common.{◌≡◌, refl, arith, rules}
 use Rattle.order.specs.Stored.{number_of}
-use Rattle.order.proofs.Listing.{listed_below, listing-less, listing-again, listing-end}
+use Rattle.order.proofs.Listing.{listed_below, listing_less, listing_again, listing_end}
 use Rattle.solver.specs.model.Search.{put, marks}
 use Rattle.solver.proofs.reach.mark.Statement.{statement}
 use Rattle.solver.proofs.reach.mark.Tie as tie
@@ -24,15 +24,15 @@ element-write-parents c = listed_below _ _ c.before.before.is-empty.ensures c.be
 loop-less : tie.Need-loop-smaller invariant-loop decreases-loop
 loop-less c =
     let at = c.before.before in
-    listing-less _ _ at.before.is-empty.ensures _ at.if1.true c.without-lowest.ensures
+    listing_less _ _ at.before.is-empty.ensures _ at.if1.true c.without-lowest.ensures
 
 loop-again : tie.Need-loop-preserved invariant-loop decreases-loop
 loop-again c =
     let at = c.before.before in
-    listing-again _ _ at.before.is-empty.ensures (put _) _ at.before.before.loop.invariant _ _ at.if1.true c.before.lowest.ensures refl c.without-lowest.ensures
+    listing_again _ _ at.before.is-empty.ensures (put _) _ at.before.before.loop.invariant _ _ at.if1.true c.before.lowest.ensures refl c.without-lowest.ensures
 
 returns : tie.Need-returns invariant-loop decreases-loop
-returns c = listing-end _ _ c.before.is-empty.ensures (put _) _ c.before.before.loop.invariant c.if1.false
+returns c = listing_end _ _ c.before.is-empty.ensures (put _) _ c.before.before.loop.invariant c.if1.false
 
 pub mark_spec : {M : Type 1} → statement M
 mark_spec = tie.close (tie.spec invariant-loop decreases-loop (λ c. search rules) (λ c κs. search rules) (λ c κs. search rules) mul-parents element-write-parents (λ c κs. search rules) loop-less loop-again returns)

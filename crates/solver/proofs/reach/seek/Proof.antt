@@ -2,9 +2,9 @@
 -- them make of that at the start.
 use Rattle.std.proofs.Common.{◌≡◌, ℕ, ◌-◌, ◌≤◌, List, sym, ap, ◌∙◌, arith, rules}
 use lib.Bits.{bit_and}
-use Rattle.words.proofs.Loops.{run-again, run-stop, run_end}
-use Rattle.order.specs.Stored.{elements, number_of, noSet}
-use Rattle.order.proofs.Stored.{number-none, number-of}
+use Rattle.words.proofs.Loops.{run_again, run_stop, run_end}
+use Rattle.order.specs.Stored.{elements, number_of, no_set}
+use Rattle.order.proofs.Stored.{number_none, number_of_lem}
 use Rattle.order.proofs.Listing.{is_some}
 use Rattle.solver.specs.model.Search.{Look, looked, reached, reach, begun}
 use Rattle.solver.proofs.Steps.{begins}
@@ -20,18 +20,18 @@ decreases-loop rows givers slack lefts₀ rights₀ s₀ k₀ lefts rights s k =
 
 -- the search begins with the roots alone
 from-roots : {begin : ℕ} (rows givers : List ℕ) (slack : ℕ) (lefts rights : List ℕ) (able roots : ℕ) → begin ≡ bit_and roots able
-    → reach elements rows givers slack (reached (record { frontier = begin; next = number_of noSet; left = roots; right = number_of noSet; at = elements }) lefts rights)
+    → reach elements rows givers slack (reached (record { frontier = begin; next = number_of no_set; left = roots; right = number_of no_set; at = elements }) lefts rights)
     ≡ reach elements rows givers slack (reached (begun able roots) lefts rights)
-from-roots rows givers slack lefts rights able roots e = ap (λ (x : Look). reach elements rows givers slack (reached x lefts rights)) (begins able roots number-none e)
+from-roots rows givers slack lefts rights able roots e = ap (λ (x : Look). reach elements rows givers slack (reached x lefts rights)) (begins able roots number_none e)
 
 returns : tie.Need-returns invariant-loop decreases-loop
 returns c =
     let at = c.before.before.before in
-    run-stop _ _ _ _ elements _ _ at.loop-test.true (sym c.before.is-empty.ensures.0 ∙ c.if1.true) at.before.loop.invariant
+    run_stop _ _ _ _ elements _ _ at.loop-test.true (sym c.before.is-empty.ensures.0 ∙ c.if1.true) at.before.loop.invariant
     ∙ (let first = at.before.before in
     let a = first.before.args in
     from-roots a.rows.now a.givers.now (number_of a.slack) a.lefts.now a.rights.now (number_of a.able) (number_of a.roots)
-    (number-of _ first.meet.ensures))
+    (number_of_lem _ first.meet.ensures))
 
 turn-requires : tie.Need-turn-requires invariant-loop decreases-loop
 turn-requires c κs =
@@ -43,7 +43,7 @@ loop-again : tie.Need-loop-preserved invariant-loop decreases-loop
 loop-again c =
     let test = c.before.before.before in
     let at = test.before.before.before in
-    run-again _ _ _ _ elements _ _ at.loop-test.true (sym test.before.is-empty.ensures.0 ∙ test.if1.false) at.before.loop.invariant c.turn.ensures
+    run_again _ _ _ _ elements _ _ at.loop-test.true (sym test.before.is-empty.ensures.0 ∙ test.if1.false) at.before.loop.invariant c.turn.ensures
 
 returns-2 : tie.Need-returns-2 invariant-loop decreases-loop
 returns-2 c =
@@ -51,7 +51,7 @@ returns-2 c =
     let a = first.before.args in
     run_end _ _ _ _ elements _ _ c.loop-test.false c.before.loop.invariant
     ∙ from-roots a.rows.now a.givers.now (number_of a.slack) a.lefts.now a.rights.now (number_of a.able) (number_of a.roots)
-    (number-of _ first.meet.ensures)
+    (number_of_lem _ first.meet.ensures)
 
 pub seek-spec : {M : Type 1} → statement M
 seek-spec = tie.close (tie.spec invariant-loop decreases-loop (λ c κs. search rules) (λ c. search rules) (λ c κs. search rules) returns turn-requires (λ c. search rules) (λ c. search rules) loop-again returns-2)

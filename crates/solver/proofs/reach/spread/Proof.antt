@@ -3,8 +3,8 @@
 use Rattle.std.proofs.Common.{◌≡◌, rules}
 use Rattle.words.specs.model.Loops.{each}
 use Rattle.order.specs.Stored.{elements, number_of}
-use Rattle.order.proofs.Stored.{number-of}
-use Rattle.order.proofs.Listing.{listed_below, listing-less, listing-again, listing-end}
+use Rattle.order.proofs.Stored.{number_of_lem}
+use Rattle.order.proofs.Listing.{listed_below, listing_less, listing_again, listing_end}
 use Rattle.solver.specs.model.Search.{seen, visit}
 use Rattle.solver.proofs.Steps.{visits}
 use Rattle.solver.proofs.reach.spread.Statement.{statement}
@@ -25,7 +25,7 @@ row-requires c κs =
 loop-less : tie.Need-loop-smaller invariant-loop decreases-loop
 loop-less c =
     let at = c.before.before.before.before.before.before.before in
-    listing-less _ _ at.before.is-empty.ensures _ at.if1.true c.without-lowest.ensures
+    listing_less _ _ at.before.is-empty.ensures _ at.if1.true c.without-lowest.ensures
 
 loop-again : tie.Need-loop-preserved invariant-loop decreases-loop
 loop-again c =
@@ -34,13 +34,13 @@ loop-again c =
     let at = low.before in
     let l = at.before.before.loop in
     let g = at.before.before.before.args.givers.now in
-    listing-again _ _ at.before.is-empty.ensures (visit g) _ l.invariant _ _ at.if1.true low.lowest.ensures
-    (visits g (seen (number_of l.s) l.parents) low.lowest.result (number-of _ new.before.row.ensures) (number-of _ new.minus.ensures)
-    (number-of _ c.before.union.ensures) c.before.before.mark.ensures)
+    listing_again _ _ at.before.is-empty.ensures (visit g) _ l.invariant _ _ at.if1.true low.lowest.ensures
+    (visits g (seen (number_of l.s) l.parents) low.lowest.result (number_of_lem _ new.before.row.ensures) (number_of_lem _ new.minus.ensures)
+    (number_of_lem _ c.before.union.ensures) c.before.before.mark.ensures)
     c.without-lowest.ensures
 
 returns : tie.Need-returns invariant-loop decreases-loop
-returns c = listing-end _ _ c.before.is-empty.ensures _ _ c.before.before.loop.invariant c.if1.false
+returns c = listing_end _ _ c.before.is-empty.ensures _ _ c.before.before.loop.invariant c.if1.false
 
 pub spread-spec : {M : Type 1} → statement M
 spread-spec = tie.close (tie.spec invariant-loop decreases-loop (λ c. search rules) (λ c κs. search rules) (λ c κs. search rules) row-requires (λ c κs. search rules) (λ c κs. search rules) (λ c κs. search rules) (λ c κs. search rules) loop-less loop-again returns)

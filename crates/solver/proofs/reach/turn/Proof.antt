@@ -1,11 +1,11 @@
 -- `reach::turn` meets its contract, by the two tests.
 use Rattle.std.proofs.Common.{arith, rules}
-use Rattle.words.proofs.Members.{low-place}
+use Rattle.words.proofs.Members.{low_place}
 use Rattle.order.specs.Stored.{elements, number_of}
-use Rattle.order.proofs.Stored.{number-of, number-none, in-bound}
+use Rattle.order.proofs.Stored.{number_of_lem, number_none, in_bound}
 use Rattle.order.proofs.Listing.{is_none, is_some, some_left, none_left}
 use Rattle.solver.specs.model.Search.{looked}
-use Rattle.solver.proofs.Steps.{look_hit, look-last, look-on}
+use Rattle.solver.proofs.Steps.{look_hit, look_last, look_on}
 use Rattle.solver.proofs.reach.turn.Statement.{statement}
 use Rattle.solver.proofs.reach.turn.Tie as tie
 
@@ -13,7 +13,7 @@ row-requires : tie.Need-row-requires
 row-requires c κs =
     let start = c.before.before.before.before.before.before in
     let p = start.requires in
-    low-place elements (number_of start.args.s.frontier) (λ z. omega (arith, p.0)) (in-bound p.1) c.before.lowest.ensures
+    low_place elements (number_of start.args.s.frontier) (λ z. omega (arith, p.0)) (in_bound p.1) c.before.lowest.ensures
 
 returns : tie.Need-returns
 returns c =
@@ -24,8 +24,8 @@ returns c =
     let low = new.before.before.before in
     let a = low.before.before.before.before.before.args in
     look_hit a.rows.now a.givers.now (number_of a.slack) (looked a.s) a.lefts.now a.rights.now _ low.lowest.ensures _ _
-    (number-of _ new.before.row.ensures) (number-of _ new.minus.ensures) _ mark.mark.ensures _ _ (number-of _ hit.before.union.ensures)
-    (number-of _ hit.meet.ensures) number-none (some_left _ _ test.before.is-empty.ensures test.if1.true) c.lowest2.ensures
+    (number_of_lem _ new.before.row.ensures) (number_of_lem _ new.minus.ensures) _ mark.mark.ensures _ _ (number_of_lem _ hit.before.union.ensures)
+    (number_of_lem _ hit.meet.ensures) number_none (some_left _ _ test.before.is-empty.ensures test.if1.true) c.lowest2.ensures
 
 returns-2 : tie.Need-returns-2
 returns-2 c =
@@ -36,10 +36,10 @@ returns-2 c =
     let new = mark.before.before in
     let low = new.before.before.before in
     let a = low.before.before.before.before.before.args in
-    look-last a.rows.now a.givers.now (number_of a.slack) (looked a.s) a.lefts.now a.rights.now _ low.lowest.ensures _ _
-    (number-of _ new.before.row.ensures) (number-of _ new.minus.ensures) _ mark.mark.ensures _ _ (number-of _ hit.before.union.ensures)
-    (number-of _ hit.meet.ensures) (number-of _ new.before.before.without-lowest.ensures) seen.spread.ensures
-    (none_left _ _ test.before.is-empty.ensures test.if1.false) (number-of _ c.before.before.before.minus2.ensures) (number-of _ c.before.before.union2.ensures) number-none
+    look_last a.rows.now a.givers.now (number_of a.slack) (looked a.s) a.lefts.now a.rights.now _ low.lowest.ensures _ _
+    (number_of_lem _ new.before.row.ensures) (number_of_lem _ new.minus.ensures) _ mark.mark.ensures _ _ (number_of_lem _ hit.before.union.ensures)
+    (number_of_lem _ hit.meet.ensures) (number_of_lem _ new.before.before.without-lowest.ensures) seen.spread.ensures
+    (none_left _ _ test.before.is-empty.ensures test.if1.false) (number_of_lem _ c.before.before.before.minus2.ensures) (number_of_lem _ c.before.before.union2.ensures) number_none
     (is_none _ _ c.before.is-empty2.ensures c.if2.true)
 
 returns-3 : tie.Need-returns-3
@@ -51,10 +51,10 @@ returns-3 c =
     let new = mark.before.before in
     let low = new.before.before.before in
     let a = low.before.before.before.before.before.args in
-    look-on a.rows.now a.givers.now (number_of a.slack) (looked a.s) a.lefts.now a.rights.now _ low.lowest.ensures _ _
-    (number-of _ new.before.row.ensures) (number-of _ new.minus.ensures) _ mark.mark.ensures _ _ (number-of _ hit.before.union.ensures)
-    (number-of _ hit.meet.ensures) (number-of _ new.before.before.without-lowest.ensures) seen.spread.ensures
-    (none_left _ _ test.before.is-empty.ensures test.if1.false) (number-of _ c.before.before.before.minus2.ensures) (number-of _ c.before.before.union2.ensures)
+    look_on a.rows.now a.givers.now (number_of a.slack) (looked a.s) a.lefts.now a.rights.now _ low.lowest.ensures _ _
+    (number_of_lem _ new.before.row.ensures) (number_of_lem _ new.minus.ensures) _ mark.mark.ensures _ _ (number_of_lem _ hit.before.union.ensures)
+    (number_of_lem _ hit.meet.ensures) (number_of_lem _ new.before.before.without-lowest.ensures) seen.spread.ensures
+    (none_left _ _ test.before.is-empty.ensures test.if1.false) (number_of_lem _ c.before.before.before.minus2.ensures) (number_of_lem _ c.before.before.union2.ensures)
     (is_some _ _ c.before.is-empty2.ensures c.if2.false)
 
 pub turn_spec : {M : Type 1} → statement M

@@ -3,9 +3,9 @@ use mathlib.Core.Bool.{true≢false}
 use mathlib.Core.List.{List}
 use mathlib.Core.Path.{sym, ◌∙◌}
 use Prim.Native.Nat.{ℕ}
-use Rattle.planner.specs.CrewCheck.{crewCheckFault}
+use Rattle.planner.specs.CrewCheck.{crew_check_fault}
 use Rattle.planner.proofs.OutputLaws.{Ends, stops, goes_on}
-use Rattle.planner.proofs.OpenLaws.{opened-few}
+use Rattle.planner.proofs.OpenLaws.{opened_few}
 use Rattle.planner.proofs.CrewCheckLaws.{ends, looks, answered}
 use borrow.Author.Rules.{rules}
 use Rattle.planner.proofs.ops.crew_check.crew_check.Statement.{statement}
@@ -25,13 +25,13 @@ module _ (t : tie.After-is-fine) where
   abbrev worked : List ℕ
   worked = o.before.before.before.before.args.worked.now
 
-  found : Ends (crewCheckFault s starts worked) t.before.or-cause.result t.is-fine.result
+  found : Ends (crew_check_fault s starts worked) t.before.or-cause.result t.is-fine.result
   found = ends s starts worked o.open-plan.ensures t.before.before.bad-lists.ensures t.before.or-cause.ensures t.is-fine.ensures
 
 bad-lists-requires : tie.Need-bad-lists-requires
 bad-lists-requires c κs =
     let o = c.before.before.before in
-    opened-few o.before.before.before.before.args.s.now o.open-plan.ensures
+    opened_few o.before.before.before.before.args.s.now o.open-plan.ensures
 
 returns : tie.Need-returns
 returns c =

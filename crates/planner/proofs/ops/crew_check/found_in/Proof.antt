@@ -6,10 +6,10 @@ use native.Mathlib.Omega.{arith}
 use lib.ListN.{length}
 use borrow.Author.Rules.{rules}
 use Rattle.order.specs.Rows.{after}
-use Rattle.schedule.specs.Checks.{checkOf}
-use Rattle.schedule.specs.model.Arrays.{crewNet, withWaits, workOf}
-use Rattle.schedule.proofs.Weights.{check-weights}
-use Rattle.planner.proofs.TimesLaws.{weights-in}
+use Rattle.schedule.specs.Checks.{check_of}
+use Rattle.schedule.specs.model.Arrays.{crew_net, with_waits, work_of}
+use Rattle.schedule.proofs.Weights.{check_weights}
+use Rattle.planner.proofs.TimesLaws.{weights_in}
 use Rattle.planner.proofs.ops.crew_check.found_in.Statement.{statement}
 use Rattle.planner.proofs.ops.crew_check.found_in.Tie as tie
 
@@ -19,11 +19,11 @@ returns c =
     let start = read.before.before.before.before.before in
     let a = start.args in
     let listed = start.requires.1 in
-    let work = workOf a.q.demand a.q.available a.starts.now a.worked.now in
-    c.crew-check.ensures
-    ∙ ap (λ (waits : List ℕ). checkOf (crewNet a.rows.now (withWaits a.worked.now waits) a.starts.now) work) read.store-waits.ensures
-    ∙ check-weights (length a.starts.now) (after a.rows.now) _ _
-    (λ i j l h. weights-in a.s.now a.worked.now i j (omega (arith, listed.few)) (omega (arith, listed.few))) work
+    let work = work_of a.q.demand a.q.available a.starts.now a.worked.now in
+    c.crew_check.ensures
+    ∙ ap (λ (waits : List ℕ). check_of (crew_net a.rows.now (with_waits a.worked.now waits) a.starts.now) work) read.store-waits.ensures
+    ∙ check_weights (length a.starts.now) (after a.rows.now) _ _
+    (λ i j l h. weights_in a.s.now a.worked.now i j (omega (arith, listed.few)) (omega (arith, listed.few))) work
 
 pub found-in-spec : {M : Type 1} → statement M
 found-in-spec = tie.close (tie.spec (λ c κs. search rules) (λ c κs. search rules) returns)

@@ -4,24 +4,24 @@ use Prim.Native.Nat.{ℕ, ◌-◌}
 use native.Mathlib.Omega.{arith}
 use lib.ListN.{length}
 use Rattle.records.specs.Bytes.{AreBytes}
-use Rattle.planner.specs.Open.{planIn}
-use Rattle.planner.specs.Flow.{flowFault, flowCount, recordBytes, flowOut}
+use Rattle.planner.specs.Open.{plan_in}
+use Rattle.planner.specs.Flow.{flow_fault, flow_count, record_bytes, flow_out}
 use Rattle.planner.proofs.OutputLaws.{Ends, goes_on, refused, done}
-use Rattle.planner.proofs.OpenLaws.{opened-few}
-use Rattle.planner.proofs.QuotedNeeds.{opened-kinds}
-use Rattle.planner.proofs.FlowLaws.{ends, positive, flow-asked, written}
+use Rattle.planner.proofs.OpenLaws.{opened_few}
+use Rattle.planner.proofs.QuotedNeeds.{opened_kinds}
+use Rattle.planner.proofs.FlowLaws.{ends, positive, flow_asked, written}
 use borrow.Author.Rules.{rules}
 use Rattle.planner.proofs.ops.flow.flow.Statement.{statement}
 use Rattle.planner.proofs.ops.flow.flow.Tie as tie
 
 flow-length-requires : tie.Need-flow-length-requires
-flow-length-requires c κs = let o = c.before.before in opened-few o.before.before.before.args.s.now o.open-plan.ensures
+flow-length-requires c κs = let o = c.before.before in opened_few o.before.before.before.args.s.now o.open-plan.ensures
 
 kind-fault-requires : tie.Need-kind-fault-requires
 kind-fault-requires c κs =
     let o = c.before.before.before in
     let s = o.before.before.before.args.s.now in
-    (opened-few s o.open-plan.ensures, opened-kinds s o.open-plan.ensures)
+    (opened_few s o.open-plan.ensures, opened_kinds s o.open-plan.ensures)
 
 -- what the code has found when it looks at its fault
 module _ (t : tie.After-is-fine) where
@@ -40,14 +40,14 @@ module _ (t : tie.After-is-fine) where
   abbrev kind : ℕ
   kind = o.before.before.before.args.kind
 
-  found : Ends (flowFault s kind (length out)) t.before.kind-fault.result t.is-fine.result
-  found = ends s kind out bytes o.open-plan.ensures t.before.before.flow-length.ensures t.before.kind-fault.ensures t.is-fine.ensures
+  found : Ends (flow_fault s kind (length out)) t.before.kind-fault.result t.is-fine.result
+  found = ends s kind out bytes o.open-plan.ensures t.before.before.flow_length.ensures t.before.kind-fault.ensures t.is-fine.ensures
 
 returns : tie.Need-returns
-unfolding flowOut
+unfolding flow_out
 returns c =
     let t = c.before.before in
-    refused (found t) (flowCount (planIn (s t)) (kind t - 1)) (recordBytes (planIn (s t)) (kind t - 1)) (out t) c.before.if1.true c.output-of.ensures
+    refused (found t) (flow_count (plan_in (s t)) (kind t - 1)) (record_bytes (plan_in (s t)) (kind t - 1)) (out t) c.before.if1.true c.output-of.ensures
 
 sub-k : tie.Need-overflow-sub-k
 sub-k c = let t = c.before in positive (s t) (kind t) (out t) (bytes t) (o t).open-plan.ensures (goes_on (found t) c.if1.false)
@@ -56,16 +56,16 @@ write-records-requires : tie.Need-write-records-requires
 write-records-requires c κs =
     let h = c.before.before in
     let t = h.before in
-    flow-asked (s t) (kind t) (out t) (bytes t) (o t).open-plan.ensures (goes_on (found t) h.if1.false)
+    flow_asked (s t) (kind t) (out t) (bytes t) (o t).open-plan.ensures (goes_on (found t) h.if1.false)
 
 returns-2 : tie.Need-returns-2
-unfolding flowOut
+unfolding flow_out
 returns-2 c =
     let p = c.before.before.before in
     let h = p.before.before.before in
     let t = h.before in
     let w = written (s t) (kind t) (out t) (bytes t) (o t).open-plan.ensures (goes_on (found t) h.if1.false) p.write-records.ensures in
-    done (found t) (flowCount (planIn (s t)) (kind t - 1)) (recordBytes (planIn (s t)) (kind t - 1)) (out t) h.if1.false c.output-of2.ensures w.0 w.1
+    done (found t) (flow_count (plan_in (s t)) (kind t - 1)) (record_bytes (plan_in (s t)) (kind t - 1)) (out t) h.if1.false c.output-of2.ensures w.0 w.1
 
 pub flow-spec : {M : Type 1} → statement M
 flow-spec =

@@ -1,9 +1,9 @@
 -- `planner::ops::flow::flow_length` meets its contract, by whether there are activities.
 use native.Mathlib.Omega.{arith}
 use Rattle.order.specs.Stored.{elements}
-use Rattle.planner.specs.File.{flowLength}
+use Rattle.planner.specs.File.{flow_length}
 use Rattle.planner.proofs.FlowLaws.{length_none}
-use Rattle.planner.proofs.FlowUnits.{pairs-few}
+use Rattle.planner.proofs.FlowUnits.{pairs_few}
 use borrow.Author.Rules.{rules}
 use Rattle.planner.proofs.ops.flow.flow_length.Statement.{statement}
 use Rattle.planner.proofs.ops.flow.flow_length.Tie as tie
@@ -12,19 +12,19 @@ returns : tie.Need-returns
 returns c = length_none c.before.args.m (omega arith)
 
 mul-result : tie.Need-overflow-mul-result
-mul-result c = record { fits = omega (arith, pairs-few elements c.before.args.m (omega arith)) }
+mul-result c = record { fits = omega (arith, pairs_few elements c.before.args.m (omega arith)) }
 
 add-result : tie.Need-overflow-add-result
-add-result c = record { fits = omega (arith, pairs-few elements c.before.args.m (omega arith)) }
+add-result c = record { fits = omega (arith, pairs_few elements c.before.args.m (omega arith)) }
 
 add-result-2 : tie.Need-overflow-add-result-2
-add-result-2 c = record { fits = omega (arith, pairs-few elements c.before.args.m (omega arith)) }
+add-result-2 c = record { fits = omega (arith, pairs_few elements c.before.args.m (omega arith)) }
 
 mul-result-3 : tie.Need-overflow-mul-result-3
-mul-result-3 c = record { fits = omega (arith, pairs-few elements c.before.args.m (omega arith)) }
+mul-result-3 c = record { fits = omega (arith, pairs_few elements c.before.args.m (omega arith)) }
 
 returns-2 : tie.Need-returns-2
-unfolding flowLength
+unfolding flow_length
 returns-2 c = search rules
 
 pub flow-length-spec : {M : Type 1} → statement M

@@ -6,7 +6,7 @@ use native.Mathlib.Omega.{arith}
 use lib.ListN.{length, length-set, get_or, set}
 use borrow.Author.Rules.{rules}
 use Rattle.words.specs.Tables.{over}
-use Rattle.words.proofs.Tables.{over-turn}
+use Rattle.words.proofs.Tables.{over_turn}
 use Rattle.planner.proofs.ops.needs.put_numbers.Statement.{statement}
 use Rattle.planner.proofs.ops.needs.put_numbers.Tie as tie
 
@@ -27,7 +27,7 @@ loop-again c =
       omega arith,
       length-set at.loop.out at.loop.k _ ∙ at.loop.invariant.1,
       ap (λ (l : List ℕ). set l at.loop.k (get_or a.t2 at.loop.k 0)) at.loop.invariant.2
-          ∙ over-turn at.loop.k a.t2 a.out.now (omega arith) (omega arith),
+          ∙ over_turn at.loop.k a.t2 a.out.now (omega arith) (omega arith),
     )
 
 returns : tie.Need-returns invariant-loop decreases-loop

@@ -3,10 +3,10 @@ use mathlib.Core.List.{List}
 use Prim.Native.Nat.{ℕ}
 use native.Mathlib.Omega.{arith}
 use borrow.Author.Rules.{rules}
-use Rattle.crew_sheet.specs.Sheet.{pagesOf, sheetPage, mostLines}
-use Rattle.planner.specs.Sheet.{pageFault}
+use Rattle.crew_sheet.specs.Sheet.{pages_of, sheet_page, most_lines}
+use Rattle.planner.specs.Sheet.{page_fault}
 use Rattle.planner.proofs.OutputLaws.{Ends, goes_on, refused, done}
-use Rattle.planner.proofs.SheetLaws.{pages-few, page-ends, page-there}
+use Rattle.planner.proofs.SheetLaws.{pages_few, page_ends, page_there}
 use Rattle.planner.proofs.ops.sheet.print_page.Statement.{statement}
 use Rattle.planner.proofs.ops.sheet.print_page.Tie as tie
 
@@ -22,33 +22,33 @@ module _ (t : tie.After-is-fine) where
   page = start.args.page
 
   abbrev written : List ℕ
-  written = sheetPage start.args.records.now start.args.starts.now n start.args.kind page
+  written = sheet_page start.args.records.now start.args.starts.now n start.args.kind page
 
   abbrev out : List ℕ
   out = start.args.out.now
 
-  found : Ends (pageFault n page) t.before.or-cause.result t.is-fine.result
+  found : Ends (page_fault n page) t.before.or-cause.result t.is-fine.result
   found =
       let test = t.before.before in
-      page-ends n page test.before.pages.ensures test.is-page.ensures t.before.or-cause.ensures t.is-fine.ensures
+      page_ends n page test.before.pages.ensures test.is-page.ensures t.before.or-cause.ensures t.is-fine.ensures
 
 returns : tie.Need-returns
-returns c = let t = c.before.before in refused (found t) (pagesOf (n t)) (written t) (out t) c.before.if1.true c.output-of.ensures
+returns c = let t = c.before.before in refused (found t) (pages_of (n t)) (written t) (out t) c.before.if1.true c.output-of.ensures
 
 write-page-requires : tie.Need-write-page-requires
 write-page-requires c κs =
     let h = c.before in
     let t = h.before in
-    let there = page-there (n t) (page t) (goes_on (found t) h.if1.false) in
+    let there = page_there (n t) (page t) (goes_on (found t) h.if1.false) in
     let asked = (start t).requires in
-    (asked.0, asked.1, asked.2, there.0, omega (arith, there.1, pages-few (n t) mostLines asked.1 (omega arith)))
+    (asked.0, asked.1, asked.2, there.0, omega (arith, there.1, pages_few (n t) most_lines asked.1 (omega arith)))
 
 returns-2 : tie.Need-returns-2
 returns-2 c =
     let p = c.before.before.before in
     let h = p.before.before in
     let t = h.before in
-    done (found t) (pagesOf (n t)) (written t) (out t) h.if1.false c.output-of2.ensures t.before.before.before.pages.ensures p.write-page.ensures.1
+    done (found t) (pages_of (n t)) (written t) (out t) h.if1.false c.output-of2.ensures t.before.before.before.pages.ensures p.write-page.ensures.1
 
 pub print-page-spec : {M : Type 1} → statement M
 print-page-spec =

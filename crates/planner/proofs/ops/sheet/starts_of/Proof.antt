@@ -4,8 +4,8 @@ use mathlib.Core.List.{List}
 use Prim.Native.Nat.{ℕ}
 use native.Mathlib.Omega.{arith}
 use borrow.Author.Rules.{rules}
-use Rattle.schedule.specs.model.Arrays.{byDuration, FinishesFit}
-use Rattle.planner.proofs.TimesLaws.{starts-finish}
+use Rattle.schedule.specs.model.Arrays.{by_duration, FinishesFit}
+use Rattle.planner.proofs.TimesLaws.{starts_finish}
 use Rattle.planner.proofs.ops.sheet.starts_of.Statement.{statement}
 use Rattle.planner.proofs.ops.sheet.starts_of.Tie as tie
 
@@ -15,7 +15,7 @@ end-start-requires c κs =
     let known = e.before.before.before.shared-slice-known.given in
     let start = e.before.before.before.before in
     let d = start.args.q.duration in
-    (start.requires.0, subst (λ (xs : List ℕ). FinishesFit xs (byDuration d)) (sym e.first-starts.ensures) (starts-finish start.args.s.now (λ i. omega (arith, known i)) start.args.rows.now d start.requires.3))
+    (start.requires.0, subst (λ (xs : List ℕ). FinishesFit xs (by_duration d)) (sym e.first-starts.ensures) (starts_finish start.args.s.now (λ i. omega (arith, known i)) start.args.rows.now d start.requires.3))
 
 returns : tie.Need-returns
 returns c =

@@ -1,17 +1,17 @@
 -- `planner::ops::starts::put_starts` meets its contract. The invariant: so many numbers are written over the front.
-use Rattle.planner.proofs.StartsLaws.{put_next, before-end, at-end}
+use Rattle.planner.proofs.StartsLaws.{put_next, before_end, at_end}
 use lib.ListN.{length, length-set}
 use mathlib.Core.Path.{◌≡◌, refl, sym, ap, ◌∙◌}
 use Prim.Native.Nat.{ℕ, ◌≤◌, ◌-◌}
 use native.Mathlib.Omega.{arith}
 use borrow.Author.Rules.{rules}
 use Rattle.words.specs.Tables.{over}
-use Rattle.planner.specs.Starts.{withEnd}
+use Rattle.planner.specs.Starts.{with_end}
 use Rattle.planner.proofs.ops.starts.put_starts.Statement.{statement}
 use Rattle.planner.proofs.ops.starts.put_starts.Tie as tie
 
 abbrev invariant-loop : tie.invariant-loop
-invariant-loop out₀ starts m end i₀ out i = (i ≤ m) × (length out ≡ length out₀) × (out ≡ over i (withEnd m starts end) out₀)
+invariant-loop out₀ starts m end i₀ out i = (i ≤ m) × (length out ≡ length out₀) × (out ≡ over i (with_end m starts end) out₀)
 
 abbrev decreases-loop : tie.decreases-loop
 decreases-loop out₀ starts m end i₀ out i = m - i
@@ -25,7 +25,7 @@ loop-again c =
     let a = at.before.args in (
       omega arith,
       length-set at.loop.out at.loop.i _ ∙ at.loop.invariant.1,
-      put_next a.m a.starts.now a.end at.loop.i _ a.out.now at.loop.out (omega arith) (omega arith) at.loop.invariant.2 (sym (before-end a.m a.starts.now a.end at.loop.i (omega arith))),
+      put_next a.m a.starts.now a.end at.loop.i _ a.out.now at.loop.out (omega arith) (omega arith) at.loop.invariant.2 (sym (before_end a.m a.starts.now a.end at.loop.i (omega arith))),
     )
 
 same_length : tie.Need-same-length invariant-loop decreases-loop
@@ -36,7 +36,7 @@ returns c =
     let at = c.before in
     let a = at.before.args in
     let e : at.loop.i ≡ a.m = omega arith in
-    put_next a.m a.starts.now a.end a.m a.end a.out.now at.loop.out (omega arith) (omega arith) (at.loop.invariant.2 ∙ ap (λ (x : ℕ). over x (withEnd a.m a.starts.now a.end) a.out.now) e) (sym (at-end a.m a.starts.now a.end))
+    put_next a.m a.starts.now a.end a.m a.end a.out.now at.loop.out (omega arith) (omega arith) (at.loop.invariant.2 ∙ ap (λ (x : ℕ). over x (with_end a.m a.starts.now a.end) a.out.now) e) (sym (at_end a.m a.starts.now a.end))
 
 pub put-starts-spec : {M : Type 1} → statement M
 put-starts-spec = tie.close (tie.spec invariant-loop decreases-loop loop-holds (λ c. search rules) (λ c. search rules) (λ c. search rules) (λ c. search rules) (λ c. search rules) (λ c. search rules) loop-again (λ c. search rules) (λ c. search rules) same_length returns)

@@ -7,20 +7,20 @@ use lib.ListN.{get_or}
 use borrow.Author.Rules.{rules}
 use mir.Syntax.{w64}
 use mir.Val.{Fits}
-use borrow.Author.Tests.{not-true, not-false}
+use borrow.Author.Tests.{not-true, not_false}
 use Rattle.words.specs.Bits.{bit}
-use Rattle.order.specs.Orders.{afterRows, order_in, joinedRows}
+use Rattle.order.specs.Orders.{after_rows, order_in, joined_rows}
 use Rattle.order.specs.Stored.{cells}
 use Rattle.order.specs.Rows.{after}
-use Rattle.order.proofs.Stored.{number-of, words-fit}
-use Rattle.planner.proofs.TrimSteps.{follows-held, left-held, left-follows, left-fits, left-stays}
+use Rattle.order.proofs.Stored.{number_of_lem, words_fit}
+use Rattle.planner.proofs.TrimSteps.{follows_held, left_held, left_follows, left_fits, left_stays}
 use Rattle.planner.proofs.ops.trim.consider.Statement.{statement}
 use Rattle.planner.proofs.ops.trim.consider.Tie as tie
 
 -- what the code asked first: whether the arc may go
 module _ (h : tie.After-has) where
   tested : h.has.result ≡ after h.before.before.args.free.now h.before.before.args.i h.before.before.args.j
-  tested = h.has.ensures ∙ ap (λ (w : ℕ). bit w h.before.before.args.j) (number-of _ h.before.row.ensures)
+  tested = h.has.ensures ∙ ap (λ (w : ℕ). bit w h.before.before.args.j) (number_of_lem _ h.before.row.ensures)
 
 returns : tie.Need-returns
 returns c =
@@ -28,7 +28,7 @@ returns c =
     let start = h.before.before in
     let a = start.args in
     let never = sym (tested h) ∙ not-true _ c.if1.true in (
-      left-held a.m a.job.now a.demand.now a.available.now a.n a.free.now a.afters.now a.extra.now a.i a.j never,
+      left_held a.m a.job.now a.demand.now a.available.now a.n a.free.now a.afters.now a.extra.now a.i a.j never,
       start.requires.4.1,
     )
 
@@ -39,12 +39,12 @@ returns-2 c =
     let h = else.before in
     let start = h.before.before in
     let a = start.args in
-    let may = sym (tested h) ∙ not-false _ else.if1.false in
+    let may = sym (tested h) ∙ not_false _ else.if1.false in
     let e = sym f.follows.ensures ∙ c.before.before.if2.true in
     let less = c.without-arc.ensures in (
-      less ∙ left-follows a.m a.job.now a.demand.now a.available.now a.n a.free.now a.afters.now a.extra.now a.i a.j may e,
-      sym (follows-held a.job.now a.extra.now a.afters.now a.i a.j start.requires.0 start.requires.1 start.requires.4 e)
-          ∙ ap (λ (x : List ℕ). afterRows (order_in (joinedRows a.job.now x))) (sym less),
+      less ∙ left_follows a.m a.job.now a.demand.now a.available.now a.n a.free.now a.afters.now a.extra.now a.i a.j may e,
+      sym (follows_held a.job.now a.extra.now a.afters.now a.i a.j start.requires.0 start.requires.1 start.requires.4 e)
+          ∙ ap (λ (x : List ℕ). after_rows (order_in (joined_rows a.job.now x))) (sym less),
     )
 
 returns-3 : tie.Need-returns-3
@@ -59,9 +59,9 @@ returns-3 c =
     let h = else.before in
     let start = h.before.before in
     let a = start.args in
-    let may = sym (tested h) ∙ not-false _ else.if1.false in (
-      left-stays a.m a.job.now a.demand.now a.available.now a.n a.free.now a.afters.now a.extra.now a.i a.j may
-          (joined.joined.ensures ∙ ap (joinedRows a.job.now) less.without-arc2.ensures)
+    let may = sym (tested h) ∙ not_false _ else.if1.false in (
+      left_stays a.m a.job.now a.demand.now a.available.now a.n a.free.now a.afters.now a.extra.now a.i a.j may
+          (joined.joined.ensures ∙ ap (joined_rows a.job.now) less.without-arc2.ensures)
           closing.closing.ensures.0 over.lowest-overload.ensures
           (sym f.follows.ensures ∙ else2.if2.false) c.if3.true,
       start.requires.4.1,
@@ -76,20 +76,20 @@ returns-4 c =
     let else = less.before.before.before.before.before.before.before in
     let h = else.before in
     let a = h.before.before.args in
-    let may = sym (tested h) ∙ not-false _ else.if1.false in
-    let joins = joined.joined.ensures ∙ ap (joinedRows a.job.now) less.without-arc2.ensures in (
+    let may = sym (tested h) ∙ not_false _ else.if1.false in
+    let joins = joined.joined.ensures ∙ ap (joined_rows a.job.now) less.without-arc2.ensures in (
       less.without-arc2.ensures
-          ∙ left-fits a.m a.job.now a.demand.now a.available.now a.n a.free.now a.afters.now
+          ∙ left_fits a.m a.job.now a.demand.now a.available.now a.n a.free.now a.afters.now
           a.extra.now a.i a.j may joins closing.closing.ensures.0
           over.lowest-overload.ensures c.if3.false,
-      closing.closing.ensures.1 ∙ ap (λ (x : List ℕ). afterRows (order_in x)) joined.joined.ensures,
+      closing.closing.ensures.1 ∙ ap (λ (x : List ℕ). after_rows (order_in x)) joined.joined.ensures,
     )
 
 closing-requires : tie.Need-closing-requires
 unfolding cells
 closing-requires c κs =
     let rows = c.before.joined.result in
-    (search rules, words-fit rows (λ k. let f : Fits w64 (get_or rows k 0) = search rules in f.fits))
+    (search rules, words_fit rows (λ k. let f : Fits w64 (get_or rows k 0) = search rules in f.fits))
 
 pub consider-spec : {M : Type 1} → statement M
 consider-spec =

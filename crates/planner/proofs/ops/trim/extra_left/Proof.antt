@@ -8,8 +8,8 @@ use Rattle.records.specs.Bytes.{AreBytes}
 use Rattle.order.specs.Stored.{elements, cells}
 use Rattle.plan.specs.declared.Plan.{Plan}
 use Rattle.planner.specs.Open.{Opens}
-use Rattle.planner.proofs.OpenLaws.{count-few, opens-readable}
-use Rattle.planner.proofs.TrimPairs.{Considered, trim-none, trim-asked, trim-again, trim-all}
+use Rattle.planner.proofs.OpenLaws.{count_few, opens_readable}
+use Rattle.planner.proofs.TrimPairs.{Considered, trim_none, trim_asked, trim_again, trim_all}
 use Rattle.planner.proofs.ops.trim.extra_left.Statement.{statement}
 use Rattle.planner.proofs.ops.trim.extra_left.Tie as tie
 
@@ -23,11 +23,11 @@ store-free-requires : tie.Need-store-free-requires invariant-loop decreases-loop
 unfolding cells
 store-free-requires c κs =
     let start = c.before.before in
-    (opens-readable start.args.s.now start.requires.0, search rules)
+    (opens_readable start.args.s.now start.requires.0, search rules)
 
 -- the plan has few activities
 few : (c : tie.Start invariant-loop decreases-loop) → c.args.q.count ≤ elements
-few c = subst (λ (q : Plan). q.count ≤ elements) (sym c.requires.1) (count-few c.args.s.now)
+few c = subst (λ (q : Plan). q.count ≤ elements) (sym c.requires.1) (count_few c.args.s.now)
 
 mul-pairs : tie.Need-overflow-mul-pairs invariant-loop decreases-loop
 mul-pairs c =
@@ -37,14 +37,14 @@ mul-pairs c =
 loop-holds : tie.Need-loop-init invariant-loop decreases-loop
 loop-holds c =
     let start = c.before.before.before.before.before.before.before.before in
-    ((λ bytes o. trim-none start.args.s.now bytes o start.requires.1 start.requires.3 start.requires.2 c.after-rows.ensures), omega arith)
+    ((λ bytes o. trim_none start.args.s.now bytes o start.requires.1 start.requires.3 start.requires.2 c.after_rows.ensures), omega arith)
 
 consider-requires : tie.Need-consider-requires invariant-loop decreases-loop
 consider-requires c κs =
     let b = c.before.before.before.before.before.before.before in
     let known = b.before.before.before.before.before.before.before.before in
     let start = known.before in
-    trim-asked start.args.s.now (λ i. omega (arith, known.shared-slice-known.given i)) start.requires.0 start.requires.1 start.requires.3 b.loop.x (omega arith)
+    trim_asked start.args.s.now (λ i. omega (arith, known.shared-slice-known.given i)) start.requires.0 start.requires.1 start.requires.3 b.loop.x (omega arith)
     (b.loop.invariant.0 (λ i. omega (arith, known.shared-slice-known.given i)) start.requires.0)
 
 add-x : tie.Need-overflow-add-x invariant-loop decreases-loop
@@ -61,7 +61,7 @@ loop-again c =
     let free = b.before.before.before.before.before.before in
     let start = free.before.before.before in
     let below = turn.loop-test.true in (
-      (λ bytes o. trim-again start.args.s.now bytes o start.requires.1 start.requires.3 b.loop.x below (b.loop.invariant.0 bytes o) free.store-free.ensures c.consider.ensures.0
+      (λ bytes o. trim_again start.args.s.now bytes o start.requires.1 start.requires.3 b.loop.x below (b.loop.invariant.0 bytes o) free.store-free.ensures c.consider.ensures.0
           c.consider.ensures.1),
       omega (arith, below),
     )
@@ -72,7 +72,7 @@ returns c =
     let known = b.before.before.before.before.before.before.before.before in
     let start = known.before in
     let bytes : AreBytes start.args.s.now = λ i. omega (arith, known.shared-slice-known.given i) in
-    trim-all start.args.s.now bytes start.requires.0 start.requires.1 start.requires.3 b.loop.x (omega arith) (b.loop.invariant.0 bytes start.requires.0)
+    trim_all start.args.s.now bytes start.requires.0 start.requires.1 start.requires.3 b.loop.x (omega arith) (b.loop.invariant.0 bytes start.requires.0)
 
 pub extra-left-spec : {M : Type 1} → statement M
 extra-left-spec =

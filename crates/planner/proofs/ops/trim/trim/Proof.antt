@@ -5,12 +5,12 @@ use Prim.Native.Nat.{ℕ}
 use native.Mathlib.Omega.{arith}
 use lib.ListN.{length}
 use Rattle.records.specs.Bytes.{AreBytes}
-use Rattle.plan.specs.Records.{recordCount}
-use Rattle.planner.specs.Trim.{trimmedFile, trimFault, trimOut}
+use Rattle.plan.specs.Records.{record_count}
+use Rattle.planner.specs.Trim.{trimmed_file, trim_fault, trim_out}
 use Rattle.planner.proofs.OutputLaws.{Ends, goes_on, refused, done}
-use Rattle.planner.proofs.OpenLaws.{opened-few}
-use Rattle.planner.proofs.QuotedNeeds.{opened-kinds}
-use Rattle.planner.proofs.TrimLaws.{ends, left-asked, write-asked, written}
+use Rattle.planner.proofs.OpenLaws.{opened_few}
+use Rattle.planner.proofs.QuotedNeeds.{opened_kinds}
+use Rattle.planner.proofs.TrimLaws.{ends, left_asked, write_asked, written}
 use borrow.Author.Rules.{rules}
 use Rattle.planner.proofs.ops.trim.trim.Statement.{statement}
 use Rattle.planner.proofs.ops.trim.trim.Tie as tie
@@ -19,7 +19,7 @@ or-overloaded-requires : tie.Need-or-overloaded-requires
 or-overloaded-requires c κs =
     let o = c.before.before.before in
     let s = o.before.before.before.args.s.now in
-    (opened-few s o.open-plan.ensures, opened-kinds s o.open-plan.ensures)
+    (opened_few s o.open-plan.ensures, opened_kinds s o.open-plan.ensures)
 
 -- what the code has found when it looks at its fault
 module _ (t : tie.After-is-fine) where
@@ -35,33 +35,33 @@ module _ (t : tie.After-is-fine) where
   bytes : AreBytes s
   bytes i = let known = o.before.before.shared-slice-known.given in omega (arith, known i)
 
-  found : Ends (trimFault s (length out)) t.before.or-overloaded.result t.is-fine.result
+  found : Ends (trim_fault s (length out)) t.before.or-overloaded.result t.is-fine.result
   found = ends s out bytes o.open-plan.ensures t.before.before.or_short.ensures t.before.or-overloaded.ensures t.is-fine.ensures
 
 returns : tie.Need-returns
-unfolding trimOut
+unfolding trim_out
 returns c =
     let t = c.before.before in
-    refused (found t) (recordCount (trimmedFile (s t))) (trimmedFile (s t)) (out t) c.before.if1.true c.output-of.ensures
+    refused (found t) (record_count (trimmed_file (s t))) (trimmed_file (s t)) (out t) c.before.if1.true c.output-of.ensures
 
 extra-left-requires : tie.Need-extra-left-requires
-extra-left-requires c κs = let t = c.before in left-asked (s t) (out t) (bytes t) (o t).open-plan.ensures (goes_on (found t) c.if1.false)
+extra-left-requires c κs = let t = c.before in left_asked (s t) (out t) (bytes t) (o t).open-plan.ensures (goes_on (found t) c.if1.false)
 
 write-staying-requires : tie.Need-write-staying-requires
 write-staying-requires c κs =
     let h = c.before.before.before in
     let t = h.before in
-    write-asked (s t) (out t) (bytes t) (o t).open-plan.ensures (goes_on (found t) h.if1.false)
+    write_asked (s t) (out t) (bytes t) (o t).open-plan.ensures (goes_on (found t) h.if1.false)
 
 returns-2 : tie.Need-returns-2
-unfolding trimOut
+unfolding trim_out
 returns-2 c =
     let p = c.before.before.before in
     let x = p.before.before.before in
     let h = x.before in
     let t = h.before in
-    let w = written (s t) (out t) (bytes t) (o t).open-plan.ensures (goes_on (found t) h.if1.false) x.extra-left.ensures p.write-staying.ensures.0 p.write-staying.ensures.1 in
-    done (found t) (recordCount (trimmedFile (s t))) (trimmedFile (s t)) (out t) h.if1.false c.output-of2.ensures w.0 w.1
+    let w = written (s t) (out t) (bytes t) (o t).open-plan.ensures (goes_on (found t) h.if1.false) x.extra_left.ensures p.write-staying.ensures.0 p.write-staying.ensures.1 in
+    done (found t) (record_count (trimmed_file (s t))) (trimmed_file (s t)) (out t) h.if1.false c.output-of2.ensures w.0 w.1
 
 pub trim-spec : {M : Type 1} → statement M
 trim-spec =

@@ -1,7 +1,7 @@
 -- `planner::ops::verdict::verdict` meets its contract, from what was opened and what the kinds need.
 use native.Mathlib.Omega.{arith}
-use Rattle.planner.proofs.OpenLaws.{opened-few}
-use Rattle.planner.proofs.QuotedNeeds.{opened-kinds}
+use Rattle.planner.proofs.OpenLaws.{opened_few}
+use Rattle.planner.proofs.QuotedNeeds.{opened_kinds}
 use Rattle.planner.proofs.VerdictLaws.{answered}
 use borrow.Author.Rules.{rules}
 use Rattle.planner.proofs.ops.verdict.verdict.Statement.{statement}
@@ -11,7 +11,7 @@ or-overloaded-requires : tie.Need-or-overloaded-requires
 or-overloaded-requires c κs =
     let o = c.before.before in
     let s = o.before.before.args.s.now in
-    (opened-few s o.open-plan.ensures, opened-kinds s o.open-plan.ensures)
+    (opened_few s o.open-plan.ensures, opened_kinds s o.open-plan.ensures)
 
 returns : tie.Need-returns
 returns c =
