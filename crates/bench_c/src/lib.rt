@@ -1,5 +1,7 @@
 // What bench/ measures, as functions that a C program can call. Each calls proved functions, and copies the answer out.
 // A table of sets is one of words for C, as is what is shown of a set: bit i for the element i.
+#![tactic(auto)]
+
 ghost use Rattle.std.specs.Prelude.{◌≡◌, ◌*◌, ◌%◌, ◌^◌, ◌≤◌, length};
 ghost use Rattle.order.specs.Before.{Acyclic};
 ghost use Rattle.order.specs.Stored.{elements, number_of as setNumber};

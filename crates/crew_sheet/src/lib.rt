@@ -1,4 +1,6 @@
 // The crew sheet: one page of text, of a flow's records and the starts of their receivers.
+#![tactic(auto)]
+
 ghost use Rattle.std.specs.Prelude.{◌≡◌, ◌+◌, ◌*◌, ◌≤◌, length};
 ghost use Rattle.records.specs.Records.{starting_with};
 ghost use Rattle.crew_sheet.specs.Sheet.{line_bytes, page_records, page_bytes, pages_of, page_lines, sheet_page, most_lines};

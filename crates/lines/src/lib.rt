@@ -1,4 +1,6 @@
 // Lines of text, written to lent bytes: a word, and numbers after it.
+#![tactic(auto)]
+
 ghost use Rattle.std.specs.Prelude.{◌≡◌, ◌+◌, ◌*◌, ◌≤◌, length};
 ghost use Rattle.lines.specs.Text.{places, decimal, spaced, line_of, text, more};
 

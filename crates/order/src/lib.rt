@@ -1,4 +1,6 @@
 // Which element comes before which, and sets of elements.
+#![tactic(auto)]
+
 ghost use Rattle.std.specs.Prelude.{◌≡◌, ◌%◌, ◌^◌, ◌<◌, ◌≤◌, length, ◌==◌};
 ghost use Rattle.order.specs.Stored.{elements, bound, cells, row, put_row, set_of, number_of, RowsFit};
 ghost use Rattle.order.specs.Sets.{member, empty_set, with_element, without_element, union_of, meet_of, minus_of};
@@ -26,7 +28,7 @@ pub const CELLS: usize = ELEMENTS;
 pub type Rows = [words::Word; CELLS];
 
 // A set of elements: bit i of the word stands for the element i.
-#[derive(Drop)]
+#[derive(Clone, Copy)]
 pub struct Set {
     word: words::Word,
 }
@@ -185,7 +187,7 @@ pub fn put_row(rows: &mut Rows, i: usize, s: Set)
 }
 
 // Which element is before which: row i is the set of the elements that i is before.
-#[derive(Drop)]
+#[derive(Clone, Copy)]
 pub struct Order {
     rows: Rows,
 }

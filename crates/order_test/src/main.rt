@@ -1,4 +1,6 @@
 // Prints the order of plans A to E of document 01, and of all elements in a line and on a circle.
+#![tactic(auto)]
+
 ghost use Rattle.std.specs.Prelude.{◌<◌};
 ghost use Rattle.order.specs.Stored.{elements};
 

@@ -1,5 +1,7 @@
 // Plan files, as document 01, "The plan file", has them: reads one, with its waits for those who go by them, and writes
 // one without some of its extra arcs.
+#![tactic(auto)]
+
 mod activity;
 mod arc;
 mod checks;
@@ -24,7 +26,7 @@ pub const ACTIVITIES: usize = 64;
 
 // What a readable file says. Element i is activity i + 1; the demand of element i for kind k + 1 stands at
 // ELEMENTS * k + i; a member j of row i of `job` is a job arc from i to j, and of `extra` an extra arc.
-#[derive(Drop)]
+#[derive(Clone, Copy)]
 pub struct Plan {
     pub count: usize,
     pub kinds: usize,
@@ -36,7 +38,7 @@ pub struct Plan {
 }
 
 // A cause of refusal, with the place of the record that has it.
-#[derive(Drop)]
+#[derive(Clone, Copy)]
 pub enum Cause {
     Length,
     RecordType(usize),
@@ -48,21 +50,21 @@ pub enum Cause {
 
 // What a cause tells: its number in document 01, how many values are returned with it (0 or 1), and the place of the
 // record, which is the value.
-#[derive(Drop)]
+#[derive(Clone, Copy)]
 pub struct Told {
     pub number: u64,
     pub values: usize,
     pub place: usize,
 }
 
-#[derive(Drop)]
+#[derive(Clone, Copy)]
 pub enum Answer {
     Readable,
     Refused(Cause),
 }
 
 // The answer, and the plan where it is `Readable`. (An enum holds no array, so the plan stands beside it.)
-#[derive(Drop)]
+#[derive(Clone, Copy)]
 pub struct Reading {
     pub plan: Plan,
     pub answer: Answer,

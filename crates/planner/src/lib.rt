@@ -1,6 +1,8 @@
 // The operations of the planner, each on the plan's bytes. Every operation has a file in `ops`: it
 // opens the plan (`open`), looks for its own causes in turn (`faults`), and answers by its fault and
 // what it found or wrote (`answer`).
+#![tactic(auto)]
+
 mod answer;
 mod faults;
 mod numbers;
@@ -19,7 +21,7 @@ pub use ops::trim::trim;
 pub use ops::verdict::verdict;
 
 // Why an operation refuses, with the cause's own data. Activities and kinds count from 1.
-#[derive(Drop)]
+#[derive(Clone, Copy)]
 pub enum Cause {
     // The file is not readable: the reader's cause.
     Unreadable(plan::Cause),
@@ -45,7 +47,7 @@ pub enum Cause {
 
 // What a refusal tells: document 01's number of its cause, and how many of the values after it are returned: two plain
 // ones, a set, and the set's size.
-#[derive(Drop)]
+#[derive(Clone, Copy)]
 pub struct Refusal {
     pub number: u64,
     pub values: usize,
@@ -55,14 +57,14 @@ pub struct Refusal {
 }
 
 // Whether an operation goes on, or refuses.
-#[derive(Drop)]
+#[derive(Clone, Copy)]
 pub enum Fault {
     Fine,
     Refused(Cause),
 }
 
 // What Verdict answers: the plan is accepted, with m and K, or it is refused.
-#[derive(Drop)]
+#[derive(Clone, Copy)]
 pub enum Decision {
     Accepted { activities: usize, kinds: usize },
     Refused(Cause),
@@ -70,14 +72,14 @@ pub enum Decision {
 
 // What the operations that write answer: so many numbers or records are written, or nothing is. (Overload writes one
 // record, or none where the plan is accepted; Sheet writes a page, and answers how many there are.)
-#[derive(Drop)]
+#[derive(Clone, Copy)]
 pub enum Output {
     Written(usize),
     Refused(Cause),
 }
 
 // What Crew check answers: what was found, or why nothing was looked at.
-#[derive(Drop)]
+#[derive(Clone, Copy)]
 pub enum CrewChecked {
     Found(schedule::Checked),
     Refused(Cause),

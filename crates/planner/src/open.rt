@@ -9,7 +9,7 @@ use crate::{Cause, Fault};
 use order::{ELEMENTS, Order};
 
 // A plan that was read, and the reader's cause.
-#[derive(Drop)]
+#[derive(Clone, Copy)]
 pub struct Read {
     pub plan: plan::Plan,
     pub fault: Fault,
@@ -17,7 +17,7 @@ pub struct Read {
 
 // A plan with its direct arcs (job and extra together, as rows), its job order and its plan order, and the fault
 // with 5 and 6 in their turn.
-#[derive(Drop)]
+#[derive(Clone, Copy)]
 pub struct Opened {
     pub plan: plan::Plan,
     pub rows: order::Rows,

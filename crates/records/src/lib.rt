@@ -1,4 +1,6 @@
 // Flow and overload records, of 24 bytes, and their writing to lent bytes.
+#![tactic(auto)]
+
 ghost use Rattle.std.specs.Prelude.{◌≡◌, ◌++◌, ◌+◌, ◌*◌, ◌≤◌, length, take, drop};
 ghost use Rattle.records.specs.Records.{bytes, flow_record, overload_record, starting_with, written_at, begun};
 

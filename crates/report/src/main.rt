@@ -1,5 +1,7 @@
 // The report: reads a plan on standard input and prints its report on standard output (document 01, "Plans A to F").
 // The whole text is made by one proved function, `report_text` of report_lines.
+#![tactic(auto)]
+
 ghost use Rattle.std.specs.Prelude.{◌≡◌, length};
 ghost use Rattle.report_lines.specs.Report.{text_room};
 

@@ -1,5 +1,7 @@
 // The report, written to lent bytes: its lines, from numbers, records and causes, and the whole text of a file's bytes
 // (document 01, "Plans A to F").
+#![tactic(auto)]
+
 use plan::ACTIVITIES;
 
 mod flows;

@@ -1,6 +1,8 @@
 // The need of one kind: the greatest demand of elements of which no two are ordered, with a set that has it and a
 // handover that shows it. The order comes as the order crate's struct. `quote` is the way in; what it promises is
 // `SoundQuote` of specs/Sound.antt.
+#![tactic(auto)]
+
 ghost use Rattle.std.specs.Prelude.{◌≡◌, ◌≤◌};
 ghost use Rattle.order.specs.Stored.{elements, number_of};
 ghost use Rattle.solver.specs.model.Search.{looked};
@@ -15,7 +17,7 @@ mod rounds;
 
 // What a search carries from turn to turn: givers to go on from, now and next, the givers and takers seen, and the
 // taker that it ended at, or ELEMENTS.
-#[derive(Drop)]
+#[derive(Clone, Copy)]
 struct Search {
     frontier: Set,
     next: Set,
@@ -26,14 +28,14 @@ struct Search {
 
 // What the rounds ask of an order and its ranking, for all kinds of a plan the same: the numbers for which the ranking
 // has elements, and the elements that have some after them.
-#[derive(Drop)]
+#[derive(Clone, Copy)]
 pub struct Leads {
     numbers: Set,
     able: Set,
 }
 
 // The need, and a set of pairwise unrelated elements that has it.
-#[derive(Drop)]
+#[derive(Clone, Copy)]
 pub struct Quoted {
     pub need: u32,
     pub set: Set,

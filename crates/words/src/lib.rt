@@ -1,4 +1,6 @@
 // The smallest functions on words and numbers: each is one operation of the machine, with its meaning.
+#![tactic(auto)]
+
 ghost use Rattle.std.specs.Prelude.{◌≡◌, max, min, ◌^◌, ◌<◌};
 ghost use Rattle.words.specs.Bits.{word_bits, bit, with_bit, minus, rest};
 ghost use Rattle.words.specs.Members.{count, first};

@@ -1,6 +1,8 @@
 // The planner's operations and the report for C: numbers and slices only. Every answer is one number of 64 bits. Its
 // low 8 bits are the number of document 01, 0 where the operation is done; the bits above are its values.
 // `include/yaffledesk.h` is the same for a C reader.
+#![tactic(auto)]
+
 ghost use Rattle.std.specs.Prelude.{◌≡◌, length};
 ghost use Rattle.planner.specs.Verdict.{verdict_answer};
 ghost use Rattle.planner.specs.Needs.{needs_answer, needs_out};

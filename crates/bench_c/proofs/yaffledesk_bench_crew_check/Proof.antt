@@ -8,5 +8,5 @@ use Rattle.bench_c.proofs.yaffledesk_bench_crew_check.Tie as tie
 returns : tie.Need-returns
 returns c = c.number.ensures ∙ ap number_of c.before.crew_check.ensures
 
-pub yaffledesk-bench-crew-check-spec : {M : Type 1} → statement M
-yaffledesk-bench-crew-check-spec = tie.close (tie.spec (λ c κs. search rules) (λ c κs. search rules) returns)
+pub yaffledesk_bench_crew_check_spec : {M : Type 1} → statement M
+yaffledesk_bench_crew_check_spec = tie.close (tie.spec (λ c κs. search rules) (λ c κs. search rules) returns)

@@ -19,5 +19,5 @@ returns c =
     let e = j.before.of.ensures in
     (j.after_rows.ensures ∙ ap after_rows e, c.after-rows2.ensures ∙ ap after_rows (begun _ _ e p.with-arcs.ensures))
 
-pub yaffledesk-bench-orders-spec : {M : Type 1} → statement M
-yaffledesk-bench-orders-spec = tie.close (tie.spec (λ c κs. search rules) (λ c κs. search rules) (λ c κs. search rules) (λ c κs. search rules) returns)
+pub yaffledesk_bench_orders_spec : {M : Type 1} → statement M
+yaffledesk_bench_orders_spec = tie.close (tie.spec (λ c κs. search rules) (λ c κs. search rules) (λ c κs. search rules) (λ c κs. search rules) returns)

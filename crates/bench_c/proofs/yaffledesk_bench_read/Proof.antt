@@ -15,5 +15,5 @@ returns c =
       ap (λ (r : Reading). r.plan.extra) e,
     )
 
-pub yaffledesk-bench-read-spec : {M : Type 1} → statement M
-yaffledesk-bench-read-spec = tie.close (tie.spec (λ c κs. search rules) returns)
+pub yaffledesk_bench_read_spec : {M : Type 1} → statement M
+yaffledesk_bench_read_spec = tie.close (tie.spec (λ c κs. search rules) returns)

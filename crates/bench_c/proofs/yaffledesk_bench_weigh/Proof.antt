@@ -15,5 +15,5 @@ returns c =
       e.1,
     )
 
-pub yaffledesk-bench-weigh-spec : {M : Type 1} → statement M
-yaffledesk-bench-weigh-spec = tie.close (tie.spec (λ c κs. search rules) (λ c κs. search rules) (λ c κs. search rules) returns)
+pub yaffledesk_bench_weigh_spec : {M : Type 1} → statement M
+yaffledesk_bench_weigh_spec = tie.close (tie.spec (λ c κs. search rules) (λ c κs. search rules) (λ c κs. search rules) returns)

@@ -23,6 +23,6 @@ returns c =
       told.quote.ensures.1 ∙ ap (λ (o : Order). flow_of a.m o d) e,
     )
 
-pub yaffledesk-quote-spec : {M : Type 1} → statement M
-yaffledesk-quote-spec =
+pub yaffledesk_quote_spec : {M : Type 1} → statement M
+yaffledesk_quote_spec =
     tie.close (tie.spec (λ c κs. search rules) (λ c κs. search rules) (λ c κs. search rules) (λ c κs. search rules) returns)

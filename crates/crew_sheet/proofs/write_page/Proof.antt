@@ -285,9 +285,9 @@ write-page-meets {𝓤 = 𝓤} 𝓛 mem run 𝓣 known-begin known-head known-fi
     (write-page.clauses 𝓛 mem run) (WpFn 𝓤 𝓛.H 𝓣.C 𝓣.Λ code.function) (WpFn-mono 𝓤 𝓛.H 𝓛.laws 𝓣 code.function)
     (write-page-walks 𝓛 mem run 𝓣.C 𝓣.Λ (fm_of 𝓤 𝓛.H 𝓛.laws 𝓣) known-begin known-head known-fill)
 
-pub write-page-spec : {M : Type 1} → stated.statement M
+pub write_page_spec : {M : Type 1} → stated.statement M
 unfolding code.routine tables_of
-write-page-spec 𝓤 𝓛 𝓜 𝓡 =
+write_page_spec 𝓤 𝓛 𝓜 𝓡 =
     entered 𝓤 𝓛.H (triple_of 𝓛 write-page.signature (write-page.spec 𝓛 𝓜.mem 𝓡.run))
     (tables 𝓤 𝓛.H 𝓜 𝓡 code.env).C (tables 𝓤 𝓛.H 𝓜 𝓡 code.env).Λ #sheet·write-page code.function (code.unfolded 𝓤 𝓛.H 𝓜 𝓡)
     (write-page-meets 𝓛 𝓜.mem 𝓡.run (tables_of 𝓤 𝓛.H 𝓜 (tables 𝓤 𝓛.H 𝓜 𝓡 code.env))

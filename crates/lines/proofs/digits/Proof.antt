@@ -24,5 +24,5 @@ returns c =
     let b = c.before in
     dividing_end b.before.args.x b.loop.k b.loop.rest b.loop.invariant (omega arith)
 
-pub digits-spec : {M : Type 1} → statement M
-digits-spec = tie.close (tie.spec invariant-loop decreases-loop loop-holds (λ c. search rules) (λ c. search rules) loop-again returns)
+pub digits_spec : {M : Type 1} → statement M
+digits_spec = tie.close (tie.spec invariant-loop decreases-loop loop-holds (λ c. search rules) (λ c. search rules) loop-again returns)

@@ -42,8 +42,8 @@ returns c =
     let a = b.before.args in
     copying_end a.at a.bytes.now a.out.now b.loop.i b.loop.out b.loop.invariant b.before.requires (omega arith)
 
-pub put-bytes-spec : {M : Type 1} → statement M
-put-bytes-spec =
+pub put_bytes_spec : {M : Type 1} → statement M
+put_bytes_spec =
     tie.close
     (tie.spec
     invariant-loop

@@ -17,7 +17,7 @@ loop-holds c =
     let a = c.before.before.args in
     rw c.digits.ensures (spelling_none a.at a.x a.out.now)
 
-add-out-2 : tie.Need-overflow-add-out-2 invariant-loop decreases-loop
+add-out-2 : tie.Need-overflow_add-out-2 invariant-loop decreases-loop
 add-out-2 c = omega (arith, places_most c.before.before.before.before.args.x)
 
 slice-write-out : tie.Need-slice-write-out invariant-loop decreases-loop
@@ -35,7 +35,7 @@ loop-again c =
     let a = s.args in
     spelling_next a.at a.x a.out.now b.loop.i b.loop.rest b.loop.out b.loop.invariant s.requires (omega arith)
 
-add-result : tie.Need-overflow-add-result invariant-loop decreases-loop
+add-result : tie.Need-overflow_add-result invariant-loop decreases-loop
 add-result c = omega (arith, places_most c.before.before.before.before.args.x)
 
 same_length : tie.Need-same-length invariant-loop decreases-loop
@@ -53,8 +53,8 @@ returns c =
     rw b.before.digits.ensures
     (spelling_end a.at a.x a.out.now b.loop.i b.loop.rest b.loop.out b.loop.invariant s.requires (omega arith))
 
-pub put-decimal-spec : {M : Type 1} → statement M
-put-decimal-spec =
+pub put_decimal_spec : {M : Type 1} → statement M
+put_decimal_spec =
     tie.close
     (tie.spec
     invariant-loop

@@ -23,7 +23,7 @@ slice-write-out c =
     (line_end a.at v.put-bytes.result a.word.now a.numbers.now a.out.now v.put-bytes.new.0 s.requires v.put-bytes.ensures
     w.put-numbers.result w.put-numbers.new.0 w.put-numbers.ensures).0
 
-add-result : tie.Need-overflow-add-result
+add-result : tie.Need-overflow_add-result
 add-result c =
     let w = c.before.before in
     let v = w.before.before.before.before in
@@ -53,5 +53,5 @@ returns c =
     line_more a.at v.put-bytes.result a.word.now a.numbers.now a.out.now v.put-bytes.new.0 s.requires v.put-bytes.ensures
     w.put-numbers.result w.put-numbers.new.0 w.put-numbers.ensures
 
-pub put-line-spec : {M : Type 1} → statement M
-put-line-spec = tie.close (tie.spec (λ c κs. search rules) put-numbers-requires slice-write-out add-result same_length returns)
+pub put_line_spec : {M : Type 1} → statement M
+put_line_spec = tie.close (tie.spec (λ c κs. search rules) put-numbers-requires slice-write-out add-result same_length returns)

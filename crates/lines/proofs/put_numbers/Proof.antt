@@ -26,7 +26,7 @@ slice-write-out c =
     let room = listing_room a.at a.numbers.now a.out.now b.loop.i b.loop.end b.loop.out b.loop.invariant s.requires (omega arith) in
     omega arith
 
-add-put-decimal : tie.Need-overflow-add-put-decimal invariant-loop decreases-loop
+add-put-decimal : tie.Need-overflow_add-put-decimal invariant-loop decreases-loop
 add-put-decimal c =
     let b = c.before.before in
     let s = b.before.before.before in
@@ -66,8 +66,8 @@ returns c =
     let a = s.args in
     listing_end a.at a.numbers.now a.out.now b.loop.i b.loop.end b.loop.out b.loop.invariant s.requires (omega arith)
 
-pub put-numbers-spec : {M : Type 1} → statement M
-put-numbers-spec =
+pub put_numbers_spec : {M : Type 1} → statement M
+put_numbers_spec =
     tie.close
     (tie.spec
     invariant-loop

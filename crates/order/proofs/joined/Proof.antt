@@ -39,5 +39,5 @@ returns c = let at = c.before in
     let e = at.before.args in
     up_end (update_row (step e.t2)) elements at.loop.i e.a (omega arith) at.loop.invariant ∙ rows_updated (step e.t2) elements e.a (search rules)
 
-pub joined-spec : {M : Type 1} → statement M
-joined-spec = tie.close (tie.spec invariant-loop decreases-loop loop-holds (λ c κs. search rules) (λ c κs. search rules) (λ c κs. search rules) (λ c κs. search rules) (λ c. search rules) (λ c. search rules) loop-again returns)
+pub joined_spec : {M : Type 1} → statement M
+joined_spec = tie.close (tie.spec invariant-loop decreases-loop loop-holds (λ c κs. search rules) (λ c κs. search rules) (λ c κs. search rules) (λ c κs. search rules) (λ c. search rules) (λ c. search rules) loop-again returns)

@@ -8,5 +8,5 @@ returns : tie.Need-returns
 unfolding number_of
 returns c = c.places-word.ensures
 
-pub places-spec : {M : Type 1} → statement M
-places-spec = tie.close (tie.spec (λ c κs. search rules) returns)
+pub places_spec : {M : Type 1} → statement M
+places_spec = tie.close (tie.spec (λ c κs. search rules) returns)

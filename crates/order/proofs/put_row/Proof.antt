@@ -8,5 +8,5 @@ returns : tie.Need-returns
 unfolding put_row number_of
 returns c = refl
 
-pub put-row-spec : {M : Type 1} → statement M
-put-row-spec = tie.close (tie.spec (λ c. search rules) (λ c. search rules) returns)
+pub put_row_spec : {M : Type 1} → statement M
+put_row_spec = tie.close (tie.spec (λ c. search rules) (λ c. search rules) returns)

@@ -8,5 +8,5 @@ returns : tie.Need-returns
 unfolding row set_of
 returns c = refl
 
-pub row-spec : {M : Type 1} → statement M
-row-spec = tie.close (tie.spec (λ c. search rules) (λ c. search rules) returns)
+pub row_spec : {M : Type 1} → statement M
+row_spec = tie.close (tie.spec (λ c. search rules) (λ c. search rules) returns)

@@ -11,8 +11,8 @@ invariant-loop end rows₀ i₀ rows i = i ≤ elements - 1
 abbrev decreases-loop : tie.decreases-loop
 decreases-loop end rows₀ i₀ rows i = elements - 1 - i
 
-pub line-spec : {M : Type 1} → statement M
-line-spec =
+pub line_spec : {M : Type 1} → statement M
+line_spec =
     tie.close
     (tie.spec
     invariant-loop

@@ -11,8 +11,8 @@ invariant-loop left₀ -k₀ t5 left -k = -k ≤ elements
 abbrev decreases-loop : tie.decreases-loop
 decreases-loop left₀ -k₀ t5 left -k = elements - -k
 
-pub print-members-spec : {M : Type 1} → statement M
-print-members-spec =
+pub print_members_spec : {M : Type 1} → statement M
+print_members_spec =
     tie.close
     (tie.spec
     invariant-loop

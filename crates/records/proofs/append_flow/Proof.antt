@@ -14,7 +14,7 @@ returns c =
     let a = w.before.before.before.args in
     tail_written (24 * a.n) (flow_record a.kind a.from a.to a.units a.mark) a.out.now w.write-flow.new.0 w.write-flow.ensures
 
-pub append-flow-spec : {M : Type 1} → statement M
-append-flow-spec =
+pub append_flow_spec : {M : Type 1} → statement M
+append_flow_spec =
     tie.close
     (tie.spec (λ c. search rules) (λ c. search rules) (λ c. search rules) (λ c. search rules) (λ c κs. search rules) (λ c. search rules) returns)

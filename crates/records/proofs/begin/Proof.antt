@@ -21,5 +21,5 @@ returns c =
     let a = p.before.before.before.args in
     begin_steps a.b0 a.b1 a.b2 a.b3 a.out.now p.put.new.0 p.put.ensures
 
-pub begin-spec : {M : Type 1} → statement M
-begin-spec = tie.close (tie.spec (λ c κs. search rules) (λ c. search rules) slice-write-out-2 slice-write-out-3 slice-write-out-4 (λ c. search rules) returns)
+pub begin_spec : {M : Type 1} → statement M
+begin_spec = tie.close (tie.spec (λ c κs. search rules) (λ c. search rules) slice-write-out-2 slice-write-out-3 slice-write-out-4 (λ c. search rules) returns)

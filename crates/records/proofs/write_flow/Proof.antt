@@ -16,5 +16,5 @@ returns c =
     let a = b.before.before.before.args in
     flow_steps a.kind a.from a.to a.units a.mark a.out.now b.begin.new.0 p.put.new.0 b.begin.ensures p.put.ensures
 
-pub write-flow-spec : {M : Type 1} → statement M
-write-flow-spec = tie.close (tie.spec (λ c κs. search rules) (λ c κs. search rules) (λ c. search rules) same_length returns)
+pub write_flow_spec : {M : Type 1} → statement M
+write_flow_spec = tie.close (tie.spec (λ c κs. search rules) (λ c κs. search rules) (λ c. search rules) same_length returns)

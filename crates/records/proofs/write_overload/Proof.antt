@@ -13,5 +13,5 @@ returns c =
     overload_steps a.kind a.size a.need a.members a.out.now b.begin.new.0 p.put.new.0 q.put2.new.0
     b.begin.ensures p.put.ensures q.put2.ensures
 
-pub write-overload-spec : {M : Type 1} → statement M
-write-overload-spec = tie.close (tie.spec (λ c κs. search rules) (λ c κs. search rules) (λ c κs. search rules) (λ c. search rules) returns)
+pub write_overload_spec : {M : Type 1} → statement M
+write_overload_spec = tie.close (tie.spec (λ c κs. search rules) (λ c κs. search rules) (λ c κs. search rules) (λ c. search rules) returns)

@@ -6,5 +6,5 @@ use Rattle.solver.proofs.leads_of.Tie as tie
 returns : tie.Need-returns
 returns c = (c.before.leading-of.ensures, c.leading-of2.ensures)
 
-pub leads-of-spec : {M : Type 1} → statement M
-leads-of-spec = tie.close (tie.spec (λ c κs. search rules) (λ c κs. search rules) returns)
+pub leads_of_spec : {M : Type 1} → statement M
+leads_of_spec = tie.close (tie.spec (λ c κs. search rules) (λ c κs. search rules) returns)

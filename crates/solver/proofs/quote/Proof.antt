@@ -20,5 +20,5 @@ returns c =
       e.1 ∙ ap (λ (x : List ℕ). flow_in a.m x a.demand.now) rows.after_rows.ensures,
     )
 
-pub quote-spec : {M : Type 1} → statement M
-quote-spec = tie.close (tie.spec (λ c κs. search rules) (λ c κs. search rules) (λ c κs. search rules) quote-ranked-requires returns)
+pub quote_spec : {M : Type 1} → statement M
+quote_spec = tie.close (tie.spec (λ c κs. search rules) (λ c κs. search rules) (λ c κs. search rules) quote-ranked-requires returns)

@@ -13,5 +13,5 @@ returns c =
     let pre = givers.before.requires in
     quotes _ _ _ pre.1 pre.3 givers.blank-rows.ensures left.copy.ensures end.solve.ensures c.told.ensures wanted.places.ensures
 
-pub quote-ranked-spec : {M : Type 1} → statement M
-quote-ranked-spec = tie.close (tie.spec (λ c κs. search rules) (λ c κs. search rules) (λ c κs. search rules) (λ c κs. search rules) (λ c κs. search rules) returns)
+pub quote_ranked_spec : {M : Type 1} → statement M
+quote_ranked_spec = tie.close (tie.spec (λ c κs. search rules) (λ c κs. search rules) (λ c κs. search rules) (λ c κs. search rules) (λ c κs. search rules) returns)

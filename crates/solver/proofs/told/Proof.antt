@@ -14,5 +14,5 @@ returns c =
     ap (λ (x : Set). record { need = need.total.result; set = x }) c.meet.ensures
     ∙ tells a.m a.left.now (looked a.s) _ need.total.ensures (number_of_lem _ c.before.minus.ensures)
 
-pub told-spec : {M : Type 1} → statement M
-told-spec = tie.close (tie.spec (λ c κs. search rules) (λ c κs. search rules) (λ c κs. search rules) returns)
+pub told_spec : {M : Type 1} → statement M
+told_spec = tie.close (tie.spec (λ c κs. search rules) (λ c κs. search rules) (λ c κs. search rules) returns)

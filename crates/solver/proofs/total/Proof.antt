@@ -20,8 +20,8 @@ loop-again c = (amount_more _ _ _ _ c.before.before.before.loop.invariant.0 c.wr
 returns : tie.Need-returns invariant-loop decreases-loop
 returns c = c.before.loop.invariant.0 ∙ ap (λ (x : ℕ). amount x c.before.before.args.a.now) (omega arith)
 
-pub total-spec : {M : Type 1} → statement M
-total-spec =
+pub total_spec : {M : Type 1} → statement M
+total_spec =
     tie.close
     (tie.spec
     invariant-loop

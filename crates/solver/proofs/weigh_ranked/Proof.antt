@@ -17,5 +17,5 @@ returns c =
     let q = quotes _ _ _ pre.1 pre.3 givers.blank-rows.ensures left.copy.ensures end.solve.ensures c.told.ensures c.before.places.ensures in
     (q.0, takes _ _ _ e takers.leading-of.ensures back.take_back.ensures)
 
-pub weigh-ranked-spec : {M : Type 1} → statement M
-weigh-ranked-spec = tie.close (tie.spec (λ c κs. search rules) (λ c κs. search rules) (λ c κs. search rules) (λ c κs. search rules) (λ c κs. search rules) (λ c κs. search rules) (λ c κs. search rules) returns)
+pub weigh_ranked_spec : {M : Type 1} → statement M
+weigh_ranked_spec = tie.close (tie.spec (λ c κs. search rules) (λ c κs. search rules) (λ c κs. search rules) (λ c κs. search rules) (λ c κs. search rules) (λ c κs. search rules) (λ c κs. search rules) returns)

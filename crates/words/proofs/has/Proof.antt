@@ -9,5 +9,5 @@ returns : tie.Need-returns
 unfolding bit digit
 returns c = refl
 
-pub has-spec : {M : Type 1} → statement M
-has-spec = tie.close (tie.spec (λ c. search rules) returns)
+pub has_spec : {M : Type 1} → statement M
+has_spec = tie.close (tie.spec (λ c. search rules) returns)

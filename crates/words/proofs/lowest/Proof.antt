@@ -9,5 +9,5 @@ use Rattle.words.proofs.lowest.Tie as tie
 returns : tie.Need-returns
 returns c = c.index.ensures ∙ trailing_first word_bits c.before.args.w
 
-pub lowest-spec : {M : Type 1} → statement M
-lowest-spec = tie.close (tie.spec (λ c κs. search rules) returns)
+pub lowest_spec : {M : Type 1} → statement M
+lowest_spec = tie.close (tie.spec (λ c κs. search rules) returns)

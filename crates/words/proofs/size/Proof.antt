@@ -10,5 +10,5 @@ use Rattle.words.proofs.size.Tie as tie
 returns : tie.Need-returns
 returns c = c.index.ensures ∙ ones_count word_bits c.before.args.w (omega arith)
 
-pub size-spec : {M : Type 1} → statement M
-size-spec = tie.close (tie.spec (λ c κs. search rules) returns)
+pub size_spec : {M : Type 1} → statement M
+size_spec = tie.close (tie.spec (λ c κs. search rules) returns)

@@ -11,5 +11,5 @@ use Rattle.words.proofs.with_bit.Tie as tie
 returns : tie.Need-returns
 returns c = ap (λ (x : ℕ). bit_or c.args.w x) (shl_one word_bits c.args.i (search rules))
 
-pub with-bit-spec : {M : Type 1} → statement M
-with-bit-spec = tie.close (tie.spec (λ c. search rules) returns)
+pub with_bit_spec : {M : Type 1} → statement M
+with_bit_spec = tie.close (tie.spec (λ c. search rules) returns)

@@ -12,5 +12,5 @@ returns : tie.Need-returns
 returns c = let a = c.before.args in
     c.without.ensures ∙ ap (λ (x : ℕ). minus a.w x) (shl_one word_bits a.i (search rules))
 
-pub without-bit-spec : {M : Type 1} → statement M
-without-bit-spec = tie.close (tie.spec (λ c. search rules) (λ c κs. search rules) returns)
+pub without_bit_spec : {M : Type 1} → statement M
+without_bit_spec = tie.close (tie.spec (λ c. search rules) (λ c κs. search rules) returns)

@@ -20,5 +20,5 @@ crew-check-code-requires c κs =
 returns : tie.Need-returns
 returns c = c.crew-check-code.ensures ∙ ap crew_check_code c.before.crew_check.ensures
 
-pub yaffledesk-crew-check-spec : {M : Type 1} → statement M
-yaffledesk-crew-check-spec = tie.close (tie.spec (λ c κs. search rules) crew-check-code-requires returns)
+pub yaffledesk_crew_check_spec : {M : Type 1} → statement M
+yaffledesk_crew_check_spec = tie.close (tie.spec (λ c κs. search rules) crew-check-code-requires returns)

@@ -18,5 +18,5 @@ output-code-requires c κs =
 returns : tie.Need-returns
 returns c = (c.output-code.ensures ∙ ap output_code (search rules), search rules)
 
-pub yaffledesk-overload-spec : {M : Type 1} → statement M
-yaffledesk-overload-spec = tie.close (tie.spec (λ c κs. search rules) output-code-requires (λ c. search rules) returns)
+pub yaffledesk_overload_spec : {M : Type 1} → statement M
+yaffledesk_overload_spec = tie.close (tie.spec (λ c κs. search rules) output-code-requires (λ c. search rules) returns)

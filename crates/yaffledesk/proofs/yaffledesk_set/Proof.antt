@@ -18,5 +18,5 @@ returns c =
     ∙ ap (λ (x : Decision). shown_word x % 2 ^ 64) v.verdict.ensures
     ∙ mod-eq_of_lt (shown_small s (λ i. omega (arith, v.before.shared-slice-known.given i)))
 
-pub yaffledesk-set-spec : {M : Type 1} → statement M
-yaffledesk-set-spec = tie.close (tie.spec (λ c κs. search rules) (λ c κs. search rules) returns)
+pub yaffledesk_set_spec : {M : Type 1} → statement M
+yaffledesk_set_spec = tie.close (tie.spec (λ c κs. search rules) (λ c κs. search rules) returns)

@@ -19,5 +19,5 @@ output-code-requires c κs =
 returns : tie.Need-returns
 returns c = (c.output-code.ensures ∙ ap output_code (search rules), search rules)
 
-pub yaffledesk-sheet-spec : {M : Type 1} → statement M
-yaffledesk-sheet-spec = tie.close (tie.spec (λ c κs. search rules) output-code-requires (λ c. search rules) returns)
+pub yaffledesk_sheet_spec : {M : Type 1} → statement M
+yaffledesk_sheet_spec = tie.close (tie.spec (λ c κs. search rules) output-code-requires (λ c. search rules) returns)

@@ -17,5 +17,5 @@ verdict-code-requires c κs =
 returns : tie.Need-returns
 returns c = c.verdict-code.ensures ∙ ap verdict_code c.before.verdict.ensures
 
-pub yaffledesk-verdict-spec : {M : Type 1} → statement M
-yaffledesk-verdict-spec = tie.close (tie.spec (λ c κs. search rules) verdict-code-requires returns)
+pub yaffledesk_verdict_spec : {M : Type 1} → statement M
+yaffledesk_verdict_spec = tie.close (tie.spec (λ c κs. search rules) verdict-code-requires returns)

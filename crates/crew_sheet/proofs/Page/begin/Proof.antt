@@ -101,9 +101,9 @@ begin-meets {𝓤 = 𝓤} 𝓛 mem run 𝓣 =
     walk_Meets 𝓛 begin.ended stayed (Goes-spent_slice 𝓛 1 (0 ∷ []) tt (plain (λ _. u8)), tt) (begin.clauses 𝓛 mem run)
     (WpFn 𝓤 𝓛.H 𝓣.C 𝓣.Λ code.function) (WpFn-mono 𝓤 𝓛.H 𝓛.laws 𝓣 code.function) (begin-walks 𝓛 mem run 𝓣.C 𝓣.Λ)
 
-pub begin-spec : {M : Type 1} → stated.statement M
+pub begin_spec : {M : Type 1} → stated.statement M
 unfolding code.routine tables_of
-begin-spec 𝓤 𝓛 𝓜 𝓡 =
+begin_spec 𝓤 𝓛 𝓜 𝓡 =
     entered 𝓤 𝓛.H (triple_of 𝓛 begin.signature (begin.spec 𝓛 𝓜.mem 𝓡.run))
     (tables 𝓤 𝓛.H 𝓜 𝓡 code.env).C (tables 𝓤 𝓛.H 𝓜 𝓡 code.env).Λ #sheet·begin code.function (code.unfolded 𝓤 𝓛.H 𝓜 𝓡)
     (begin-meets 𝓛 𝓜.mem 𝓡.run (tables_of 𝓤 𝓛.H 𝓜 (tables 𝓤 𝓛.H 𝓜 𝓡 code.env)))

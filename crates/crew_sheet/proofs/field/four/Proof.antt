@@ -10,5 +10,5 @@ returns c =
     let a = x.before.before.args in
     field_halves a.flow.now a.at x.half.ensures.0 c.half2.ensures.0
 
-pub four-spec : {M : Type 1} → statement M
-four-spec = tie.close (tie.spec (λ c κs. search rules) (λ c. search rules) (λ c κs. search rules) (λ c. search rules) (λ c. search rules) returns)
+pub four_spec : {M : Type 1} → statement M
+four_spec = tie.close (tie.spec (λ c κs. search rules) (λ c. search rules) (λ c κs. search rules) (λ c. search rules) (λ c. search rules) returns)

@@ -13,5 +13,5 @@ returns-2 : tie.Need-returns-2
 unfolding pages_of
 returns-2 c = omega arith
 
-pub pages-spec : {M : Type 1} → statement M
-pages-spec = tie.close (tie.spec returns (λ c. search rules) (λ c. search rules) returns-2)
+pub pages_spec : {M : Type 1} → statement M
+pages_spec = tie.close (tie.spec returns (λ c. search rules) (λ c. search rules) returns-2)

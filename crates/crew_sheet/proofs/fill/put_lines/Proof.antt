@@ -44,8 +44,8 @@ returns c =
     let a = t.before.before.before.before.before.args in
     (c.pages.ensures, page_end a.flow.now a.starts.now a.n a.page a.at t.loop.end a.out.now t.loop.out (putting_end t.loop.invariant (omega arith) (omega arith)).0)
 
-pub put-lines-spec : {M : Type 1} → statement M
-put-lines-spec =
+pub put_lines_spec : {M : Type 1} → statement M
+put_lines_spec =
     tie.close
     (tie.spec
     invariant-loop

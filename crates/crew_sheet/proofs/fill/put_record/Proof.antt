@@ -33,8 +33,8 @@ returns-2 c =
     let a = c.before.before.before.before.before.before.before.before.args in
     blank_put a.flow.now a.starts.now a.n (text a.at a.out.now) a.i c.before.before.before.before.if1.false w.put-blank.ensures
 
-pub put-record-spec : {M : Type 1} → statement M
-put-record-spec =
+pub put_record_spec : {M : Type 1} → statement M
+put_record_spec =
     tie.close
     (tie.spec
     (λ c. search rules)

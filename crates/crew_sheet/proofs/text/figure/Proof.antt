@@ -13,5 +13,5 @@ returns-2 c = rw (eq-eqb _ 0 c.before.if1.true, ne_eqb _ 0 c.if2.false)
 returns-3 : tie.Need-returns-3
 returns-3 c = rw (ne_eqb _ 0 c.if1.false)
 
-pub figure-spec : {M : Type 1} → statement M
-figure-spec = tie.close (tie.spec returns returns-2 (λ c. search rules) (λ c. search rules) returns-3)
+pub figure_spec : {M : Type 1} → statement M
+figure_spec = tie.close (tie.spec returns returns-2 (λ c. search rules) (λ c. search rules) returns-3)

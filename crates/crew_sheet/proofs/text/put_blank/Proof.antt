@@ -22,7 +22,7 @@ slice-write-out c =
     let start = (known p).before in
     omega (arith, grown_room (first p) 1 start.pre)
 
-add-result : tie.Need-overflow-add-result
+add-result : tie.Need-overflow_add-result
 add-result c =
     let p = c.before.before in
     let start = (known p).before in
@@ -41,5 +41,5 @@ returns c =
     let p = c.before.before in
     (grown_one (first p) 10 (known p).before.requires).done
 
-pub put-blank-spec : {M : Type 1} → statement M
-put-blank-spec = tie.close (tie.spec (λ c κs. search rules) slice-write-out add-result same_length returns)
+pub put_blank_spec : {M : Type 1} → statement M
+put_blank_spec = tie.close (tie.spec (λ c κs. search rules) slice-write-out add-result same_length returns)

@@ -48,8 +48,8 @@ returns c =
     ap (λ k. text (a.at + k) t.loop.out) (sym long)
     ∙ (copying_end a.at (replicate a.n 32) a.out.now t.loop.i t.loop.out t.loop.invariant (omega arith) (omega arith))
 
-pub put-blanks-spec : {M : Type 1} → statement M
-put-blanks-spec =
+pub put_blanks_spec : {M : Type 1} → statement M
+put_blanks_spec =
     tie.close
     (tie.spec
     invariant-loop

@@ -31,5 +31,5 @@ returns c =
     let p = q.before.before.before.before in
     (grown_more (first p) (record { done = q.put-blanks.ensures; long = length-replicate _ 32 }) (known p).before.requires).done
 
-pub put-cell-spec : {M : Type 1} → statement M
-put-cell-spec = tie.close (tie.spec put-column-requires put-blanks-requires (λ c. search rules) returns)
+pub put_cell_spec : {M : Type 1} → statement M
+put_cell_spec = tie.close (tie.spec put-column-requires put-blanks-requires (λ c. search rules) returns)

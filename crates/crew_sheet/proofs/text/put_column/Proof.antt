@@ -15,10 +15,10 @@ decreases-loop out₀ at w x i₀ rest₀ out i rest = i
 loop-holds : tie.Need-loop-init invariant-loop decreases-loop
 loop-holds c = aligning_none
 
-sub-figure : tie.Need-overflow-sub-figure invariant-loop decreases-loop
+sub-figure : tie.Need-overflow_sub-figure invariant-loop decreases-loop
 sub-figure c = c.before.loop.invariant.some
 
-add-out : tie.Need-overflow-add-out invariant-loop decreases-loop
+add-out : tie.Need-overflow_add-out invariant-loop decreases-loop
 add-out c =
     let t = c.before.before in
     let some = t.loop.invariant.some in
@@ -38,7 +38,7 @@ loop-again c =
     let t = c.before.before in
     aligning_next t.loop.invariant t.before.before.requires (omega arith) (omega arith) c.figure.ensures
 
-add-result : tie.Need-overflow-add-result invariant-loop decreases-loop
+add-result : tie.Need-overflow_add-result invariant-loop decreases-loop
 add-result c = search rules
 
 same_length : tie.Need-same-length invariant-loop decreases-loop
@@ -47,8 +47,8 @@ same_length c = aligning_length c.before.loop.invariant c.before.before.before.r
 returns : tie.Need-returns invariant-loop decreases-loop
 returns c = aligning_end c.before.loop.invariant c.before.before.before.requires (omega arith)
 
-pub put-column-spec : {M : Type 1} → statement M
-put-column-spec =
+pub put_column_spec : {M : Type 1} → statement M
+put_column_spec =
     tie.close
     (tie.spec
     invariant-loop

@@ -60,7 +60,7 @@ slice-write-out c =
     let fits = (known p).before.requires in
     omega (arith, grown_room (third p) 1 (omega arith))
 
-add-result : tie.Need-overflow-add-result
+add-result : tie.Need-overflow_add-result
 add-result c =
     let p = c.before.before in
     let start = (known p).before in
@@ -79,5 +79,5 @@ returns c =
     let p = c.before.before in
     (grown_one (third p) 10 (known p).before.requires).done
 
-pub put-head-spec : {M : Type 1} → statement M
-put-head-spec = tie.close (tie.spec (λ c. search rules) (λ c κs. search rules) put-cell-requires put-cell-requires-2 slice-write-out add-result same_length returns)
+pub put_head_spec : {M : Type 1} → statement M
+put_head_spec = tie.close (tie.spec (λ c. search rules) (λ c κs. search rules) put-cell-requires put-cell-requires-2 slice-write-out add-result same_length returns)

@@ -75,7 +75,7 @@ slice-write-out c =
     let fits = (known p).before.requires in
     omega (arith, grown_room (fourth p) 1 (omega arith))
 
-add-result : tie.Need-overflow-add-result
+add-result : tie.Need-overflow_add-result
 add-result c =
     let p = c.before.before in
     let start = (known p).before in
@@ -94,8 +94,8 @@ returns c =
     let p = c.before.before in
     (grown_one (fourth p) 10 (known p).before.requires).done
 
-pub put-row-spec : {M : Type 1} → statement M
-put-row-spec =
+pub put_row_spec : {M : Type 1} → statement M
+put_row_spec =
     tie.close
     (tie.spec
     (λ c κs. search rules)

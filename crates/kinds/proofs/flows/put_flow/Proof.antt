@@ -61,8 +61,8 @@ returns c =
     rows_end a.kind g (mark_of (after a.job.now) a.m) a.m at.loop.from at.loop.count a.out.now at.loop.out (omega arith)
     at.loop.invariant
 
-pub put-flow-spec : {M : Type 1} → statement M
-put-flow-spec =
+pub put_flow_spec : {M : Type 1} → statement M
+put_flow_spec =
     tie.close
     (tie.spec
     invariant-loop

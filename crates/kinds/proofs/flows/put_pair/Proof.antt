@@ -17,7 +17,7 @@ append-flow-requires c κs =
     let r = c.before.before.before.before.before.requires.2 (omega arith) in
     (omega (arith, r.few), omega (arith, r.fits))
 
-add-result : tie.Need-overflow-add-result
+add-result : tie.Need-overflow_add-result
 add-result c =
     let r = c.before.before.before.before.before.before.before.before.requires.2 (omega arith) in
     omega (arith, r.few)
@@ -29,8 +29,8 @@ returns-2 c =
     pair_put a.kind a.from a.to a.units a.mark a.n w.before.before.byte.result w.before.byte2.result a.out.now
     w.append-flow.new.0 (omega arith) w.before.before.byte.ensures w.before.byte2.ensures w.append-flow.ensures
 
-pub put-pair-spec : {M : Type 1} → statement M
-put-pair-spec =
+pub put_pair_spec : {M : Type 1} → statement M
+put_pair_spec =
     tie.close
     (tie.spec
     returns

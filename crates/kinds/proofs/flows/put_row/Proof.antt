@@ -64,8 +64,8 @@ returns c =
     pairs_end a.kind g (mark_of (after a.job.now) a.m) a.m a.from a.n at.loop.j at.loop.count a.out.now at.loop.out
     (omega arith) at.loop.invariant
 
-pub put-row-spec : {M : Type 1} → statement M
-put-row-spec =
+pub put_row_spec : {M : Type 1} → statement M
+put_row_spec =
     tie.close
     (tie.spec
     invariant-loop

@@ -15,7 +15,7 @@ quote-requires : tie.Need-quote-requires
 unfolding unused
 quote-requires c κs = (search rules, refl)
 
-sub-spare : tie.Need-overflow-sub-spare
+sub-spare : tie.Need-overflow_sub-spare
 sub-spare c =
     let q = c in
     let own = q.before.before.before in
@@ -54,8 +54,8 @@ returns c =
     a.available)
     (mark_rows a.job a.m rows.after_rows.ensures)
 
-pub write-flow-spec : {M : Type 1} → statement M
-write-flow-spec =
+pub write_flow_spec : {M : Type 1} → statement M
+write_flow_spec =
     tie.close
     (tie.spec
     (λ c κs. search rules)

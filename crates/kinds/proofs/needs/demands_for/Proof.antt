@@ -36,8 +36,8 @@ returns c =
     let a = at.before.args in
     demands_made a.demand.now a.k at.loop.own at.loop.invariant.1 (λ j l. at.loop.invariant.2 j (omega arith))
 
-pub demands-for-spec : {M : Type 1} → statement M
-demands-for-spec =
+pub demands_for_spec : {M : Type 1} → statement M
+demands_for_spec =
     tie.close
     (tie.spec
     invariant-loop

@@ -62,8 +62,8 @@ returns-2 c =
     lowest_none a.m a.order a.demand.now a.available.now a.n at.loop.k (at.loop.invariant.1 a.order rows.after_rows.ensures)
     (omega arith)
 
-pub lowest-overload-spec : {M : Type 1} → statement M
-lowest-overload-spec =
+pub lowest_overload_spec : {M : Type 1} → statement M
+lowest_overload_spec =
     tie.close
     (tie.spec
     invariant-loop

@@ -55,8 +55,8 @@ returns c =
     at.loop.invariant.2 a.order rows.after_rows.ensures
     ∙ ap (λ (x : ℕ). over x (needs_for a.m a.order a.demand.now a.n) a.out.now) e
 
-pub put-needs-spec : {M : Type 1} → statement M
-put-needs-spec =
+pub put_needs_spec : {M : Type 1} → statement M
+put_needs_spec =
     tie.close
     (tie.spec
     invariant-loop

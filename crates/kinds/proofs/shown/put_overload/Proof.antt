@@ -26,8 +26,8 @@ returns-2 c =
     shown_one a.over a.n a.out.now kind.byte.result bytes.byte2.result word.first_word.result _ (omega arith) kind.byte.ensures
     (bytes.byte2.ensures ∙ size.size.ensures) word.first_word.ensures w.write-overload.ensures
 
-pub put-overload-spec : {M : Type 1} → statement M
-put-overload-spec =
+pub put_overload_spec : {M : Type 1} → statement M
+put_overload_spec =
     tie.close
     (tie.spec
     returns

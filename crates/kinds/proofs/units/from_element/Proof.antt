@@ -15,7 +15,7 @@ given-requires c κs =
     let b = s.requires.3 in
     (omega arith, omega arith, omega (arith, b.rows s.args.i (omega arith), b.small s.args.i (omega arith)))
 
-sub-result : tie.Need-overflow-sub-result
+sub-result : tie.Need-overflow_sub-result
 sub-result c =
     let s = c.before.before.before in
     omega (arith, c.given.ensures, s.requires.3.rows s.args.i (omega arith))
@@ -31,8 +31,8 @@ returns-2 c =
     let a = c.before.before.args in
     element_to a.m a.demand.now a.flow.now a.spare a.i a.j (omega arith) (omega arith)
 
-pub from-element-spec : {M : Type 1} → statement M
-from-element-spec =
+pub from_element_spec : {M : Type 1} → statement M
+from_element_spec =
     tie.close
     (tie.spec
     (λ c. search rules)

@@ -20,7 +20,7 @@ taken-requires c κs =
     let b = s.requires.2 in
     (omega arith, omega arith, omega (arith, b.cols s.args.j (omega arith), b.small s.args.j (omega arith)))
 
-sub-result : tie.Need-overflow-sub-result
+sub-result : tie.Need-overflow_sub-result
 sub-result c =
     let s = c.before.before.before in
     omega (arith, c.taken.ensures, s.requires.2.cols s.args.j (omega arith))
@@ -31,5 +31,5 @@ returns-2 c =
     ap (λ (x : ℕ). asked a.demand.now a.j - x) c.taken.ensures
     ∙ start_to a.m a.demand.now a.flow.now a.spare a.j (omega arith)
 
-pub from-start-spec : {M : Type 1} → statement M
-from-start-spec = tie.close (tie.spec returns (λ c. search rules) (λ c. search rules) taken-requires sub-result returns-2)
+pub from_start_spec : {M : Type 1} → statement M
+from_start_spec = tie.close (tie.spec returns (λ c. search rules) (λ c. search rules) taken-requires sub-result returns-2)

@@ -18,7 +18,7 @@ decreases-loop flow m i x₀ j₀ x j = m - j
 loop-holds : tie.Need-loop-init invariant-loop decreases-loop
 loop-holds c = (row_none (handed c.args.flow.now) c.args.i, omega arith)
 
-add-x-2 : tie.Need-overflow-add-x-2 invariant-loop decreases-loop
+add-x-2 : tie.Need-overflow_add-x-2 invariant-loop decreases-loop
 add-x-2 c =
     let at = c.before.before in
     let a = at.before.args in
@@ -35,8 +35,8 @@ returns c =
     let a = c.before.before.args in
     c.before.loop.invariant.0 ∙ ap (λ (k : ℕ). row k (handed a.flow.now) a.i) (omega arith)
 
-pub given-spec : {M : Type 1} → statement M
-given-spec =
+pub given_spec : {M : Type 1} → statement M
+given_spec =
     tie.close
     (tie.spec
     invariant-loop

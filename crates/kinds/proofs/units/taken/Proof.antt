@@ -18,7 +18,7 @@ decreases-loop flow m j x₀ i₀ x i = m - i
 loop-holds : tie.Need-loop-init invariant-loop decreases-loop
 loop-holds c = (col_none (handed c.args.flow.now) c.args.j, omega arith)
 
-add-x-2 : tie.Need-overflow-add-x-2 invariant-loop decreases-loop
+add-x-2 : tie.Need-overflow_add-x-2 invariant-loop decreases-loop
 add-x-2 c =
     let at = c.before.before in
     let a = at.before.args in
@@ -35,8 +35,8 @@ returns c =
     let a = c.before.before.args in
     c.before.loop.invariant.0 ∙ ap (λ (k : ℕ). col k (handed a.flow.now) a.j) (omega arith)
 
-pub taken-spec : {M : Type 1} → statement M
-taken-spec =
+pub taken_spec : {M : Type 1} → statement M
+taken_spec =
     tie.close
     (tie.spec
     invariant-loop

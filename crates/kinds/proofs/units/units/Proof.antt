@@ -17,5 +17,5 @@ returns-2 c =
     let a = c.before.before.args in
     c.from-element.ensures ∙ ap (λ (u : ℕ). units a.m a.demand.now a.flow.now a.spare u (suc a.j)) (omega arith)
 
-pub units-spec : {M : Type 1} → statement M
-units-spec = tie.close (tie.spec (λ c κs. search rules) returns (λ c. search rules) (λ c κs. search rules) returns-2)
+pub units_spec : {M : Type 1} → statement M
+units_spec = tie.close (tie.spec (λ c κs. search rules) returns (λ c. search rules) (λ c κs. search rules) returns-2)

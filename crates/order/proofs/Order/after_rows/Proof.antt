@@ -8,5 +8,5 @@ returns : tie.Need-returns
 unfolding after_rows
 returns c = refl
 
-pub after-rows-spec : {M : Type 1} → statement M
-after-rows-spec = tie.close (tie.spec returns)
+pub after_rows_spec : {M : Type 1} → statement M
+after_rows_spec = tie.close (tie.spec returns)

@@ -10,5 +10,5 @@ returns c =
     let a = c.before.before.before.before.args in
     c.has.ensures ∙ ap (λ (w : ℕ). bit w a.j) (number_of_lem _ c.before.row.ensures)
 
-pub before-spec : {M : Type 1} → statement M
-before-spec = tie.close (tie.spec (λ c κs. search rules) (λ c κs. search rules) returns)
+pub before_spec : {M : Type 1} → statement M
+before_spec = tie.close (tie.spec (λ c κs. search rules) (λ c κs. search rules) returns)

@@ -37,5 +37,5 @@ unfolding circle_of circle_in
 returns-2 c = let at = c.before in
     first_end elements (λ k. after at.before.args.t1.rows k k) at.loop.i at.loop.invariant.1 (omega arith)
 
-pub circle-spec : {M : Type 1} → statement M
-circle-spec = tie.close (tie.spec invariant-loop decreases-loop loop-holds (λ c κs. search rules) (λ c κs. search rules) returns (λ c. search rules) (λ c. search rules) loop-again returns-2)
+pub circle_spec : {M : Type 1} → statement M
+circle_spec = tie.close (tie.spec invariant-loop decreases-loop loop-holds (λ c κs. search rules) (λ c κs. search rules) returns (λ c. search rules) (λ c. search rules) loop-again returns-2)

@@ -12,5 +12,5 @@ returns : tie.Need-returns
 unfolding after_rows
 returns c = (ap of_rows c.before.close.ensures, c.before.close.ensures)
 
-pub closing-spec : {M : Type 1} → statement M
-closing-spec = tie.close (tie.spec (λ c κs. search rules) returns)
+pub closing_spec : {M : Type 1} → statement M
+closing_spec = tie.close (tie.spec (λ c κs. search rules) returns)

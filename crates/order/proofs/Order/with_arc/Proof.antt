@@ -26,5 +26,5 @@ returns c =
     (number_of_lem _ g.with.ensures ∙ ap (λ (w : ℕ). with_bit w e.to) (number_of_lem _ g.before.row.ensures))
     ∙ gaining_grow elements e.self.rows long e.from start.requires.0 e.to)
 
-pub with-arc-spec : {M : Type 1} → statement M
-with-arc-spec = tie.close (tie.spec (λ c κs. search rules) (λ c κs. search rules) (λ c κs. search rules) returns)
+pub with_arc_spec : {M : Type 1} → statement M
+with_arc_spec = tie.close (tie.spec (λ c κs. search rules) (λ c κs. search rules) (λ c κs. search rules) returns)

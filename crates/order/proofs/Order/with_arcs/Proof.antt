@@ -48,5 +48,5 @@ returns c =
     let at = c.before in
     ap of_rows (grow_end elements at.before.before.args.t2 at.loop.i at.loop.rows (omega arith) at.loop.invariant.0)
 
-pub with-arcs-spec : {M : Type 1} → statement M
-with-arcs-spec = tie.close (tie.spec invariant-loop decreases-loop loop-holds (λ c. search rules) (λ c κs. search rules) add-row-requires (λ c. search rules) loop-again returns)
+pub with_arcs_spec : {M : Type 1} → statement M
+with_arcs_spec = tie.close (tie.spec invariant-loop decreases-loop loop-holds (λ c. search rules) (λ c κs. search rules) add-row-requires (λ c. search rules) loop-again returns)

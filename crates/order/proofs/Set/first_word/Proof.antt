@@ -8,5 +8,5 @@ returns : tie.Need-returns
 unfolding number_of
 returns c = sym (mod-eq_of_lt (search rules))
 
-pub first-word-spec : {M : Type 1} → statement M
-first-word-spec = tie.close (tie.spec returns)
+pub first_word_spec : {M : Type 1} → statement M
+first_word_spec = tie.close (tie.spec returns)

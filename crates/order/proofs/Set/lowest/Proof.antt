@@ -8,5 +8,5 @@ returns : tie.Need-returns
 unfolding number_of set_of
 returns c = c.lowest.ensures
 
-pub lowest-spec : {M : Type 1} → statement M
-lowest-spec = tie.close (tie.spec (λ c κs. search rules) returns)
+pub lowest_spec : {M : Type 1} → statement M
+lowest_spec = tie.close (tie.spec (λ c κs. search rules) returns)

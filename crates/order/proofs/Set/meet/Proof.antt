@@ -8,5 +8,5 @@ returns : tie.Need-returns
 unfolding number_of set_of
 returns c = refl
 
-pub meet-spec : {M : Type 1} → statement M
-meet-spec = tie.close (tie.spec returns)
+pub meet_spec : {M : Type 1} → statement M
+meet_spec = tie.close (tie.spec returns)

@@ -8,5 +8,5 @@ returns : tie.Need-returns
 unfolding number_of set_of
 returns c = ap set_of c.without.ensures
 
-pub minus-spec : {M : Type 1} → statement M
-minus-spec = tie.close (tie.spec (λ c κs. search rules) returns)
+pub minus_spec : {M : Type 1} → statement M
+minus_spec = tie.close (tie.spec (λ c κs. search rules) returns)

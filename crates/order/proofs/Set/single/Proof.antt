@@ -8,5 +8,5 @@ returns : tie.Need-returns
 unfolding number_of set_of
 returns c = c.with.ensures
 
-pub single-spec : {M : Type 1} → statement M
-single-spec = tie.close (tie.spec (λ c κs. search rules) returns)
+pub single_spec : {M : Type 1} → statement M
+single_spec = tie.close (tie.spec (λ c κs. search rules) returns)

@@ -8,5 +8,5 @@ returns : tie.Need-returns
 unfolding number_of set_of
 returns c = c.size.ensures
 
-pub size-spec : {M : Type 1} → statement M
-size-spec = tie.close (tie.spec (λ c κs. search rules) returns)
+pub size_spec : {M : Type 1} → statement M
+size_spec = tie.close (tie.spec (λ c κs. search rules) returns)

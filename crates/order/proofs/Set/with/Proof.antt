@@ -8,5 +8,5 @@ returns : tie.Need-returns
 unfolding number_of set_of
 returns c = ap set_of c.with-bit.ensures
 
-pub with-spec : {M : Type 1} → statement M
-with-spec = tie.close (tie.spec (λ c κs. search rules) returns)
+pub with_spec : {M : Type 1} → statement M
+with_spec = tie.close (tie.spec (λ c κs. search rules) returns)

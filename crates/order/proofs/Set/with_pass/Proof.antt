@@ -30,5 +30,5 @@ returns c =
     let fits : e.gain.word < 2 ^ word_bits = search rules in
     picks e.k e.self.word e.gain.word sub.wrapping-sub-u64.result fits (search rules) sub.wrapping-sub-u64.ensures
 
-pub with-pass-spec : {M : Type 1} → statement M
-with-pass-spec = tie.close (tie.spec (λ c. search rules) (λ c κs. search rules) returns)
+pub with_pass_spec : {M : Type 1} → statement M
+with_pass_spec = tie.close (tie.spec (λ c. search rules) (λ c κs. search rules) returns)

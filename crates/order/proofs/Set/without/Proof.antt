@@ -8,5 +8,5 @@ returns : tie.Need-returns
 unfolding number_of set_of
 returns c = ap set_of c.without-bit.ensures
 
-pub without-spec : {M : Type 1} → statement M
-without-spec = tie.close (tie.spec (λ c κs. search rules) returns)
+pub without_spec : {M : Type 1} → statement M
+without_spec = tie.close (tie.spec (λ c κs. search rules) returns)

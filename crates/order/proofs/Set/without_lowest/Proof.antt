@@ -13,5 +13,5 @@ returns-2 : tie.Need-returns-2
 unfolding number_of set_of
 returns-2 c = ap set_of c.without-lowest.ensures
 
-pub without-lowest-spec : {M : Type 1} → statement M
-without-lowest-spec = tie.close (tie.spec returns (λ c κs. search rules) returns-2)
+pub without_lowest_spec : {M : Type 1} → statement M
+without_lowest_spec = tie.close (tie.spec returns (λ c κs. search rules) returns-2)

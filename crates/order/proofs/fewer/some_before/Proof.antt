@@ -55,5 +55,5 @@ returns-2 c =
     let e = at.before.args in
     sym (some_before_none e.rows.now e.j at.loop.left _ test.is-empty.ensures c.if1.false) ∙ at.loop.invariant
 
-pub some-before-spec : {M : Type 1} → statement M
-some-before-spec = tie.close (tie.spec invariant-loop decreases-loop loop-holds (λ c κs. search rules) (λ c κs. search rules) row-requires (λ c κs. search rules) returns (λ c κs. search rules) loop-less loop-again returns-2)
+pub some_before_spec : {M : Type 1} → statement M
+some_before_spec = tie.close (tie.spec invariant-loop decreases-loop loop-holds (λ c κs. search rules) (λ c κs. search rules) row-requires (λ c κs. search rules) returns (λ c κs. search rules) loop-less loop-again returns-2)

@@ -15,5 +15,5 @@ returns c =
     c.put-row.ensures
     ∙ ap (put_row e.arcs.now e.from) (number_of_lem _ cut.without.ensures ∙ ap (λ (w : ℕ). minus w (2 ^ e.to)) (number_of_lem _ cut.before.row.ensures))
 
-pub without-arc-spec : {M : Type 1} → statement M
-without-arc-spec = tie.close (tie.spec (λ c κs. search rules) (λ c κs. search rules) (λ c κs. search rules) returns)
+pub without_arc_spec : {M : Type 1} → statement M
+without_arc_spec = tie.close (tie.spec (λ c κs. search rules) (λ c κs. search rules) (λ c κs. search rules) returns)

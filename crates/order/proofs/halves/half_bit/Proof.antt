@@ -11,5 +11,5 @@ returns c = sym (cond_true _ _ (eq-eqb _ _ c.if1.true))
 returns-2 : tie.Need-returns-2
 returns-2 c = shl_one 32 _ c.before.requires ∙ sym (cond_false _ _ (ne_eqb _ _ c.if1.false))
 
-pub half-bit-spec : {M : Type 1} → statement M
-half-bit-spec = tie.close (tie.spec (λ c. search rules) (λ c. search rules) returns returns-2)
+pub half_bit_spec : {M : Type 1} → statement M
+half_bit_spec = tie.close (tie.spec (λ c. search rules) (λ c. search rules) returns returns-2)

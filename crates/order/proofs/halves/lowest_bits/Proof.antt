@@ -12,11 +12,11 @@ returns c =
     let fits : e.w < 2 ^ word_bits = search rules in
     sym (ap (λ (m : ℕ). e.w % 2 ^ m) c.if1.true ∙ mod-eq_of_lt fits)
 
-sub-result : tie.Need-overflow-sub-result
+sub-result : tie.Need-overflow_sub-result
 sub-result c = let m = c.before.args.m in omega (arith, shl_one word_bits m (omega (arith, c.before.requires, c.if1.false)), pow_pos m)
 
 returns-2 : tie.Need-returns-2
 returns-2 c = let e = c.before.args in ap (λ (x : ℕ). bit_and e.w (x - 1)) (shl_one word_bits e.m (omega (arith, c.before.requires, c.if1.false))) ∙ and_mask e.w e.m
 
-pub lowest-bits-spec : {M : Type 1} → statement M
-lowest-bits-spec = tie.close (tie.spec returns (λ c. search rules) sub-result returns-2)
+pub lowest_bits_spec : {M : Type 1} → statement M
+lowest_bits_spec = tie.close (tie.spec returns (λ c. search rules) sub-result returns-2)

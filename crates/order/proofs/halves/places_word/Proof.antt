@@ -47,8 +47,8 @@ returns c =
     word start.args.a.now start.args.m l.low l.high _ _ _ _ start.requires (l.invariant.0 ∙ ap (λ (x : ℕ). positive x start.args.a.now) end)
     (l.invariant.1 ∙ ap (λ (x : ℕ). positive x (drop 32 start.args.a.now)) end) c.before.wide2.ensures.0 upper.wide.ensures.0 refl c.lowest-bits.ensures
 
-pub places-word-spec : {M : Type 1} → statement M
-places-word-spec =
+pub places_word_spec : {M : Type 1} → statement M
+places_word_spec =
     tie.close
     (tie.spec
     invariant-loop

@@ -94,8 +94,8 @@ returns-2 c =
     out.if2.false
     ∙ (fresh_start elements start.args.i start.requires.0 start.args.rows.now _ (less _ _ _ _ minus.minus.ensures minus.before.row.ensures)).0
 
-pub add-row-spec : {M : Type 1} → statement M
-add-row-spec =
+pub add_row_spec : {M : Type 1} → statement M
+add_row_spec =
     tie.close
     (tie.spec invariant-loop decreases-loop (λ c κs. search rules) (λ c κs. search rules) (λ c κs. search rules) returns loop-holds (λ c κs. search rules) (λ c κs. search rules) row-requires-2 with-requires
     (λ c κs. search rules) (λ c κs. search rules) loop-less loop-again (λ c κs. search rules) returns-2)

@@ -28,5 +28,5 @@ returns c =
     let e : c.before.loop.i ≡ elements = omega arith in
     rw e at c.before.loop.invariant.1
 
-pub ends-of-spec : {M : Type 1} → statement M
-ends-of-spec = tie.close (tie.spec invariant-loop decreases-loop loop-holds (λ c κs. search rules) (λ c κs. search rules) (λ c. search rules) (λ c. search rules) loop-again returns)
+pub ends_of_spec : {M : Type 1} → statement M
+ends_of_spec = tie.close (tie.spec invariant-loop decreases-loop loop-holds (λ c κs. search rules) (λ c κs. search rules) (λ c. search rules) (λ c. search rules) loop-again returns)

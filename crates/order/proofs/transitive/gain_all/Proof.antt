@@ -16,5 +16,5 @@ returns c =
     ∙ ap (passing_by elements e.x (number_of e.gain))
     (put.put-row.ensures ∙ ap (put_row e.rows.now e.x) (number_of_lem _ add.union.ensures ∙ ap (λ (w : ℕ). bit_or w (number_of e.gain)) (number_of_lem _ add.before.row.ensures)))
 
-pub gain-all-spec : {M : Type 1} → statement M
-gain-all-spec = tie.close (tie.spec (λ c κs. search rules) (λ c κs. search rules) (λ c κs. search rules) (λ c κs. search rules) returns)
+pub gain_all_spec : {M : Type 1} → statement M
+gain_all_spec = tie.close (tie.spec (λ c κs. search rules) (λ c κs. search rules) (λ c κs. search rules) (λ c κs. search rules) returns)

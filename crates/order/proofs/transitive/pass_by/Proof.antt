@@ -35,5 +35,5 @@ returns c =
     let e = at.before.args in
     up_end (update_row (step e.k (number_of e.gain))) elements at.loop.i e.rows.now (omega arith) at.loop.invariant
 
-pub pass-by-spec : {M : Type 1} → statement M
-pass-by-spec = tie.close (tie.spec invariant-loop decreases-loop loop-holds (λ c κs. search rules) (λ c κs. search rules) (λ c κs. search rules) (λ c. search rules) (λ c. search rules) loop-again returns)
+pub pass_by_spec : {M : Type 1} → statement M
+pass_by_spec = tie.close (tie.spec invariant-loop decreases-loop loop-holds (λ c κs. search rules) (λ c κs. search rules) (λ c κs. search rules) (λ c. search rules) (λ c. search rules) loop-again returns)

@@ -26,5 +26,5 @@ returns-3 c =
     let one = c.before.before in
     sym (cond_false _ _ (empty _ _ one.before.before.row.ensures one.before.is-empty.ensures.0 ∙ one.if1.false) ∙ cond_false _ _ (sym c.before.has.ensures ∙ c.if2.false))
 
-pub pass-over-spec : {M : Type 1} → statement M
-pass-over-spec = tie.close (tie.spec (λ c κs. search rules) (λ c κs. search rules) returns (λ c κs. search rules) (λ c κs. search rules) returns-2 returns-3)
+pub pass_over_spec : {M : Type 1} → statement M
+pass_over_spec = tie.close (tie.spec (λ c κs. search rules) (λ c κs. search rules) returns (λ c κs. search rules) (λ c κs. search rules) returns-2 returns-3)

@@ -48,8 +48,8 @@ returns-2 c =
     let a = b.before.before.args in
     refusal_end a.m (λ k. activity_cause k (record_at a.s.now k)) b.loop.i b.loop.invariant.1 (omega arith) (omega arith)
 
-pub activities-cause-spec : {M : Type 1} → statement M
-activities-cause-spec =
+pub activities_cause_spec : {M : Type 1} → statement M
+activities_cause_spec =
     tie.close
     (tie.spec
     invariant-loop

@@ -18,8 +18,8 @@ returns c =
       fields.before.activity-fields.ensures,
     )
 
-pub activity-cause-spec : {M : Type 1} → statement M
-activity-cause-spec =
+pub activity_cause_spec : {M : Type 1} → statement M
+activity_cause_spec =
     tie.close
     (tie.spec
     (λ c κs. search rules)

@@ -10,12 +10,12 @@ returns : tie.Need-returns
 unfolding activity_fields
 returns c = rw (le-ltb c.before.args.place activities (omega arith))
 
-cast-number : tie.Need-overflow-cast-number
+cast-number : tie.Need-overflow_cast-number
 cast-number c = omega (arith, c.shared-slice-known.given 1)
 
 returns-2 : tie.Need-returns-2
 unfolding activity_fields
 returns-2 c = rw (lt-ltb c.before.before.args.place activities (omega arith))
 
-pub activity-fields-spec : {M : Type 1} → statement M
-activity-fields-spec = tie.close (tie.spec returns (λ c. search rules) cast-number (λ c. search rules) returns-2)
+pub activity_fields_spec : {M : Type 1} → statement M
+activity_fields_spec = tie.close (tie.spec returns (λ c. search rules) cast-number (λ c. search rules) returns-2)

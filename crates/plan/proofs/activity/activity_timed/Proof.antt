@@ -16,5 +16,5 @@ returns-2 c =
     let r = c.before.before.before.before.args.r.now in
     rw (le-ltb 0 (duration_in r) (omega (arith, c.before.before.half.ensures.0)), c.demands-some.ensures)
 
-pub activity-timed-spec : {M : Type 1} → statement M
-activity-timed-spec = tie.close (tie.spec (λ c κs. search rules) returns (λ c κs. search rules) returns-2)
+pub activity_timed_spec : {M : Type 1} → statement M
+activity_timed_spec = tie.close (tie.spec (λ c κs. search rules) returns (λ c κs. search rules) returns-2)

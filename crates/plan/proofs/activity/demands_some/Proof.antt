@@ -41,8 +41,8 @@ returns-2 c =
     let r = b.before.before.args.r.now in
     sym (some_none 8 (λ k. ltb 0 (demand_in r k)) (λ k l. b.loop.invariant.1 k (omega arith)))
 
-pub demands-some-spec : {M : Type 1} → statement M
-demands-some-spec =
+pub demands_some_spec : {M : Type 1} → statement M
+demands_some_spec =
     tie.close
     (tie.spec
     invariant-loop

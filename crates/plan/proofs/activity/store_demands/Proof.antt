@@ -38,8 +38,8 @@ returns c =
     let a = b.before.before.args in
     up_end (put_demands a.s.now) a.m b.loop.i a.demands.now (omega arith) b.loop.invariant
 
-pub store-demands-spec : {M : Type 1} → statement M
-store-demands-spec =
+pub store_demands_spec : {M : Type 1} → statement M
+store_demands_spec =
     tie.close
     (tie.spec
     invariant-loop

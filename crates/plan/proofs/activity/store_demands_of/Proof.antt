@@ -30,8 +30,8 @@ returns c =
     let a = b.before.before.args in
     up_end (put_demand a.r.now a.i) 8 b.loop.k a.demands.now (omega arith) b.loop.invariant
 
-pub store-demands-of-spec : {M : Type 1} → statement M
-store-demands-of-spec =
+pub store_demands_of_spec : {M : Type 1} → statement M
+store_demands_of_spec =
     tie.close
     (tie.spec
     invariant-loop

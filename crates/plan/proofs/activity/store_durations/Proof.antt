@@ -39,8 +39,8 @@ returns c =
     let a = b.before.before.args in
     up_end (put_duration a.s.now) a.m b.loop.i a.durations.now (omega arith) b.loop.invariant
 
-pub store-durations-spec : {M : Type 1} → statement M
-store-durations-spec =
+pub store_durations_spec : {M : Type 1} → statement M
+store_durations_spec =
     tie.close
     (tie.spec
     invariant-loop

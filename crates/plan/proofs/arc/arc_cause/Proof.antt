@@ -11,8 +11,8 @@ returns c =
     let typed = fields.before.before in
     simp (c.rule3.ensures, c.before.arc_spare.ensures, fields.rule2.ensures, fields.before.arc-fields.ensures, typed.rule.ensures)
 
-pub arc-cause-spec : {M : Type 1} → statement M
-arc-cause-spec =
+pub arc_cause_spec : {M : Type 1} → statement M
+arc_cause_spec =
     tie.close
     (tie.spec
     (λ c. search rules)

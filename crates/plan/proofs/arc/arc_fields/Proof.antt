@@ -17,8 +17,8 @@ returns-3 : tie.Need-returns-3
 unfolding arc_fields
 returns-3 c = rw (told c.before.before.before.is-end.ensures c.before.before.if1.false, told c.before.is-end2.ensures c.if2.false)
 
-pub arc-fields-spec : {M : Type 1} → statement M
-arc-fields-spec =
+pub arc_fields_spec : {M : Type 1} → statement M
+arc_fields_spec =
     tie.close
     (tie.spec
     (λ c. search rules)

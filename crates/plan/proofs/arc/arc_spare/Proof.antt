@@ -10,5 +10,5 @@ returns c = rw (told_not c.before.all_zero.ensures c.if1.true)
 returns-2 : tie.Need-returns-2
 returns-2 c = rw (told c.before.before.all_zero.ensures c.before.if1.false) c.all-zero2.ensures
 
-pub arc-spare-spec : {M : Type 1} → statement M
-arc-spare-spec = tie.close (tie.spec (λ c κs. search rules) returns (λ c κs. search rules) returns-2)
+pub arc_spare_spec : {M : Type 1} → statement M
+arc_spare_spec = tie.close (tie.spec (λ c κs. search rules) returns (λ c κs. search rules) returns-2)

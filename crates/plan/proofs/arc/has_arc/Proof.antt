@@ -11,8 +11,8 @@ returns c =
     let from = to.before.before in
     simp (c.has.ensures, number_of_lem old.row.result old.row.ensures, to.index2.ensures.0, from.index.ensures.0)
 
-pub has-arc-spec : {M : Type 1} → statement M
-has-arc-spec =
+pub has_arc_spec : {M : Type 1} → statement M
+has_arc_spec =
     tie.close
     (tie.spec
     (λ c. search rules)

@@ -11,5 +11,5 @@ returns c = rw (le-ltb 0 c.before.args.i (omega arith))
 returns-2 : tie.Need-returns-2
 returns-2 c = rw (lt-ltb 0 c.before.before.args.i (omega arith), c.index.ensures.0)
 
-pub is-end-spec : {M : Type 1} → statement M
-is-end-spec = tie.close (tie.spec returns (λ c κs. search rules) returns-2)
+pub is_end_spec : {M : Type 1} → statement M
+is_end_spec = tie.close (tie.spec returns (λ c κs. search rules) returns-2)

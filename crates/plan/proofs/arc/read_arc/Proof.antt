@@ -43,8 +43,8 @@ returns-3 c =
     let new = ap not (sym c.before.before.before.has-arc.ensures ∙ c.before.before.if2.false) in
     (sym (rule_keeps _ _ _ kept new), arc_stored a.of a.place a.m a.r.now a.rows.now kept c.store-arc.ensures)
 
-pub read-arc-spec : {M : Type 1} → statement M
-read-arc-spec =
+pub read_arc_spec : {M : Type 1} → statement M
+read_arc_spec =
     tie.close
     (tie.spec
     (λ c κs. search rules)

@@ -75,8 +75,8 @@ returns-2 c =
           ∙ ap (λ (k : ℕ). upto (put_arc a.of a.t.now) k a.rows.now) (refusal_none a.n f b.loop.i b.loop.invariant.1 (omega arith) (omega arith)),
     )
 
-pub read-arcs-spec : {M : Type 1} → statement M
-read-arcs-spec =
+pub read_arcs_spec : {M : Type 1} → statement M
+read_arcs_spec =
     tie.close
     (tie.spec
     invariant-loop

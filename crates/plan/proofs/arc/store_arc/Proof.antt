@@ -14,8 +14,8 @@ returns c =
     let from = to.before.before in
     simp (c.put-row.ensures, number_of_lem new.with.result new.with.ensures, number_of_lem old.row.result old.row.ensures, to.index2.ensures.0, from.index.ensures.0)
 
-pub store-arc-spec : {M : Type 1} → statement M
-store-arc-spec =
+pub store_arc_spec : {M : Type 1} → statement M
+store_arc_spec =
     tie.close
     (tie.spec
     (λ c. search rules)

@@ -16,5 +16,5 @@ returns-3 : tie.Need-returns-3
 unfolding rule
 returns-3 c = rw c.before.answer.given.1
 
-pub rule-spec : {M : Type 1} → statement M
-rule-spec = tie.close (tie.spec (λ c. search rules) (λ c. search rules) returns returns-2 returns-3)
+pub rule_spec : {M : Type 1} → statement M
+rule_spec = tie.close (tie.spec (λ c. search rules) (λ c. search rules) returns returns-2 returns-3)

@@ -33,8 +33,8 @@ returns c =
     let r = b.before.before.args.r.now in
     is_table 8 (available_in r) b.loop.a 0 b.loop.invariant.0 (λ i l. b.loop.invariant.2 i (omega arith))
 
-pub available-spec : {M : Type 1} → statement M
-available-spec =
+pub available_spec : {M : Type 1} → statement M
+available_spec =
     tie.close
     (tie.spec
     invariant-loop

@@ -11,8 +11,8 @@ returns c =
     let typed = fields.before.before in
     simp (c.rule3.ensures, c.before.crew_spare.ensures, fields.rule2.ensures, fields.before.crew_fields.ensures, typed.rule.ensures)
 
-pub crew-cause-spec : {M : Type 1} → statement M
-crew-cause-spec =
+pub crew_cause_spec : {M : Type 1} → statement M
+crew_cause_spec =
     tie.close
     (tie.spec
     (λ c. search rules)

@@ -8,7 +8,7 @@ use Rattle.plan.proofs.ReaderLoops.{told, told_not}
 use Rattle.plan.proofs.crew.crew_fields.Statement.{statement}
 use Rattle.plan.proofs.crew.crew_fields.Tie as tie
 
-cast-k : tie.Need-overflow-cast-k
+cast-k : tie.Need-overflow_cast-k
 cast-k c = omega (arith, c.shared-slice-known2.given 1)
 
 returns : tie.Need-returns
@@ -35,8 +35,8 @@ returns-4 c =
     let k = get_or c.before.before.before.before.before.before.before.args.r.now 1 0 in
     rw (lt-ltb 0 k (omega arith), le-leb k 8 (omega arith), told c.before.before.all_zero.ensures c.before.if3.false) c.no-demand-from.ensures
 
-pub crew-fields-spec : {M : Type 1} → statement M
-crew-fields-spec =
+pub crew_fields_spec : {M : Type 1} → statement M
+crew_fields_spec =
     tie.close
     (tie.spec
     (λ c. search rules)

@@ -38,8 +38,8 @@ returns-2 c =
     let e : c.before.loop.i ≡ 8 * elements = omega arith in
     sym (zeros_none a.demand.now (8 * elements)) ∙ rw e at c.before.loop.invariant.1
 
-pub no-demand-from-spec : {M : Type 1} → statement M
-no-demand-from-spec =
+pub no_demand_from_spec : {M : Type 1} → statement M
+no_demand_from_spec =
     tie.close
     (tie.spec
     invariant-loop

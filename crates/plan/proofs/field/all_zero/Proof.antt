@@ -36,8 +36,8 @@ returns-2 c =
     let e : c.before.loop.i ≡ a.to = omega arith in
     sym (zeros_none a.r.now a.to) ∙ rw e at c.before.loop.invariant.1
 
-pub all-zero-spec : {M : Type 1} → statement M
-all-zero-spec =
+pub all_zero_spec : {M : Type 1} → statement M
+all_zero_spec =
     tie.close
     (tie.spec
     invariant-loop

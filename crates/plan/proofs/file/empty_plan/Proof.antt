@@ -9,5 +9,5 @@ returns : tie.Need-returns
 unfolding empty_plan cells
 returns c = refl
 
-pub empty-plan-spec : {M : Type 1} → statement M
-empty-plan-spec = tie.close (tie.spec returns)
+pub empty_plan_spec : {M : Type 1} → statement M
+empty_plan_spec = tie.close (tie.spec returns)

@@ -21,5 +21,5 @@ returns-3 c =
     let n = c.before.before.args.n in
     rw (lt-ltb 0 n (omega arith), le-leb n 49152 (omega arith))
 
-pub is-length-spec : {M : Type 1} → statement M
-is-length-spec = tie.close (tie.spec returns returns-2 returns-3)
+pub is_length_spec : {M : Type 1} → statement M
+is_length_spec = tie.close (tie.spec returns returns-2 returns-3)

@@ -41,8 +41,8 @@ returns-2 c =
     let e = leading_done a.of a.n b.loop.i (drop (24 * b.loop.i) a.s.now) (omega arith) in
     (omega arith, omega arith)
 
-pub leading-records-spec : {M : Type 1} → statement M
-leading-records-spec =
+pub leading_records_spec : {M : Type 1} → statement M
+leading_records_spec =
     tie.close
     (tie.spec
     invariant-loop

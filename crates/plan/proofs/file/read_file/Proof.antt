@@ -42,8 +42,8 @@ returns-2 c =
     then_on (simp count at found.activities-cause.ensures) test.before.is-readable.ensures test.if1.false
     (simp (rest_of_lem, duration.store-durations.ensures, demand.store-demands.ensures, count) at c.read-rest.ensures)
 
-pub read-file-spec : {M : Type 1} → statement M
-read-file-spec =
+pub read_file_spec : {M : Type 1} → statement M
+read_file_spec =
     tie.close
     (tie.spec
     (λ c κs. search rules)

@@ -78,8 +78,8 @@ read-arcs-requires-2 : tie.Need-read-arcs-requires-2
 unfolding cells
 read-arcs-requires-2 c κs = (search rules, search rules, search rules, refl)
 
-pub read-rest-spec : {M : Type 1} → statement M
-read-rest-spec =
+pub read_rest_spec : {M : Type 1} → statement M
+read_rest_spec =
     tie.close
     (tie.spec
     (λ c κs. search rules)

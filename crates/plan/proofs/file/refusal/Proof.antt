@@ -6,5 +6,5 @@ use Rattle.plan.proofs.file.refusal.Tie as tie
 returns : tie.Need-returns
 returns c = rw c.empty-plan.ensures
 
-pub refusal-spec : {M : Type 1} → statement M
-refusal-spec = tie.close (tie.spec (λ c κs. search rules) returns)
+pub refusal_spec : {M : Type 1} → statement M
+refusal_spec = tie.close (tie.spec (λ c κs. search rules) returns)

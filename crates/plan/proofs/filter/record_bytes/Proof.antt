@@ -31,8 +31,8 @@ returns c =
     let e : b.loop.i ≡ 24 = omega arith in
     rw e at b.loop.invariant.0 ∙ append-nil (take 24 b.before.args.r.now)
 
-pub record-bytes-spec : {M : Type 1} → statement M
-record-bytes-spec =
+pub record_bytes_spec : {M : Type 1} → statement M
+record_bytes_spec =
     tie.close
     (tie.spec
     invariant-loop

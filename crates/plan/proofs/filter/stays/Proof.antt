@@ -18,5 +18,5 @@ returns-2 c =
     let a = c.before.before.before.before.args in
     c.has-arc.ensures ∙ extra_stays a.extra.now a.r.now c.before.if1.false
 
-pub stays-spec : {M : Type 1} → statement M
-stays-spec = tie.close (tie.spec (λ c. search rules) returns has-arc-requires returns-2)
+pub stays_spec : {M : Type 1} → statement M
+stays_spec = tie.close (tie.spec (λ c. search rules) returns has-arc-requires returns-2)

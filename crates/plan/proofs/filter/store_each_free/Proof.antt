@@ -37,8 +37,8 @@ returns c =
     let a = b.before.before.args in
     up_end (put_free a.t.now) a.n b.loop.p a.rows.now (omega arith) b.loop.invariant
 
-pub store-each-free-spec : {M : Type 1} → statement M
-store-each-free-spec =
+pub store_each_free_spec : {M : Type 1} → statement M
+store_each_free_spec =
     tie.close
     (tie.spec
     invariant-loop

@@ -21,13 +21,13 @@ module _ (c : tie.After-leading-records) where
   there : c.leading-records.result + 1 ≤ length s / 24
   there = omega (arith, c.leading-records.ensures.0, arcs_there s c.before.before.requires.0)
 
-sub-store-each-free : tie.Need-overflow-sub-store-each-free
+sub-store-each-free : tie.Need-overflow_sub-store-each-free
 sub-store-each-free c = omega (arith, there c)
 
 part-store-each-free-start : tie.Need-slice-bounds-store-each-free-start
 part-store-each-free-start c = let h = there c in search rules
 
-sub-store-each-free-2 : tie.Need-overflow-sub-store-each-free-2
+sub-store-each-free-2 : tie.Need-overflow_sub-store-each-free-2
 sub-store-each-free-2 c = there c.before
 
 store-each-free-requires : tie.Need-store-each-free-requires
@@ -40,8 +40,8 @@ returns c =
     let b = c.before.before.before in
     rw (rest_of_lem, b.leading-records.ensures.0, b.before.before.requires.1) at c.store-each-free.ensures ∙ free_stored (s b) b.before.before.requires.0
 
-pub store-free-spec : {M : Type 1} → statement M
-store-free-spec =
+pub store_free_spec : {M : Type 1} → statement M
+store_free_spec =
     tie.close
     (tie.spec
     (λ c κs. search rules)

@@ -22,8 +22,8 @@ returns-3 c =
     let a = typed.before.before.before.args in
     c.store-arc.ensures ∙ free_here a.r.now a.rows.now typed.if1.false (sym test.before.half.ensures.0 ∙ test.if2.false)
 
-pub store-if-free-spec : {M : Type 1} → statement M
-store-if-free-spec =
+pub store_if_free_spec : {M : Type 1} → statement M
+store_if_free_spec =
     tie.close
     (tie.spec
     (λ c. search rules)

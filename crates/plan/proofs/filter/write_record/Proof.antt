@@ -58,8 +58,8 @@ returns c =
     let e : l.i ≡ 24 = omega arith in
     rw e at l.invariant.0 ∙ copy_all (b r) (old r) 24 (long r) ∙ ap (λ (x : List ℕ). starting_with x (old r)) r.record_bytes.ensures
 
-pub write-record-spec : {M : Type 1} → statement M
-write-record-spec =
+pub write_record_spec : {M : Type 1} → statement M
+write_record_spec =
     tie.close
     (tie.spec
     invariant-loop

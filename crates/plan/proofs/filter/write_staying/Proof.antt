@@ -101,8 +101,8 @@ returns c =
       staying_all keep a.s.now a.out.now b.loop.p b.loop.n b.loop.out b.loop.invariant (omega arith),
     )
 
-pub write-staying-spec : {M : Type 1} → statement M
-write-staying-spec =
+pub write_staying_spec : {M : Type 1} → statement M
+write_staying_spec =
     tie.close
     (tie.spec
     invariant-loop

@@ -5,8 +5,8 @@ use borrow.Author.Rules.{rules}
 use Rattle.plan.proofs.numbers.told_by.Statement.{statement}
 use Rattle.plan.proofs.numbers.told_by.Tie as tie
 
-pub told-by-spec : {M : Type 1} → statement M
-told-by-spec =
+pub told_by_spec : {M : Type 1} → statement M
+told_by_spec =
     tie.close
     (tie.spec
     (λ c. search rules)

@@ -9,8 +9,8 @@ returns c =
     let to = wait.before.before in
     simp (c.larger.ensures, wait.half.ensures.0, to.index2.ensures.0, to.before.before.index.ensures.0)
 
-pub raise-wait-spec : {M : Type 1} → statement M
-raise-wait-spec =
+pub raise_wait_spec : {M : Type 1} → statement M
+raise_wait_spec =
     tie.close
     (tie.spec
     (λ c. search rules)

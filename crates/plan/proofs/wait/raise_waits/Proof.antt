@@ -37,8 +37,8 @@ returns c =
     let a = b.before.before.args in
     up_end (put_wait a.t.now) a.n b.loop.p a.waits.now (omega arith) b.loop.invariant
 
-pub raise-waits-spec : {M : Type 1} → statement M
-raise-waits-spec =
+pub raise_waits_spec : {M : Type 1} → statement M
+raise_waits_spec =
     tie.close
     (tie.spec
     invariant-loop

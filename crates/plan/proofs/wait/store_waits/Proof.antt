@@ -20,13 +20,13 @@ module _ (c : tie.After-leading-records) where
   there : c.leading-records.result + 1 ≤ length s / 24
   there = omega (arith, c.leading-records.ensures.0, arcs_there s c.before.before.requires.0)
 
-sub-raise-waits : tie.Need-overflow-sub-raise-waits
+sub-raise-waits : tie.Need-overflow_sub-raise-waits
 sub-raise-waits c = omega (arith, there c)
 
 part-raise-waits-start : tie.Need-slice-bounds-raise-waits-start
 part-raise-waits-start c = let h = there c in search rules
 
-sub-raise-waits-2 : tie.Need-overflow-sub-raise-waits-2
+sub-raise-waits-2 : tie.Need-overflow_sub-raise-waits-2
 sub-raise-waits-2 c = there c.before
 
 raise-waits-requires : tie.Need-raise-waits-requires
@@ -39,8 +39,8 @@ returns c =
     let b = c.before.before.before in
     rw (rest_of_lem, b.leading-records.ensures.0, b.before.before.requires.1) at c.raise-waits.ensures ∙ waits_stored (s b) b.before.before.requires.0
 
-pub store-waits-spec : {M : Type 1} → statement M
-store-waits-spec =
+pub store_waits_spec : {M : Type 1} → statement M
+store_waits_spec =
     tie.close
     (tie.spec
     (λ c κs. search rules)

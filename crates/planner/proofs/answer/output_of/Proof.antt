@@ -12,5 +12,5 @@ returns c = sym (ap (λ (x : Fault). output_of x c.before.before.args.value) c.e
 returns-2 : tie.Need-returns-2
 returns-2 c = sym (ap (λ (x : Fault). output_of x c.before.before.before.args.value) c.before.fault.given.1)
 
-pub output-of-spec : {M : Type 1} → statement M
-output-of-spec = tie.close (tie.spec (λ c. search rules) (λ c. search rules) returns returns-2)
+pub output_of_spec : {M : Type 1} → statement M
+output_of_spec = tie.close (tie.spec (λ c. search rules) (λ c. search rules) returns returns-2)

@@ -17,5 +17,5 @@ returns-2 c = let a = c.before.before.before.args in sym (ap (λ (x : Fault). or
 returns-3 : tie.Need-returns-3
 returns-3 c = let a = c.before.before.before.args in sym (ap (λ (x : Fault). or_cause x a.test a.cause) c.before.fault.given.1)
 
-pub or-cause-spec : {M : Type 1} → statement M
-or-cause-spec = tie.close (tie.spec (λ c. search rules) (λ c. search rules) returns returns-2 returns-3)
+pub or_cause_spec : {M : Type 1} → statement M
+or_cause_spec = tie.close (tie.spec (λ c. search rules) (λ c. search rules) returns returns-2 returns-3)

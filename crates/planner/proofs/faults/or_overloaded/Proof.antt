@@ -16,7 +16,7 @@ returns c =
     let a = t.before.args in
     not_weighed a.fault (overload_in a.order a.q) a.q.kinds (sym t.is-fine.ensures ∙ not-true _ c.if1.true)
 
-add-kind : tie.Need-overflow-add-kind
+add-kind : tie.Need-overflow_add-kind
 add-kind c =
     let v = c.before in
     let a = v.before.before.before.args in
@@ -29,5 +29,5 @@ returns-2 c =
     let a = v.before.before.before.args in
     c.or-cause.ensures ∙ ap (λ (x : Overload). or_found a.fault x a.q.kinds) v.lowest_of.ensures
 
-pub or-overloaded-spec : {M : Type 1} → statement M
-or-overloaded-spec = tie.close (tie.spec (λ c κs. search rules) returns (λ c κs. search rules) add-kind (λ c κs. search rules) returns-2)
+pub or_overloaded_spec : {M : Type 1} → statement M
+or_overloaded_spec = tie.close (tie.spec (λ c κs. search rules) returns (λ c κs. search rules) add-kind (λ c κs. search rules) returns-2)

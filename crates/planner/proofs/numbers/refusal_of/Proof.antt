@@ -14,8 +14,8 @@ returns c =
     ∙ ap (λ (x : Told). plain x.number x.values x.place 0) t.told-by.ensures
     ∙ sym (ap refusal_of t.before.before.c.given.1)
 
-pub refusal-of-spec : {M : Type 1} → statement M
-refusal-of-spec =
+pub refusal_of_spec : {M : Type 1} → statement M
+refusal_of_spec =
     tie.close
     (tie.spec
     (λ c. search rules)

@@ -8,5 +8,5 @@ use Rattle.planner.proofs.open.available.Tie as tie
 returns : tie.Need-returns
 returns c = ap (λ (o : Opened). o.plan.available) c.before.before.open-plan.ensures
 
-pub available-spec : {M : Type 1} → statement M
-available-spec = tie.close (tie.spec (λ c κs. search rules) returns)
+pub available_spec : {M : Type 1} → statement M
+available_spec = tie.close (tie.spec (λ c κs. search rules) returns)

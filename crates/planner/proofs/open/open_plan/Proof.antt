@@ -11,5 +11,5 @@ returns : tie.Need-returns
 unfolding fault_of
 returns c = c.ordered.ensures ∙ ap (λ (r : Read). ordered_of r.plan r.fault) c.before.before.read-plan.ensures
 
-pub open-plan-spec : {M : Type 1} → statement M
-open-plan-spec = tie.close (tie.spec (λ c κs. search rules) (λ c κs. search rules) returns)
+pub open_plan_spec : {M : Type 1} → statement M
+open_plan_spec = tie.close (tie.spec (λ c κs. search rules) (λ c κs. search rules) returns)

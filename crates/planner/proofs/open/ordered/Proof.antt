@@ -10,5 +10,5 @@ returns c =
     let a = j.before.before.before.args in
     ordered-as a.q a.found j.joined.ensures c.before.before.of.ensures c.before.with-arcs.ensures c.or-circles.ensures
 
-pub ordered-spec : {M : Type 1} → statement M
-ordered-spec = tie.close (tie.spec (λ c κs. search rules) (λ c κs. search rules) (λ c κs. search rules) (λ c κs. search rules) returns)
+pub ordered_spec : {M : Type 1} → statement M
+ordered_spec = tie.close (tie.spec (λ c κs. search rules) (λ c κs. search rules) (λ c κs. search rules) (λ c κs. search rules) returns)

@@ -9,5 +9,5 @@ returns c =
     let r = c.before.before in
     read_as r.before.before.args.s.now r.read.ensures c.unread-fault.ensures
 
-pub read-plan-spec : {M : Type 1} → statement M
-read-plan-spec = tie.close (tie.spec (λ c κs. search rules) (λ c κs. search rules) returns)
+pub read_plan_spec : {M : Type 1} → statement M
+read_plan_spec = tie.close (tie.spec (λ c κs. search rules) (λ c κs. search rules) returns)

@@ -24,8 +24,8 @@ returns c =
     ∙ ap (more (text a.at a.out.now))
     (record_line_lem a.bytes.now x.wide.ensures.0 y.wide2.ensures.0 z.wide3.ensures.0 u.units.ensures e.wide4.ensures.0)
 
-pub put-record-spec : {M : Type 1} → statement M
-put-record-spec =
+pub put_record_spec : {M : Type 1} → statement M
+put_record_spec =
     tie.close
     (tie.spec
     (λ c. search rules)

@@ -44,8 +44,8 @@ returns c =
     let e = putting_end t.loop.invariant (omega arith) (omega arith) in
     (e.0 ∙ ap (more (text a.at a.out.now)) (flow_end a.n a.records.now), e.1)
 
-pub put-records-spec : {M : Type 1} → statement M
-put-records-spec =
+pub put_records_spec : {M : Type 1} → statement M
+put_records_spec =
     tie.close
     (tie.spec
     invariant-loop

@@ -12,8 +12,8 @@ returns c =
     let s = x.before.before.before in
     units_field s.args.bytes.now x.wide.ensures.0 y.wide2.ensures.0 z.wide3.ensures.0 c.wide4.ensures.0
 
-pub units-spec : {M : Type 1} → statement M
-units-spec =
+pub units_spec : {M : Type 1} → statement M
+units_spec =
     tie.close
     (tie.spec
     (λ c. search rules)

@@ -78,8 +78,8 @@ returns c =
     p.result q.result t.result s.requires.0 s.requires.1 s.requires.2 p.ensures q.ensures t.ensures
     l.result _ l.new.0 l.ensures i
 
-pub head-text-spec : {M : Type 1} → statement M
-head-text-spec =
+pub head_text_spec : {M : Type 1} → statement M
+head_text_spec =
     tie.close
     (tie.spec
     (λ c. search rules)

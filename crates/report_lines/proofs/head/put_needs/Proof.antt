@@ -48,8 +48,8 @@ returns c =
     (putting_end t.loop.invariant s.requires.1 (omega arith)).0
     ∙ ap (more (text a.at a.out.now)) (needs_end a.n a.needs.now a.available.now)
 
-pub put-needs-spec : {M : Type 1} → statement M
-put-needs-spec =
+pub put_needs_spec : {M : Type 1} → statement M
+put_needs_spec =
     tie.close
     (tie.spec
     invariant-loop

@@ -46,8 +46,8 @@ returns c =
     (putting_end t.loop.invariant s.requires.1 (omega arith)).0
     ∙ ap (more (text a.at a.out.now)) (starts_end a.m a.starts.now)
 
-pub put-starts-spec : {M : Type 1} → statement M
-put-starts-spec =
+pub put_starts_spec : {M : Type 1} → statement M
+put_starts_spec =
     tie.close
     (tie.spec
     invariant-loop

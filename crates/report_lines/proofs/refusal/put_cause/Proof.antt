@@ -22,8 +22,8 @@ returns c =
     let front = values_first s.args.numbers.now r.number r.first r.second r.values s.requires in
     (w.0, w.1 ∙ rw (v.plain-values.ensures, front) (ap refusal_numbers t.refusal-of.ensures))
 
-pub put-cause-spec : {M : Type 1} → statement M
-put-cause-spec =
+pub put_cause_spec : {M : Type 1} → statement M
+put_cause_spec =
     tie.close
     (tie.spec
     (λ c κs. search rules)

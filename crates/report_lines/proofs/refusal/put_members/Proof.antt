@@ -19,7 +19,7 @@ loop-holds c =
     let a = c.before.args in
     listed_none a.n (number_of a.set) a.numbers.now c.before.requires.1
 
-add-numbers : tie.Need-overflow-add-numbers invariant-loop decreases-loop
+add-numbers : tie.Need-overflow_add-numbers invariant-loop decreases-loop
 add-numbers c =
     let e = c.before.before in
     let t = e.before in
@@ -37,7 +37,7 @@ slice-write-numbers c =
       listed_room a.n (number_of a.set) a.numbers.now t.loop.end (number_of t.loop.left) t.loop.numbers t.loop.invariant some e.is-empty.ensures.1,
     )
 
-mul-numbers : tie.Need-overflow-mul-numbers invariant-loop decreases-loop
+mul-numbers : tie.Need-overflow_mul-numbers invariant-loop decreases-loop
 mul-numbers c =
     let e = c.before.before in
     let t = e.before in
@@ -51,7 +51,7 @@ mul-numbers c =
       );
     }
 
-add-end : tie.Need-overflow-add-end invariant-loop decreases-loop
+add-end : tie.Need-overflow_add-end invariant-loop decreases-loop
 add-end c =
     let e = c.before.before.before in
     let t = e.before in
@@ -92,8 +92,8 @@ returns c =
     listed_end a.n (number_of a.set) a.numbers.now t.loop.end (number_of t.loop.left) t.loop.numbers t.loop.invariant
     (none_left t.loop.left e.is-empty.result e.is-empty.ensures c.if1.false)
 
-pub put-members-spec : {M : Type 1} → statement M
-put-members-spec =
+pub put_members_spec : {M : Type 1} → statement M
+put_members_spec =
     tie.close
     (tie.spec
     invariant-loop

@@ -54,8 +54,8 @@ returns c =
     w.result w.new.0 w.ensures in
     (whole, within.0)
 
-pub refused-text-spec : {M : Type 1} → statement M
-refused-text-spec =
+pub refused_text_spec : {M : Type 1} → statement M
+refused_text_spec =
     tie.close
     (tie.spec
     (λ c. search rules)

@@ -44,8 +44,8 @@ returns-2 c =
     absurd (not_refused a.s.now s.requires.0 a.kind s.requires.1 s.requires.2 z.flow-buffer.result (omega arith) f.flow.ensures.0
     _ c.enum_told.given.1)
 
-pub put-flow-spec : {M : Type 1} → statement M
-put-flow-spec =
+pub put_flow_spec : {M : Type 1} → statement M
+put_flow_spec =
     tie.close
     (tie.spec
     (λ c κs. search rules)

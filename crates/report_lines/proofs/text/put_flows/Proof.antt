@@ -45,8 +45,8 @@ same_length c = putting_length c.before.loop.invariant (omega arith)
 returns : tie.Need-returns invariant-loop decreases-loop
 returns c = putting_end c.before.loop.invariant (omega arith) (omega arith)
 
-pub put-flows-spec : {M : Type 1} → statement M
-put-flows-spec =
+pub put_flows_spec : {M : Type 1} → statement M
+put_flows_spec =
     tie.close
     (tie.spec
     invariant-loop

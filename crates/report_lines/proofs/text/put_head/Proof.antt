@@ -23,8 +23,8 @@ returns c =
     head_read a.s.now s.requires.1 s.requires.2 s.requires.0 _ _ (omega arith) (omega arith) d.needs2.ensures.1 i.starts2.ensures.1
     r.available.ensures (text 0 a.out.now) h.head-text.ensures
 
-pub put-head-spec : {M : Type 1} → statement M
-put-head-spec =
+pub put_head_spec : {M : Type 1} → statement M
+put_head_spec =
     tie.close
     (tie.spec
     (λ c. search rules)

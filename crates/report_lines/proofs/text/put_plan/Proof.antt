@@ -22,8 +22,8 @@ returns c =
     let a = s.args in
     plan_end a.s.now s.requires.1 s.requires.2 a.out.now s.requires.3 h.put-head.ensures f.ensures.0 f.ensures.1
 
-pub put-plan-spec : {M : Type 1} → statement M
-put-plan-spec =
+pub put_plan_spec : {M : Type 1} → statement M
+put_plan_spec =
     tie.close
     (tie.spec
     (λ c κs. search rules)

@@ -31,8 +31,8 @@ returns-2 c =
     let a = v.before.before.before.args in
     (p.refused-text.ensures.0 ∙ ap (more (text 0 a.out.now)) (report_is a.s.now v.verdict.ensures d.decision2.given.1), counts_within _ _ p.refused-text.ensures.1)
 
-pub report-text-spec : {M : Type 1} → statement M
-report-text-spec =
+pub report_text_spec : {M : Type 1} → statement M
+report_text_spec =
     tie.close
     (tie.spec
     (λ c κs. search rules)

@@ -21,8 +21,8 @@ returns-2 c =
     let s = c.before.before.args in
     ap (λ (b : Bool). b && ltb s.next (s.finish + at s.waits.now (elements * s.j + s.i))) (sym (sym c.before.has.ensures ∙ c.if1.false))
 
-pub breaks-at-spec : {M : Type 1} → statement M
-breaks-at-spec =
+pub breaks_at_spec : {M : Type 1} → statement M
+breaks_at_spec =
     tie.close
     (tie.spec
     (λ c κs. search rules)

@@ -54,8 +54,8 @@ returns-2 c =
     let S = s.starts.now in
     first_end (length S) (λ k. ltb (broken_to (crew_net s.rows.now (with_waits s.worked.now s.waits.now) S) (at S) k) (length S)) a.loop.i a.loop.invariant.1 (omega arith)
 
-pub broken-from-spec : {M : Type 1} → statement M
-broken-from-spec =
+pub broken_from_spec : {M : Type 1} → statement M
+broken_from_spec =
     tie.close
     (tie.spec
     invariant-loop

@@ -60,8 +60,8 @@ returns-2 c =
     let s = a.before.before.before.before.before.before.before.before.args in
     first_end (length s.starts.now) (breaks (crew_net s.rows.now (with_waits s.worked.now s.waits.now) s.starts.now) (at s.starts.now) s.i) a.loop.j a.loop.invariant.2 (omega arith)
 
-pub broken-to-spec : {M : Type 1} → statement M
-broken-to-spec =
+pub broken_to_spec : {M : Type 1} → statement M
+broken_to_spec =
     tie.close
     (tie.spec
     invariant-loop

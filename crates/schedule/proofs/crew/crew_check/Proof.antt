@@ -11,7 +11,7 @@ use Rattle.schedule.proofs.Answers.{check_broken, check_over, check_fits}
 use Rattle.schedule.proofs.crew.crew_check.Statement.{statement}
 use Rattle.schedule.proofs.crew.crew_check.Tie as tie
 
-add-t14 : tie.Need-overflow-add-t14
+add-t14 : tie.Need-overflow_add-t14
 add-t14 c =
     let b = c.before.before in
     let s = b.before.before.before.args in
@@ -31,7 +31,7 @@ returns c =
     check_broken G W b.broken-from.result c.broken-to.result f (omega arith)
     c.broken-to.ensures
 
-add-t16 : tie.Need-overflow-add-t16
+add-t16 : tie.Need-overflow_add-t16
 add-t16 c =
     let b = c.before.before.before.before in
     let s = b.before.before.before.args in
@@ -61,8 +61,8 @@ returns-3 c =
     let f : b.broken-from.result ≡ broken_from G (at S) = b.broken-from.ensures in
     check_fits G W b.broken-from.result c.before.first-period.result f (omega arith) c.before.first-period.ensures (omega arith)
 
-pub crew-check-spec : {M : Type 1} → statement M
-crew-check-spec =
+pub crew_check_spec : {M : Type 1} → statement M
+crew_check_spec =
     tie.close
     (tie.spec
     (λ c κs. search rules)

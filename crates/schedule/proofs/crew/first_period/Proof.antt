@@ -41,8 +41,8 @@ returns c =
     let W = work_of s.demands.now s.available.now s.starts.now s.worked.now in
     best_all W a.loop.best (subst (λ (n : ℕ). Best W n a.loop.best) (omega arith) a.loop.invariant.1)
 
-pub first-period-spec : {M : Type 1} → statement M
-first-period-spec =
+pub first_period_spec : {M : Type 1} → statement M
+first_period_spec =
     tie.close
     (tie.spec
     invariant-loop

@@ -53,8 +53,8 @@ returns-2 c =
     let s = a.before.before.before.before.args in
     first_end 8 (exceeds (work_of s.demands.now s.available.now s.starts.now s.worked.now) s.t) a.loop.k a.loop.invariant.1 (omega arith)
 
-pub lowest-kind-spec : {M : Type 1} → statement M
-lowest-kind-spec =
+pub lowest_kind_spec : {M : Type 1} → statement M
+lowest_kind_spec =
     tie.close
     (tie.spec
     invariant-loop

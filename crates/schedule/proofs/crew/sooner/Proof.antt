@@ -23,5 +23,5 @@ returns-3 c =
 returns-4 : tie.Need-returns-4
 returns-4 c = sym (cond_false _ c.before.args.best c.if1.false)
 
-pub sooner-spec : {M : Type 1} → statement M
-sooner-spec = tie.close (tie.spec returns returns-2 returns-3 returns-4)
+pub sooner_spec : {M : Type 1} → statement M
+sooner_spec = tie.close (tie.spec returns returns-2 returns-3 returns-4)

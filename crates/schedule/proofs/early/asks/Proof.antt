@@ -11,5 +11,5 @@ returns c = sym (cond_true _ 0 (sym c.before.has.ensures ∙ c.if1.true))
 returns-2 : tie.Need-returns-2
 returns-2 c = sym (cond_false _ 0 (sym c.before.has.ensures ∙ c.if1.false))
 
-pub asks-spec : {M : Type 1} → statement M
-asks-spec = tie.close (tie.spec (λ c κs. search rules) returns returns-2)
+pub asks_spec : {M : Type 1} → statement M
+asks_spec = tie.close (tie.spec (λ c κs. search rules) returns returns-2)

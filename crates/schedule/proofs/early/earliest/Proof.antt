@@ -69,8 +69,8 @@ returns-2 c =
     let W = with_waits a.before.args.durations.now a.before.args.waits.now in
     a.loop.invariant.1 ∙ by_all R W (number_of a.loop.done) a.loop.-level (ranked R W a.before.requires.0) a.loop.invariant.2 (omega arith)
 
-pub earliest-spec : {M : Type 1} → statement M
-earliest-spec =
+pub earliest_spec : {M : Type 1} → statement M
+earliest_spec =
     tie.close
     (tie.spec
     invariant-loop

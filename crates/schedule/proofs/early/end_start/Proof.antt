@@ -20,7 +20,7 @@ loop-holds : tie.Need-loop-init invariant-loop decreases-loop
 unfolding maximum
 loop-holds c = (omega arith, refl)
 
-add-larger : tie.Need-overflow-add-larger invariant-loop decreases-loop
+add-larger : tie.Need-overflow_add-larger invariant-loop decreases-loop
 add-larger c =
     record { fits = c.before.before.before.before.requires.1 c.before.before.before.loop.i 0 (omega arith) }
 
@@ -34,8 +34,8 @@ unfolding end_of
 returns c =
     let e : c.before.loop.i ≡ c.before.before.args.m = omega arith in rw e at c.before.loop.invariant.1
 
-pub end-start-spec : {M : Type 1} → statement M
-end-start-spec =
+pub end_start_spec : {M : Type 1} → statement M
+end_start_spec =
     tie.close
     (tie.spec
     invariant-loop

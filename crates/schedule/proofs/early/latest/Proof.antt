@@ -26,12 +26,12 @@ loop-holds : tie.Need-loop-init invariant-loop decreases-loop
 unfolding maximum
 loop-holds c = (omega arith, refl)
 
-add_start : tie.Need-overflow-add-start invariant-loop decreases-loop
+add_start : tie.Need-overflow_add-start invariant-loop decreases-loop
 add_start c =
     let a = c.before.before.before.before in
     record { fits = omega (arith, a.before.requires.1 a.loop.i a.before.args.j (omega arith)) }
 
-add-start-2 : tie.Need-overflow-add-start-2 invariant-loop decreases-loop
+add-start-2 : tie.Need-overflow_add-start-2 invariant-loop decreases-loop
 add-start-2 c =
     let a = c.before.before.before.before in
     record { fits = omega (arith, a.before.requires.1 a.loop.i a.before.args.j (omega arith)) }
@@ -52,8 +52,8 @@ unfolding asked
 returns c =
     let e : c.before.loop.i ≡ elements = omega arith in rw e at c.before.loop.invariant.1
 
-pub latest-spec : {M : Type 1} → statement M
-latest-spec =
+pub latest_spec : {M : Type 1} → statement M
+latest_spec =
     tie.close
     (tie.spec
     invariant-loop

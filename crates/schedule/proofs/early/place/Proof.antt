@@ -22,7 +22,7 @@ decreases-loop rows durations waits before starts₀ left₀ starts left = numbe
 latest-requires : tie.Need-latest-requires invariant-loop decreases-loop
 latest-requires c κs = (listed_below _ _ c.before.before.is-empty.ensures c.before.if1.true c.lowest.ensures, c.before.before.before.before.requires)
 
-mul-starts : tie.Need-overflow-mul-starts invariant-loop decreases-loop
+mul-starts : tie.Need-overflow_mul-starts invariant-loop decreases-loop
 mul-starts c =
     let low = c.before in
     let p = listed_below _ _ low.before.before.is-empty.ensures low.before.if1.true low.lowest.ensures in
@@ -50,5 +50,5 @@ loop-again c =
 returns : tie.Need-returns invariant-loop decreases-loop
 returns c = listing_end _ _ c.before.is-empty.ensures _ _ c.before.before.loop.invariant c.if1.false
 
-pub place-spec : {M : Type 1} → statement M
-place-spec = tie.close (tie.spec invariant-loop decreases-loop (λ c. search rules) (λ c κs. search rules) (λ c κs. search rules) latest-requires mul-starts element-write-starts (λ c κs. search rules) loop-less loop-again returns)
+pub place_spec : {M : Type 1} → statement M
+place_spec = tie.close (tie.spec invariant-loop decreases-loop (λ c. search rules) (λ c κs. search rules) (λ c κs. search rules) latest-requires mul-starts element-write-starts (λ c κs. search rules) loop-less loop-again returns)

@@ -16,5 +16,5 @@ returns c =
     number_of_lem _ c.minus2.ensures
     ∙ ap (λ (x : ℕ). minus x (number_of done)) (number_of_lem _ c.before.minus.ensures ∙ ap₂ minus number_all c.before.before.waiting.ensures)
 
-pub ready-spec : {M : Type 1} → statement M
-ready-spec = tie.close (tie.spec (λ c κs. search rules) (λ c κs. search rules) (λ c κs. search rules) returns)
+pub ready_spec : {M : Type 1} → statement M
+ready_spec = tie.close (tie.spec (λ c κs. search rules) (λ c κs. search rules) (λ c κs. search rules) returns)

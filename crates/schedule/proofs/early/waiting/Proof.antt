@@ -49,5 +49,5 @@ returns c =
     ∙ ap₂ (each elements (step a.rows.now)) number_none (number_of_lem _ m.minus.ensures ∙ ap (λ (w : ℕ). minus w (number_of a.done)) number_all)
     ∙ waiting_members a.rows.now (number_of a.done)
 
-pub waiting-spec : {M : Type 1} → statement M
-waiting-spec = tie.close (tie.spec invariant-loop decreases-loop (λ c κs. search rules) (λ c. search rules) (λ c κs. search rules) (λ c κs. search rules) row-requires (λ c κs. search rules) (λ c κs. search rules) loop-less loop-again returns)
+pub waiting_spec : {M : Type 1} → statement M
+waiting_spec = tie.close (tie.spec invariant-loop decreases-loop (λ c κs. search rules) (λ c. search rules) (λ c κs. search rules) (λ c κs. search rules) row-requires (λ c κs. search rules) (λ c κs. search rules) loop-less loop-again returns)

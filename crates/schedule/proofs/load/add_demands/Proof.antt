@@ -30,7 +30,7 @@ loop-holds : tie.Need-loop-init invariant-loop decreases-loop
 loop-holds c = (omega arith, c.requires.1, below_none _, (λ x l. refl), (λ x. omega (arith, c.requires.2 x)))
 
 -- the kind at hand is as it was, so it has room for one demand more
-add-load : tie.Need-overflow-add-load invariant-loop decreases-loop
+add-load : tie.Need-overflow_add-load invariant-loop decreases-loop
 add-load c =
     let a = c.before.before.before.before in
     record { fits = omega (arith, a.loop.invariant.3 a.loop.k (omega arith), a.before.requires.2 a.loop.k, c.wide.ensures.1) }
@@ -60,8 +60,8 @@ returns c =
       a.loop.invariant.4,
     )
 
-pub add-demands-spec : {M : Type 1} → statement M
-add-demands-spec =
+pub add_demands_spec : {M : Type 1} → statement M
+add_demands_spec =
     tie.close
     (tie.spec
     invariant-loop

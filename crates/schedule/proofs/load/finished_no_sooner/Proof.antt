@@ -9,5 +9,5 @@ use Rattle.schedule.proofs.load.finished_no_sooner.Tie as tie
 returns : tie.Need-returns
 returns c = ap₂ (λ (x y : ℕ). leb c.before.before.args.t (x + y)) c.before.wide.ensures.0 c.wide2.ensures.0
 
-pub finished-no-sooner-spec : {M : Type 1} → statement M
-finished-no-sooner-spec = tie.close (tie.spec (λ c κs. search rules) (λ c κs. search rules) (λ c. search rules) returns)
+pub finished_no_sooner_spec : {M : Type 1} → statement M
+finished_no_sooner_spec = tie.close (tie.spec (λ c κs. search rules) (λ c κs. search rules) (λ c. search rules) returns)

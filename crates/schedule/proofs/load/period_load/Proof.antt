@@ -65,8 +65,8 @@ returns c =
     let e : a.loop.i ≡ length s.starts.now = omega arith in
     rw e at a.loop.invariant.2
 
-pub period-load-spec : {M : Type 1} → statement M
-period-load-spec =
+pub period_load_spec : {M : Type 1} → statement M
+period_load_spec =
     tie.close
     (tie.spec
     invariant-loop

@@ -9,5 +9,5 @@ use Rattle.schedule.proofs.load.started_by.Tie as tie
 returns : tie.Need-returns
 returns c = ap (λ (x : ℕ). leb x c.before.args.time) c.wide.ensures.0
 
-pub started-by-spec : {M : Type 1} → statement M
-started-by-spec = tie.close (tie.spec (λ c κs. search rules) returns)
+pub started_by_spec : {M : Type 1} → statement M
+started_by_spec = tie.close (tie.spec (λ c κs. search rules) returns)

@@ -18,7 +18,7 @@ invariant-loop flow₀ givers₀ left₀ right₀ lefts rights at j₀ k₀ flow
 abbrev decreases-loop : tie.decreases-loop
 decreases-loop flow₀ givers₀ left₀ right₀ lefts rights at j₀ k₀ flow givers left right j k = elements - k
 
-mul-p : tie.Need-overflow-mul-p invariant-loop decreases-loop
+mul-p : tie.Need-overflow_mul-p invariant-loop decreases-loop
 mul-p c = omega (arith, masked (get_or c.before.before.before.args.rights.now c.before.before.loop.j 0))
 
 element-copy-out-p : tie.Need-element-copy-out-p invariant-loop decreases-loop
@@ -50,8 +50,8 @@ loop-again c =
 returns-2 : tie.Need-returns-2 invariant-loop decreases-loop
 returns-2 c = run_end _ _ _ _ elements _ _ c.loop-test.false c.before.loop.invariant.0
 
-pub augment-spec : {M : Type 1} → statement M
-augment-spec =
+pub augment_spec : {M : Type 1} → statement M
+augment_spec =
     tie.close
     (tie.spec
     invariant-loop

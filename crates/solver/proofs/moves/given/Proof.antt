@@ -11,5 +11,5 @@ returns c = given_none _ _ _ (number_of_lem _ c.without.ensures) c.before.if1.tr
 returns-2 : tie.Need-returns-2
 returns-2 c = given_some _ _ _ (number_of_lem _ c.with.ensures) c.before.if1.false
 
-pub given-spec : {M : Type 1} → statement M
-given-spec = tie.close (tie.spec (λ c κs. search rules) (λ c κs. search rules) returns returns-2)
+pub given_spec : {M : Type 1} → statement M
+given_spec = tie.close (tie.spec (λ c κs. search rules) (λ c κs. search rules) returns returns-2)

@@ -42,5 +42,5 @@ loop-again c =
 returns-2 : tie.Need-returns-2 invariant-loop decreases-loop
 returns-2 c = listing_end _ _ c.before.is-empty.ensures _ _ c.before.before.loop.invariant c.if1.false
 
-pub hand-spec : {M : Type 1} → statement M
-hand-spec = tie.close (tie.spec invariant-loop decreases-loop (λ c. search rules) (λ c κs. search rules) (λ c. search rules) (λ c. search rules) returns (λ c κs. search rules) pass-requires (λ c κs. search rules) loop-less loop-again returns-2)
+pub hand_spec : {M : Type 1} → statement M
+hand_spec = tie.close (tie.spec invariant-loop decreases-loop (λ c. search rules) (λ c κs. search rules) (λ c. search rules) (λ c. search rules) returns (λ c κs. search rules) pass-requires (λ c κs. search rules) loop-less loop-again returns-2)

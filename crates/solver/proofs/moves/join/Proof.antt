@@ -10,8 +10,8 @@ returns c =
     let sum = at.before.before.before in
     joins _ _ _ _ _ _ _ _ _ _ sum.before.before.smaller.ensures sum.wrapping-add-u32.ensures at.store.ensures
 
-pub join-spec : {M : Type 1} → statement M
-join-spec =
+pub join_spec : {M : Type 1} → statement M
+join_spec =
     tie.close
     (tie.spec
     (λ c. search rules)

@@ -12,8 +12,8 @@ returns c =
     λ l. shifts _ _ l _ _ _ _ _ _ _ _ _ _ _ first.before.before.before.before.smaller.ensures first.store.ensures
     sum.wrapping-add-u32.ensures second.store2.ensures c.wrapping-add-u322.ensures
 
-pub shift-spec : {M : Type 1} → statement M
-shift-spec =
+pub shift_spec : {M : Type 1} → statement M
+shift_spec =
     tie.close
     (tie.spec
     (λ c. search rules)

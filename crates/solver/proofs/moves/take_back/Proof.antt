@@ -44,6 +44,6 @@ returns : tie.Need-returns invariant-loop decreases-loop
 unfolding taken_back
 returns c = listing_end _ _ c.before.is-empty.ensures (taken_from c.before.before.before.args.givers.now) _ c.before.before.loop.invariant c.if1.false
 
-pub take-back-spec : {M : Type 1} → statement M
-take-back-spec =
+pub take_back_spec : {M : Type 1} → statement M
+take_back_spec =
     tie.close (tie.spec invariant-loop decreases-loop (λ c. search rules) (λ c κs. search rules) (λ c κs. search rules) row-requires take-from-requires (λ c κs. search rules) loop-less loop-again returns)

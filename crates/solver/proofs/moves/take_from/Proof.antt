@@ -14,17 +14,17 @@ invariant-loop flow₀ j w₀ flow w = each elements (dropping j) flow (number_o
 abbrev decreases-loop : tie.decreases-loop
 decreases-loop flow₀ j w₀ flow w = number_of w
 
-mul_at : tie.Need-overflow-mul-at invariant-loop decreases-loop
+mul_at : tie.Need-overflow_mul-at invariant-loop decreases-loop
 mul_at c =
     let p = listed_below _ _ c.before.before.is-empty.ensures c.before.if1.true c.lowest.ensures in
     omega arith
 
-add_at : tie.Need-overflow-add-at invariant-loop decreases-loop
+add_at : tie.Need-overflow_add-at invariant-loop decreases-loop
 add_at c =
     let p = listed_below _ _ c.before.before.is-empty.ensures c.before.if1.true c.lowest.ensures in
     omega (arith, c.before.before.before.before.requires)
 
-mul-flow : tie.Need-overflow-mul-flow invariant-loop decreases-loop
+mul-flow : tie.Need-overflow_mul-flow invariant-loop decreases-loop
 mul-flow c =
     let p = listed_below _ _ c.before.before.is-empty.ensures c.before.if1.true c.lowest.ensures in
     omega (arith, c.before.before.before.before.requires)

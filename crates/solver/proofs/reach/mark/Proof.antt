@@ -13,7 +13,7 @@ invariant-loop parents₀ from w₀ parents w = marks parents (number_of w) from
 abbrev decreases-loop : tie.decreases-loop
 decreases-loop parents₀ from w₀ parents w = number_of w
 
-mul-parents : tie.Need-overflow-mul-parents invariant-loop decreases-loop
+mul-parents : tie.Need-overflow_mul-parents invariant-loop decreases-loop
 mul-parents c =
     let p = listed_below _ _ c.before.before.is-empty.ensures c.before.if1.true c.lowest.ensures in
     omega arith

@@ -53,5 +53,5 @@ returns-2 c =
     ∙ from-roots a.rows.now a.givers.now (number_of a.slack) a.lefts.now a.rights.now (number_of a.able) (number_of a.roots)
     (number_of_lem _ first.meet.ensures)
 
-pub seek-spec : {M : Type 1} → statement M
-seek-spec = tie.close (tie.spec invariant-loop decreases-loop (λ c κs. search rules) (λ c. search rules) (λ c κs. search rules) returns turn-requires (λ c. search rules) (λ c. search rules) loop-again returns-2)
+pub seek_spec : {M : Type 1} → statement M
+seek_spec = tie.close (tie.spec invariant-loop decreases-loop (λ c κs. search rules) (λ c. search rules) (λ c κs. search rules) returns turn-requires (λ c. search rules) (λ c. search rules) loop-again returns-2)

@@ -42,5 +42,5 @@ loop-again c =
 returns : tie.Need-returns invariant-loop decreases-loop
 returns c = listing_end _ _ c.before.is-empty.ensures _ _ c.before.before.loop.invariant c.if1.false
 
-pub spread-spec : {M : Type 1} → statement M
-spread-spec = tie.close (tie.spec invariant-loop decreases-loop (λ c. search rules) (λ c κs. search rules) (λ c κs. search rules) row-requires (λ c κs. search rules) (λ c κs. search rules) (λ c κs. search rules) (λ c κs. search rules) loop-less loop-again returns)
+pub spread_spec : {M : Type 1} → statement M
+spread_spec = tie.close (tie.spec invariant-loop decreases-loop (λ c. search rules) (λ c κs. search rules) (λ c κs. search rules) row-requires (λ c κs. search rules) (λ c κs. search rules) (λ c κs. search rules) (λ c κs. search rules) loop-less loop-again returns)

@@ -13,5 +13,5 @@ refusal-code-requires c κs = subst (λ (x : Refusal). refusal_code x < 2 ^ 64) 
 returns : tie.Need-returns
 returns c = c.refusal-code.ensures ∙ ap refusal_code c.before.refusal-of.ensures
 
-pub cause-code-spec : {M : Type 1} → statement M
-cause-code-spec = tie.close (tie.spec (λ c κs. search rules) refusal-code-requires returns)
+pub cause_code_spec : {M : Type 1} → statement M
+cause_code_spec = tie.close (tie.spec (λ c κs. search rules) refusal-code-requires returns)

@@ -10,5 +10,5 @@ use Rattle.yaffledesk.proofs.codes.cause_word.Tie as tie
 returns : tie.Need-returns
 returns c = c.first_word.ensures ∙ ap (λ (x : Refusal). number_of x.set % 2 ^ 64) c.before.before.refusal-of.ensures
 
-pub cause-word-spec : {M : Type 1} → statement M
-cause-word-spec = tie.close (tie.spec (λ c κs. search rules) (λ c κs. search rules) returns)
+pub cause_word_spec : {M : Type 1} → statement M
+cause_word_spec = tie.close (tie.spec (λ c κs. search rules) (λ c κs. search rules) returns)

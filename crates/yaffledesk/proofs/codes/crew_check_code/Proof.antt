@@ -19,8 +19,8 @@ cause-code-requires c κs = subst (λ (x : CrewChecked). crew_check_code x < 2 ^
 returns-2 : tie.Need-returns-2
 returns-2 c = c.cause-code.ensures ∙ sym (ap crew_check_code c.before.before.c2.given.1)
 
-pub crew-check-code-spec : {M : Type 1} → statement M
-crew-check-code-spec =
+pub crew_check_code_spec : {M : Type 1} → statement M
+crew_check_code_spec =
     tie.close
     (tie.spec
     (λ c. search rules)

@@ -24,8 +24,8 @@ returns-2 : tie.Need-returns-2
 unfolding output_code
 returns-2 c = c.cause-code.ensures ∙ sym (ap output_code c.before.before.o2.given.1)
 
-pub output-code-spec : {M : Type 1} → statement M
-output-code-spec =
+pub output_code_spec : {M : Type 1} → statement M
+output_code_spec =
     tie.close
     (tie.spec
     (λ c. search rules)

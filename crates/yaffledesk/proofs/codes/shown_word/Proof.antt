@@ -13,5 +13,5 @@ returns c = sym (ap (λ (x : Decision). shown_word x % 2 ^ 64) c.before.v.given.
 returns-2 : tie.Need-returns-2
 returns-2 c = c.cause-word.ensures ∙ sym (ap (λ (x : Decision). shown_word x % 2 ^ 64) c.before.before.v2.given.1)
 
-pub shown-word-spec : {M : Type 1} → statement M
-shown-word-spec = tie.close (tie.spec (λ c. search rules) (λ c. search rules) (λ c κs. search rules) returns returns-2)
+pub shown_word_spec : {M : Type 1} → statement M
+shown_word_spec = tie.close (tie.spec (λ c. search rules) (λ c. search rules) (λ c κs. search rules) returns returns-2)

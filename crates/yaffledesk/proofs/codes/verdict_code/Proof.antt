@@ -8,10 +8,10 @@ use borrow.Author.Rules.{rules}
 use Rattle.yaffledesk.proofs.codes.verdict_code.Statement.{statement}
 use Rattle.yaffledesk.proofs.codes.verdict_code.Tie as tie
 
-mul-pack : tie.Need-overflow-mul-pack
+mul-pack : tie.Need-overflow_mul-pack
 mul-pack c = record { fits = omega (arith, subst (λ (x : Decision). verdict_code x < 2 ^ 64) c.before.v.given.1 c.before.before.before.requires) }
 
-add-pack : tie.Need-overflow-add-pack
+add-pack : tie.Need-overflow_add-pack
 add-pack c = record { fits = omega (arith, subst (λ (x : Decision). verdict_code x < 2 ^ 64) c.before.v.given.1 c.before.before.before.requires) }
 
 pack-requires : tie.Need-pack-requires
@@ -26,8 +26,8 @@ cause-code-requires c κs = subst (λ (x : Decision). verdict_code x < 2 ^ 64) c
 returns-2 : tie.Need-returns-2
 returns-2 c = c.cause-code.ensures ∙ sym (ap verdict_code c.before.before.v2.given.1)
 
-pub verdict-code-spec : {M : Type 1} → statement M
-verdict-code-spec =
+pub verdict_code_spec : {M : Type 1} → statement M
+verdict_code_spec =
     tie.close
     (tie.spec
     (λ c. search rules)

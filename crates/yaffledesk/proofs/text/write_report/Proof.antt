@@ -16,5 +16,5 @@ returns-2 c =
     let a = e.before.before.before.args in
     report_written a.plan.now a.out.now e.if1.false w.report-text.ensures.0
 
-pub write-report-spec : {M : Type 1} → statement M
-write-report-spec = tie.close (tie.spec returns (λ c κs. search rules) (λ c. search rules) returns-2)
+pub write_report_spec : {M : Type 1} → statement M
+write_report_spec = tie.close (tie.spec returns (λ c κs. search rules) (λ c. search rules) returns-2)

@@ -20,5 +20,5 @@ returns-3 c =
     let a = c.before.before.before.before.before.args in
     bad_work a.m a.durations.now a.starts.now a.worked.now (omega arith) (omega arith) c.some-misworked.ensures
 
-pub bad-lists-spec : {M : Type 1} → statement M
-bad-lists-spec = tie.close (tie.spec returns returns-2 (λ c κs. search rules) returns-3)
+pub bad_lists_spec : {M : Type 1} → statement M
+bad_lists_spec = tie.close (tie.spec returns returns-2 (λ c κs. search rules) returns-3)

@@ -12,5 +12,5 @@ returns c = sym (ap (λ (x : Fault). checked_of x c.before.before.args.value) c.
 returns-2 : tie.Need-returns-2
 returns-2 c = sym (ap (λ (x : Fault). checked_of x c.before.before.before.args.value) c.before.fault.given.1)
 
-pub checked-of-spec : {M : Type 1} → statement M
-checked-of-spec = tie.close (tie.spec (λ c. search rules) (λ c. search rules) returns returns-2)
+pub checked_of_spec : {M : Type 1} → statement M
+checked_of_spec = tie.close (tie.spec (λ c. search rules) (λ c. search rules) returns returns-2)

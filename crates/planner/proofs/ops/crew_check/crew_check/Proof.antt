@@ -50,8 +50,8 @@ returns-2 c =
     let t = c.before.before.before.before.before in
     answered (s t) (starts t) (worked t) (o t).open-plan.ensures _ (found t) c.checked-of2.ensures (λ _. c.before.found_in.ensures)
 
-pub crew-check-spec : {M : Type 1} → statement M
-crew-check-spec =
+pub crew_check_spec : {M : Type 1} → statement M
+crew_check_spec =
     tie.close
     (tie.spec
     (λ c κs. search rules)

@@ -25,5 +25,5 @@ returns c =
     ∙ check_weights (length a.starts.now) (after a.rows.now) _ _
     (λ i j l h. weights_in a.s.now a.worked.now i j (omega (arith, listed.few)) (omega (arith, listed.few))) work
 
-pub found-in-spec : {M : Type 1} → statement M
-found-in-spec = tie.close (tie.spec (λ c κs. search rules) (λ c κs. search rules) returns)
+pub found_in_spec : {M : Type 1} → statement M
+found_in_spec = tie.close (tie.spec (λ c κs. search rules) (λ c κs. search rules) returns)

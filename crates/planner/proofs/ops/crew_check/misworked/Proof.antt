@@ -9,5 +9,5 @@ returns c = rw (eq-eqb c.before.args.duration 0 c.if1.true)
 returns-2 : tie.Need-returns-2
 returns-2 c = rw (ne_eqb c.before.args.duration 0 c.if1.false)
 
-pub misworked-spec : {M : Type 1} → statement M
-misworked-spec = tie.close (tie.spec returns returns-2)
+pub misworked_spec : {M : Type 1} → statement M
+misworked_spec = tie.close (tie.spec returns returns-2)

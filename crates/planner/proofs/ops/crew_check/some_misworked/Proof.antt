@@ -40,8 +40,8 @@ returns-2 c =
     let a = b.before.before.args in
     sym (some_none (length a.worked.now) (λ i. misworked (get_or a.durations.now i 0) (get_or a.worked.now i 0)) (λ k l. b.loop.invariant.1 k (omega arith)))
 
-pub some-misworked-spec : {M : Type 1} → statement M
-some-misworked-spec =
+pub some_misworked_spec : {M : Type 1} → statement M
+some_misworked_spec =
     tie.close
     (tie.spec
     invariant-loop

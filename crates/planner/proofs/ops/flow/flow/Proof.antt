@@ -49,7 +49,7 @@ returns c =
     let t = c.before.before in
     refused (found t) (flow_count (plan_in (s t)) (kind t - 1)) (record_bytes (plan_in (s t)) (kind t - 1)) (out t) c.before.if1.true c.output-of.ensures
 
-sub-k : tie.Need-overflow-sub-k
+sub-k : tie.Need-overflow_sub-k
 sub-k c = let t = c.before in positive (s t) (kind t) (out t) (bytes t) (o t).open-plan.ensures (goes_on (found t) c.if1.false)
 
 write-records-requires : tie.Need-write-records-requires
@@ -67,8 +67,8 @@ returns-2 c =
     let w = written (s t) (kind t) (out t) (bytes t) (o t).open-plan.ensures (goes_on (found t) h.if1.false) p.write-records.ensures in
     done (found t) (flow_count (plan_in (s t)) (kind t - 1)) (record_bytes (plan_in (s t)) (kind t - 1)) (out t) h.if1.false c.output-of2.ensures w.0 w.1
 
-pub flow-spec : {M : Type 1} → statement M
-flow-spec =
+pub flow_spec : {M : Type 1} → statement M
+flow_spec =
     tie.close
     (tie.spec
     (λ c κs. search rules)

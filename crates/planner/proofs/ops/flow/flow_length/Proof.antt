@@ -11,22 +11,22 @@ use Rattle.planner.proofs.ops.flow.flow_length.Tie as tie
 returns : tie.Need-returns
 returns c = length_none c.before.args.m (omega arith)
 
-mul-result : tie.Need-overflow-mul-result
+mul-result : tie.Need-overflow_mul-result
 mul-result c = record { fits = omega (arith, pairs_few elements c.before.args.m (omega arith)) }
 
-add-result : tie.Need-overflow-add-result
+add-result : tie.Need-overflow_add-result
 add-result c = record { fits = omega (arith, pairs_few elements c.before.args.m (omega arith)) }
 
-add-result-2 : tie.Need-overflow-add-result-2
+add-result-2 : tie.Need-overflow_add-result-2
 add-result-2 c = record { fits = omega (arith, pairs_few elements c.before.args.m (omega arith)) }
 
-mul-result-3 : tie.Need-overflow-mul-result-3
+mul-result-3 : tie.Need-overflow_mul-result-3
 mul-result-3 c = record { fits = omega (arith, pairs_few elements c.before.args.m (omega arith)) }
 
 returns-2 : tie.Need-returns-2
 unfolding flow_length
 returns-2 c = search rules
 
-pub flow-length-spec : {M : Type 1} → statement M
-flow-length-spec =
+pub flow_length_spec : {M : Type 1} → statement M
+flow_length_spec =
     tie.close (tie.spec returns (λ c. search rules) mul-result (λ c. search rules) add-result add-result-2 mul-result-3 returns-2)

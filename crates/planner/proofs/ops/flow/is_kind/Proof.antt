@@ -14,5 +14,5 @@ returns-2 c =
     let a = c.before.args in
     kind_some a.kind a.n (omega arith)
 
-pub is-kind-spec : {M : Type 1} → statement M
-is-kind-spec = tie.close (tie.spec returns returns-2)
+pub is_kind_spec : {M : Type 1} → statement M
+is_kind_spec = tie.close (tie.spec returns returns-2)

@@ -57,8 +57,8 @@ returns-2 c =
     done_over (found t) (plan_in (s t)).kinds (need_numbers (s t)) (out t) h.if1.false c.output-of2.ensures (counted (s t) (out t) held) (length_numbers (s t))
     (written (s t) (out t) held (bytes t) (goes_on (found t) h.if1.false) n.needs-of.ensures p.put-numbers.ensures)
 
-pub needs-spec : {M : Type 1} → statement M
-needs-spec =
+pub needs_spec : {M : Type 1} → statement M
+needs_spec =
     tie.close
     (tie.spec
     (λ c κs. search rules)

@@ -37,8 +37,8 @@ returns c =
     let e : at.loop.k ≡ a.n = omega arith in
     at.loop.invariant.2 ∙ ap (λ (x : ℕ). over x a.t2 a.out.now) e
 
-pub put-numbers-spec : {M : Type 1} → statement M
-put-numbers-spec =
+pub put_numbers_spec : {M : Type 1} → statement M
+put_numbers_spec =
     tie.close
     (tie.spec
     invariant-loop

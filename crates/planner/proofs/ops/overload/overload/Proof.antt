@@ -59,8 +59,8 @@ returns-2 c =
     (counted (s t) (out t) held (bytes t) e v.lowest_of.ensures p.put-overload.ensures.0)
     (written (s t) (out t) held (bytes t) e v.lowest_of.ensures p.put-overload.ensures.1)
 
-pub overload-spec : {M : Type 1} → statement M
-overload-spec =
+pub overload_spec : {M : Type 1} → statement M
+overload_spec =
     tie.close
     (tie.spec
     (λ c κs. search rules)

@@ -50,8 +50,8 @@ returns-2 c =
     let t = h.before in
     done (found t) (pages_of (n t)) (written t) (out t) h.if1.false c.output-of2.ensures t.before.before.before.pages.ensures p.write-page.ensures.1
 
-pub print-page-spec : {M : Type 1} → statement M
-print-page-spec =
+pub print_page_spec : {M : Type 1} → statement M
+print_page_spec =
     tie.close
     (tie.spec
     (λ c κs. search rules)

@@ -61,7 +61,7 @@ starts-of-requires c κs =
     let t = h.before in
     starts_asked (s t) (kind t) (page t) (out t) (bytes t) (o t).open-plan.ensures (goes_on (found t) h.if1.false)
 
-sub-write-records : tie.Need-overflow-sub-write-records
+sub-write-records : tie.Need-overflow_sub-write-records
 sub-write-records c =
     let h = c.before.before.before.before.before in
     let t = h.before in
@@ -91,8 +91,8 @@ returns-2 c =
     printed (s t) (kind t) (page t) (out t) (bytes t) (o t).open-plan.ensures (goes_on (found t) h.if1.false) w.write-records.ensures b.starts-of.ensures
     p.print-page.ensures.0 p.print-page.ensures.1
 
-pub sheet-spec : {M : Type 1} → statement M
-sheet-spec =
+pub sheet_spec : {M : Type 1} → statement M
+sheet_spec =
     tie.close
     (tie.spec
     (λ c κs. search rules)

@@ -23,6 +23,6 @@ returns c =
     let end = put.before.before.before in
     put.put-starts.ensures ∙ rw (end.end-start.ensures, end.before.before.before.first-starts.ensures) refl
 
-pub starts-of-spec : {M : Type 1} → statement M
-starts-of-spec =
+pub starts_of_spec : {M : Type 1} → statement M
+starts_of_spec =
     tie.close (tie.spec (λ c κs. search rules) end-start-requires (λ c. search rules) (λ c κs. search rules) returns)

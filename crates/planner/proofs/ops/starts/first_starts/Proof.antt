@@ -27,5 +27,5 @@ returns c =
     ∙ ap (λ (waits : List ℕ). starts_of a.rows.now (with_waits a.durations.now waits)) read.store-waits.ensures
     ∙ starts_weights a.rows.now _ _ (weights_in a.s.now a.durations.now)
 
-pub first-starts-spec : {M : Type 1} → statement M
-first-starts-spec = tie.close (tie.spec (λ c κs. search rules) earliest-requires returns)
+pub first_starts_spec : {M : Type 1} → statement M
+first_starts_spec = tie.close (tie.spec (λ c κs. search rules) earliest-requires returns)

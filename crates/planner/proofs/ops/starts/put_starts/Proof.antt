@@ -38,5 +38,5 @@ returns c =
     let e : at.loop.i ≡ a.m = omega arith in
     put_next a.m a.starts.now a.end a.m a.end a.out.now at.loop.out (omega arith) (omega arith) (at.loop.invariant.2 ∙ ap (λ (x : ℕ). over x (with_end a.m a.starts.now a.end) a.out.now) e) (sym (at_end a.m a.starts.now a.end))
 
-pub put-starts-spec : {M : Type 1} → statement M
-put-starts-spec = tie.close (tie.spec invariant-loop decreases-loop loop-holds (λ c. search rules) (λ c. search rules) (λ c. search rules) (λ c. search rules) (λ c. search rules) (λ c. search rules) loop-again (λ c. search rules) (λ c. search rules) same_length returns)
+pub put_starts_spec : {M : Type 1} → statement M
+put_starts_spec = tie.close (tie.spec invariant-loop decreases-loop loop-holds (λ c. search rules) (λ c. search rules) (λ c. search rules) (λ c. search rules) (λ c. search rules) (λ c. search rules) loop-again (λ c. search rules) (λ c. search rules) same_length returns)

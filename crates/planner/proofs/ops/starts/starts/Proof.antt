@@ -12,7 +12,7 @@ use borrow.Author.Rules.{rules}
 use Rattle.planner.proofs.ops.starts.starts.Statement.{statement}
 use Rattle.planner.proofs.ops.starts.starts.Tie as tie
 
-add-needed : tie.Need-overflow-add-needed
+add-needed : tie.Need-overflow_add-needed
 add-needed c = record { fits = omega (arith, opened_few c.before.before.before.before.args.s.now c.before.open-plan.ensures) }
 
 -- what the code has found when it looks at its fault
@@ -70,8 +70,8 @@ returns-2 c =
     done_over (found t) (needed (s t)) (start_numbers (s t)) (out t) h.if1.false c.output-of2.ensures (counted (s t) (out t) held) (length_numbers (s t))
     (written (s t) (out t) held f.first-starts.ensures e.end-start.ensures p.put-starts.ensures)
 
-pub starts-spec : {M : Type 1} → statement M
-starts-spec =
+pub starts_spec : {M : Type 1} → statement M
+starts_spec =
     tie.close
     (tie.spec
     (λ c κs. search rules)

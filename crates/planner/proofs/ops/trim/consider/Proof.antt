@@ -91,8 +91,8 @@ closing-requires c κs =
     let rows = c.before.joined.result in
     (search rules, words_fit rows (λ k. let f : Fits w64 (get_or rows k 0) = search rules in f.fits))
 
-pub consider-spec : {M : Type 1} → statement M
-consider-spec =
+pub consider_spec : {M : Type 1} → statement M
+consider_spec =
     tie.close
     (tie.spec (λ c κs. search rules) (λ c κs. search rules) returns (λ c κs. search rules) (λ c κs. search rules) returns-2 (λ c κs. search rules) (λ c κs. search rules)
     closing-requires (λ c κs. search rules) returns-3 returns-4)

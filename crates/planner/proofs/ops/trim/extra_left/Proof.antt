@@ -29,7 +29,7 @@ store-free-requires c κs =
 few : (c : tie.Start invariant-loop decreases-loop) → c.args.q.count ≤ elements
 few c = subst (λ (q : Plan). q.count ≤ elements) (sym c.requires.1) (count_few c.args.s.now)
 
-mul-pairs : tie.Need-overflow-mul-pairs invariant-loop decreases-loop
+mul-pairs : tie.Need-overflow_mul-pairs invariant-loop decreases-loop
 mul-pairs c =
     let h = few c.before.before.before.before.before.before.before.before in
     search (rules, h)
@@ -47,7 +47,7 @@ consider-requires c κs =
     trim_asked start.args.s.now (λ i. omega (arith, known.shared-slice-known.given i)) start.requires.0 start.requires.1 start.requires.3 b.loop.x (omega arith)
     (b.loop.invariant.0 (λ i. omega (arith, known.shared-slice-known.given i)) start.requires.0)
 
-add-x : tie.Need-overflow-add-x invariant-loop decreases-loop
+add-x : tie.Need-overflow_add-x invariant-loop decreases-loop
 add-x c =
     let turn = c.before.before.before.before.before.before.before in
     let h = few turn.before.before.before.before.before.before.before.before.before.before in
@@ -74,7 +74,7 @@ returns c =
     let bytes : AreBytes start.args.s.now = λ i. omega (arith, known.shared-slice-known.given i) in
     trim_all start.args.s.now bytes start.requires.0 start.requires.1 start.requires.3 b.loop.x (omega arith) (b.loop.invariant.0 bytes start.requires.0)
 
-pub extra-left-spec : {M : Type 1} → statement M
-extra-left-spec =
+pub extra_left_spec : {M : Type 1} → statement M
+extra_left_spec =
     tie.close
     (tie.spec invariant-loop decreases-loop store-free-requires (λ c κs. search rules) mul-pairs loop-holds consider-requires add-x (λ c. search rules) loop-again returns)

@@ -35,7 +35,7 @@ returns-2 c =
     ∙ ap (λ (s : Set). some_before a.afters.now s a.j) o
     ∙ follows_or a.job.now a.extra.now a.afters.now a.i a.j (h.has.ensures ∙ ap (λ (s : Set). member s a.j) o) c.before.if1.false
 
-pub follows-spec : {M : Type 1} → statement M
-follows-spec =
+pub follows_spec : {M : Type 1} → statement M
+follows_spec =
     tie.close
     (tie.spec (λ c κs. search rules) (λ c κs. search rules) (λ c κs. search rules) (λ c κs. search rules) (λ c κs. search rules) returns (λ c κs. search rules) returns-2)

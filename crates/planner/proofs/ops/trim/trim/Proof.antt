@@ -63,8 +63,8 @@ returns-2 c =
     let w = written (s t) (out t) (bytes t) (o t).open-plan.ensures (goes_on (found t) h.if1.false) x.extra_left.ensures p.write-staying.ensures.0 p.write-staying.ensures.1 in
     done (found t) (record_count (trimmed_file (s t))) (trimmed_file (s t)) (out t) h.if1.false c.output-of2.ensures w.0 w.1
 
-pub trim-spec : {M : Type 1} → statement M
-trim-spec =
+pub trim_spec : {M : Type 1} → statement M
+trim_spec =
     tie.close
     (tie.spec
     (λ c κs. search rules)

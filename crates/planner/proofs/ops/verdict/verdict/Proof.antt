@@ -19,5 +19,5 @@ returns c =
     let bytes = o.before.shared-slice-known.given in
     answered o.before.before.args.s.now (λ i. omega (arith, bytes i)) o.open-plan.ensures c.before.or-overloaded.ensures c.verdict-of.ensures
 
-pub verdict-spec : {M : Type 1} → statement M
-verdict-spec = tie.close (tie.spec (λ c κs. search rules) or-overloaded-requires (λ c κs. search rules) returns)
+pub verdict_spec : {M : Type 1} → statement M
+verdict_spec = tie.close (tie.spec (λ c κs. search rules) or-overloaded-requires (λ c κs. search rules) returns)

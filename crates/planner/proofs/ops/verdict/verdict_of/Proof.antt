@@ -16,5 +16,5 @@ returns-2 c =
     let a = c.before.before.before.args in
     sym (ap (λ (x : Fault). verdict_of x a.activities a.kinds) c.before.fault.given.1)
 
-pub verdict-of-spec : {M : Type 1} → statement M
-verdict-of-spec = tie.close (tie.spec (λ c. search rules) (λ c. search rules) returns returns-2)
+pub verdict_of_spec : {M : Type 1} → statement M
+verdict_of_spec = tie.close (tie.spec (λ c. search rules) (λ c. search rules) returns returns-2)
