@@ -16,7 +16,7 @@ use Rattle.order.specs.Orders.{after_rows, some_before, Direct, order_in, withou
 use Rattle.order.specs.declared.Set.{Set}
 use Rattle.order.proofs.Stored.{row_put_same, row_put_other, length_put, row_fit, fit_put}
 use Rattle.order.proofs.Sets.{member_set, member_union, member_without, lowest_member, member_without_lowest}
-use Rattle.order.proofs.Listing.{Empty, listed_below, none_left}
+use Rattle.order.proofs.Listing.{Empty, listed_below, is_none}
 use Rattle.order.proofs.Before.{before_map, before_least, before_trans, before_lacking}
 use Rattle.order.proofs.Orders.{after_rows_lem, order_means, order_same, direct_order, direct_joined}
 
@@ -139,7 +139,7 @@ module _ (a b : List ℕ) (x y : ℕ) (long : length b ≡ cells elements) (hx :
 
 module _ (rows : List ℕ) (j : ℕ) (w : Set) (t : Bool) (empty : Empty w t) where
   -- the lowest is
-  pub some_before_here : (k : ℕ) → not t ≡ true → k ≡ lowest_of w → after rows k j ≡ true → some_before rows w j ≡ true
+  pub some_before_here : (k : ℕ) → t ≡ false → k ≡ lowest_of w → after rows k j ≡ true → some_before rows w j ≡ true
   unfolding some_before
   some_before_here k h q e =
       let l = listed_below w t empty h q in
@@ -157,8 +157,8 @@ module _ (rows : List ℕ) (j : ℕ) (w : Set) (t : Bool) (empty : Empty w t) wh
       at i (no d) = rw (ne_eqb i (lowest_of w) (λ p. d (p ∙ sym q)), and-true (member w i))
 
   -- none is left
-  pub some_before_none : not t ≡ false → some_before rows w j ≡ false
+  pub some_before_none : t ≡ true → some_before rows w j ≡ false
   unfolding some_before
   some_before_none h =
       some_none elements (λ i. member w i && after rows i j)
-      (λ k l. ap (λ (b : Bool). b && after rows k j) (ap (λ (v : ℕ). bit v k) (none_left w t empty h) ∙ bit_zero k))
+      (λ k l. ap (λ (b : Bool). b && after rows k j) (ap (λ (v : ℕ). bit v k) (is_none w t empty h) ∙ bit_zero k))

@@ -16,10 +16,6 @@ use Rattle.order.proofs.Stored.{number_of_lem, in_bound}
 abbrev pub Empty : Set → Bool → Type 0
 Empty w t = (t ≡ eqb (number_of w) 0) × (number_of w < bound)
 
-not_false : (t : Bool) → not t ≡ false → t ≡ true
-not_false true h = refl
-not_false false h = sym h
-
 module _ (w : Set) (t : Bool) (e : Empty w t) where
   -- what a test `if w.is_empty()` says
   pub is_none : t ≡ true → number_of w ≡ 0
@@ -29,24 +25,18 @@ module _ (w : Set) (t : Bool) (e : Empty w t) where
   is_some h = eqb-false (number_of w) 0 (sym e.0 ∙ h)
 
   -- in a turn there is a member, and after the loop there is none
-  pub some_left : not t ≡ true → number_of w ≡ 0 → ⊥
-  some_left h = is_some (false_of_not t h)
+  pub listed_below : {b : ℕ} → t ≡ false → b ≡ lowest_of w → b < elements
+  listed_below h q = low_place elements (number_of w) (is_some h) (in_bound e.1) q
 
-  pub none_left : not t ≡ false → number_of w ≡ 0
-  none_left h = is_none (not_false t h)
-
-  pub listed_below : {b : ℕ} → not t ≡ true → b ≡ lowest_of w → b < elements
-  listed_below h q = low_place elements (number_of w) (some_left h) (in_bound e.1) q
-
-  pub listing_less : (v : Set) → not t ≡ true → v ≡ without_lowest w → number_of v < number_of w
-  listing_less v h q = rest_less (number_of w) (some_left h) (number_of_lem v q)
+  pub listing_less : (v : Set) → t ≡ false → v ≡ without_lowest w → number_of v < number_of w
+  listing_less v h q = rest_less (number_of w) (is_some h) (number_of_lem v q)
 
   module _ {S : Type 0} (f : S → ℕ → S) (s : S) {r : S} (run : each elements f s (number_of w) ≡ r) where
-    pub listing_again : (b : ℕ) (v : Set) {s' : S} → not t ≡ true → b ≡ lowest_of w → s' ≡ f s b → v ≡ without_lowest w → each elements f s' (number_of v) ≡ r
-    listing_again b v h q p x = (each_again elements f s (number_of w) b (some_left h) (run, in_bound e.1) q p (number_of_lem v x)).0
+    pub listing_again : (b : ℕ) (v : Set) {s' : S} → t ≡ false → b ≡ lowest_of w → s' ≡ f s b → v ≡ without_lowest w → each elements f s' (number_of v) ≡ r
+    listing_again b v h q p x = (each_again elements f s (number_of w) b (is_some h) (run, in_bound e.1) q p (number_of_lem v x)).0
 
-    pub listing_end : not t ≡ false → s ≡ r
-    listing_end h = each_end elements f s (number_of w) (none_left h) (run, in_bound e.1)
+    pub listing_end : t ≡ true → s ≡ r
+    listing_end h = each_end elements f s (number_of w) (is_none h) (run, in_bound e.1)
 
     -- a state that no step changes ends it early
     pub listing_still : ((b : ℕ) → f s b ≡ s) → s ≡ r

@@ -30,11 +30,11 @@ use Rattle.plan.proofs.Arcs.{after_same}
 
 -- ---- a test that the code made and negated, as the definition has it
 
-pub told : {b v : Bool} → b ≡ v → not b ≡ false → v ≡ true
-told {b} e n = sym e ∙ not_false b n
+pub told : {b v : Bool} → b ≡ v → b ≡ true → v ≡ true
+told e n = sym e ∙ n
 
-pub told_not : {b v : Bool} → b ≡ v → not b ≡ true → v ≡ false
-told_not {b} e n = sym e ∙ not-true b n
+pub told_not : {b v : Bool} → b ≡ v → b ≡ false → v ≡ false
+told_not e n = sym e ∙ n
 
 -- ---- the records of a list
 
@@ -76,16 +76,16 @@ module _ (n : ℕ) (f : ℕ → Answer) where
   -- at i, where none before it is refused: `answer` is what the code finds there, and `b` what its test says of it
   module _ (i : ℕ) (none : (k : ℕ) → k < i → is_readable (f k) ≡ true) where
     module _ {answer : Answer} {b : Bool} (found : answer ≡ f i) (test : b ≡ is_readable answer) where
-      pub refusal_here : i < n → not b ≡ true → i ≡ first n (refuses f)
+      pub refusal_here : i < n → b ≡ false → i ≡ first n (refuses f)
       refusal_here l e = first_stop n (refuses f) i (λ k m. ap not (none k m)) l (ap not (told_not (test ∙ ap is_readable found) e))
 
-      pub refusal_stop : i < n → not b ≡ true → answer ≡ first_refusal n f
+      pub refusal_stop : i < n → b ≡ false → answer ≡ first_refusal n f
       unfolding first_refusal
       refusal_stop l e =
           let p = refusal_here l e in
           found ∙ ap f p ∙ sym (cond_true (f (first n (refuses f))) Readable (lt-ltb (first n (refuses f)) n (omega arith)))
 
-      pub refusal_again : not b ≡ false → (k : ℕ) → k < i + 1 → is_readable (f k) ≡ true
+      pub refusal_again : b ≡ true → (k : ℕ) → k < i + 1 → is_readable (f k) ≡ true
       refusal_again e = below_more (λ k. is_readable (f k) ≡ true) i none (told (test ∙ ap is_readable found) e)
 
     pub refusal_none : n ≤ i → i ≤ n → n ≡ first n (refuses f)
@@ -112,13 +112,13 @@ unless_refused_lem Readable next e = clash refl e
 unless_refused_lem (Refused c) next e = refl
 
 module _ {answer cause : Answer} {b : Bool} (found : answer ≡ cause) (test : b ≡ is_readable answer) where
-  pub accepted : not b ≡ false → is_readable cause ≡ true
+  pub accepted : b ≡ true → is_readable cause ≡ true
   accepted e = told (test ∙ ap is_readable found) e
 
-  pub then_on : {q next : Reading} → not b ≡ false → q ≡ next → q ≡ unless_refused cause next
+  pub then_on : {q next : Reading} → b ≡ true → q ≡ next → q ≡ unless_refused cause next
   then_on {q} {next} e g = g ∙ unless_readable cause next (accepted e)
 
-  pub then_refused : {q : Reading} (next : Reading) → not b ≡ true → q ≡ refusal_of answer → q ≡ unless_refused cause next
+  pub then_refused : {q : Reading} (next : Reading) → b ≡ false → q ≡ refusal_of answer → q ≡ unless_refused cause next
   then_refused next e g = g ∙ ap refusal_of found ∙ unless_refused_lem cause next (told_not (test ∙ ap is_readable found) e)
 
 -- ---- what a run of records with no cause tells

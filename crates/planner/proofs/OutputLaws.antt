@@ -71,27 +71,27 @@ pub record Ends (F f : Fault) (b : Bool) : Type 0 where
   pub test : b ≡ is_fine f
 
 module _ {F f : Fault} {b : Bool} (e : Ends F f b) where
-  pub stops : not b ≡ true → is_fine F ≡ false
-  stops h = sym (ap is_fine e.fault) ∙ sym e.test ∙ not-true b h
+  pub stops : b ≡ false → is_fine F ≡ false
+  stops h = sym (ap is_fine e.fault) ∙ sym e.test ∙ h
 
-  pub goes_on : not b ≡ false → is_fine F ≡ true
-  goes_on h = sym (ap is_fine e.fault) ∙ sym e.test ∙ not_false b h
+  pub goes_on : b ≡ true → is_fine F ≡ true
+  goes_on h = sym (ap is_fine e.fault) ∙ sym e.test ∙ h
 
   -- one that writes: n is what it counts, `written` what it writes, r its answer, and what was lent is `out` before and `after` then
   module _ (n : ℕ) (written out : List ℕ) {r : Output} where
     -- refused: nothing is changed
-    pub refused : not b ≡ true → r ≡ output_of f 0 → (r ≡ output_of F n) × (out ≡ lent_after F written out)
+    pub refused : b ≡ false → r ≡ output_of f 0 → (r ≡ output_of F n) × (out ≡ lent_after F written out)
     refused h q = (
       q ∙ output_same e.fault (λ t. absurd (true≢false (sym t ∙ ap is_fine e.fault ∙ stops h))),
       lent_kept F written out (stops h),
     )
 
     -- done: the front is written, the rest is kept
-    pub done : not b ≡ false → {v : ℕ} {after : List ℕ} → r ≡ output_of f v → v ≡ n → after ≡ written ++ drop (length written) out
+    pub done : b ≡ true → {v : ℕ} {after : List ℕ} → r ≡ output_of f v → v ≡ n → after ≡ written ++ drop (length written) out
         → (r ≡ output_of F n) × (after ≡ lent_after F written out)
     done h q c w = (q ∙ output_same e.fault (λ _. c), w ∙ lent_written F written out (goes_on h))
 
     -- done, number by number
-    pub done_over : not b ≡ false → {v : ℕ} {after : List ℕ} → r ≡ output_of f v → v ≡ n → length written ≡ n → after ≡ over n written out
+    pub done_over : b ≡ true → {v : ℕ} {after : List ℕ} → r ≡ output_of f v → v ≡ n → length written ≡ n → after ≡ over n written out
         → (r ≡ output_of F n) × (after ≡ lent_after F written out)
     done_over h q c l w = done h q c (w ∙ over_all n written out l)

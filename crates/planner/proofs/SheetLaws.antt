@@ -80,7 +80,7 @@ starts_room s =
 
 module _ (s : List ℕ) (kind page : ℕ) (out : List ℕ) where
   -- 8, 9 or 7 it was: 11 has no turn
-  pub stopped : {f : Fault} {b : Bool} → (e : Ends (kind_fault s kind (length out) page_bytes) f b) → not b ≡ true → Ends (sheet_fault s kind page (length out)) f b
+  pub stopped : {f : Fault} {b : Bool} → (e : Ends (kind_fault s kind (length out) page_bytes) f b) → b ≡ false → Ends (sheet_fault s kind page (length out)) f b
   unfolding sheet_fault
   stopped e h = record { fault = e.fault ∙ cause_kept (kind_fault s kind (length out) page_bytes) (not (is_page page (sheet_pages s kind))) (NoPage (sheet_pages s kind)) (stops e h); test = e.test }
 

@@ -3,7 +3,7 @@ use native.Mathlib.Omega.{arith}
 use borrow.Author.Rules.{rules}
 use Rattle.order.specs.Stored.{number_of}
 use Rattle.order.proofs.Stored.{number_of_lem}
-use Rattle.order.proofs.Listing.{some_left, none_left, listed_below, listing_less}
+use Rattle.order.proofs.Listing.{is_some, is_none, listed_below, listing_less}
 use Rattle.report_lines.proofs.RefusalLine.{Listed, listed_none, listed_room, listed_next, listed_end}
 use Rattle.report_lines.proofs.refusal.put_members.Statement.{statement}
 use Rattle.report_lines.proofs.refusal.put_members.Tie as tie
@@ -30,7 +30,7 @@ slice-write-numbers c =
     let e = c.before.before in
     let t = e.before in
     let a = t.before.before.args in
-    let some = some_left t.loop.left e.is-empty.result e.is-empty.ensures c.before.if1.true in
+    let some = is_some t.loop.left e.is-empty.result e.is-empty.ensures c.before.if1.true in
     omega (
       arith,
       t.loop.invariant.long,
@@ -42,7 +42,7 @@ mul-numbers c =
     let e = c.before.before in
     let t = e.before in
     let a = t.before.before.args in
-    let some = some_left t.loop.left e.is-empty.result e.is-empty.ensures c.before.if1.true in
+    let some = is_some t.loop.left e.is-empty.result e.is-empty.ensures c.before.if1.true in
     record {
       fits = omega (
         arith,
@@ -56,7 +56,7 @@ add-end c =
     let e = c.before.before.before in
     let t = e.before in
     let a = t.before.before.args in
-    let some = some_left t.loop.left e.is-empty.result e.is-empty.ensures c.before.before.if1.true in
+    let some = is_some t.loop.left e.is-empty.result e.is-empty.ensures c.before.before.if1.true in
     record {
       fits = omega (
         arith,
@@ -77,7 +77,7 @@ loop-again c =
     let t = e.before in
     let s = t.before.before in
     let a = s.args in
-    let some = some_left t.loop.left e.is-empty.result e.is-empty.ensures c.before.before.if1.true in
+    let some = is_some t.loop.left e.is-empty.result e.is-empty.ensures c.before.before.if1.true in
     listed_next a.n (number_of a.set) a.numbers.now t.loop.end (number_of t.loop.left) t.loop.numbers t.loop.invariant some e.is-empty.ensures.1
     s.requires.0 c.before.lowest.ensures (number_of_lem c.without-lowest.result c.without-lowest.ensures)
 
@@ -90,7 +90,7 @@ returns c =
     let t = e.before in
     let a = t.before.before.args in
     listed_end a.n (number_of a.set) a.numbers.now t.loop.end (number_of t.loop.left) t.loop.numbers t.loop.invariant
-    (none_left t.loop.left e.is-empty.result e.is-empty.ensures c.if1.false)
+    (is_none t.loop.left e.is-empty.result e.is-empty.ensures c.if1.false)
 
 pub put_members_spec : {M : Type 1} → statement M
 put_members_spec =

@@ -3,7 +3,7 @@ use Rattle.std.proofs.Common.{arith, rules}
 use Rattle.words.proofs.Members.{low_place}
 use Rattle.order.specs.Stored.{elements, number_of}
 use Rattle.order.proofs.Stored.{number_of_lem, number_none, in_bound}
-use Rattle.order.proofs.Listing.{is_none, is_some, some_left, none_left}
+use Rattle.order.proofs.Listing.{is_none, is_some}
 use Rattle.solver.specs.model.Search.{looked}
 use Rattle.solver.proofs.Steps.{look_hit, look_last, look_on}
 use Rattle.solver.proofs.reach.turn.Statement.{statement}
@@ -25,7 +25,7 @@ returns c =
     let a = low.before.before.before.before.before.args in
     look_hit a.rows.now a.givers.now (number_of a.slack) (looked a.s) a.lefts.now a.rights.now _ low.lowest.ensures _ _
     (number_of_lem _ new.before.row.ensures) (number_of_lem _ new.minus.ensures) _ mark.mark.ensures _ _ (number_of_lem _ hit.before.union.ensures)
-    (number_of_lem _ hit.meet.ensures) number_none (some_left _ _ test.before.is-empty.ensures test.if1.true) c.lowest2.ensures
+    (number_of_lem _ hit.meet.ensures) number_none (is_some _ _ test.before.is-empty.ensures test.if1.true) c.lowest2.ensures
 
 returns-2 : tie.Need-returns-2
 returns-2 c =
@@ -39,7 +39,7 @@ returns-2 c =
     look_last a.rows.now a.givers.now (number_of a.slack) (looked a.s) a.lefts.now a.rights.now _ low.lowest.ensures _ _
     (number_of_lem _ new.before.row.ensures) (number_of_lem _ new.minus.ensures) _ mark.mark.ensures _ _ (number_of_lem _ hit.before.union.ensures)
     (number_of_lem _ hit.meet.ensures) (number_of_lem _ new.before.before.without-lowest.ensures) seen.spread.ensures
-    (none_left _ _ test.before.is-empty.ensures test.if1.false) (number_of_lem _ c.before.before.before.minus2.ensures) (number_of_lem _ c.before.before.union2.ensures) number_none
+    (is_none _ _ test.before.is-empty.ensures test.if1.false) (number_of_lem _ c.before.before.before.minus2.ensures) (number_of_lem _ c.before.before.union2.ensures) number_none
     (is_none _ _ c.before.is-empty2.ensures c.if2.true)
 
 returns-3 : tie.Need-returns-3
@@ -54,7 +54,7 @@ returns-3 c =
     look_on a.rows.now a.givers.now (number_of a.slack) (looked a.s) a.lefts.now a.rights.now _ low.lowest.ensures _ _
     (number_of_lem _ new.before.row.ensures) (number_of_lem _ new.minus.ensures) _ mark.mark.ensures _ _ (number_of_lem _ hit.before.union.ensures)
     (number_of_lem _ hit.meet.ensures) (number_of_lem _ new.before.before.without-lowest.ensures) seen.spread.ensures
-    (none_left _ _ test.before.is-empty.ensures test.if1.false) (number_of_lem _ c.before.before.before.minus2.ensures) (number_of_lem _ c.before.before.union2.ensures)
+    (is_none _ _ test.before.is-empty.ensures test.if1.false) (number_of_lem _ c.before.before.before.minus2.ensures) (number_of_lem _ c.before.before.union2.ensures)
     (is_some _ _ c.before.is-empty2.ensures c.if2.false)
 
 pub turn_spec : {M : Type 1} → statement M

@@ -1,0 +1,31 @@
+-- `Order::circle` meets its contract. The invariant: no element below i is before itself.
+use Rattle.std.proofs.Common.{◌≡◌, ℕ, ◌-◌, ◌<◌, ◌≤◌, false, sym, ap, ◌∙◌, arith, rules, below_none, below_more}
+use Rattle.words.specs.Bits.{bit}
+use Rattle.words.proofs.Firsts.{first_stop, first_end}
+use Rattle.order.specs.Stored.{elements}
+use Rattle.order.specs.Orders.{circle_of}
+use Rattle.order.specs.Rows.{after, circle_in}
+use Rattle.order.proofs.Stored.{number_of_lem}
+use Rattle.order.proofs.Order.circle.Goals as goal
+
+pub loop-i-init : goal.loop-i-init
+loop-i-init c = (omega arith, below_none _)
+
+pub returns-then-has : goal.returns-then-has
+unfolding circle_of circle_in
+returns-then-has c = let r = c in
+    let at = r in
+    let tested = c.has.ensures ∙ ap (λ (w : ℕ). bit w at.loop-i.i) (number_of_lem _ r.row.ensures) in
+    first_stop elements (λ k. after at.args.self.rows k k) at.loop-i.i at.loop-i.invariant.1 (omega arith) (sym tested ∙ c.if-has.true)
+
+pub loop-i-preserved : goal.loop-i-preserved
+loop-i-preserved c =
+    let r = c in
+    let at = r in
+    let tested = c.has.ensures ∙ ap (λ (w : ℕ). bit w at.loop-i.i) (number_of_lem _ r.row.ensures) in
+    (omega arith, below_more _ _ at.loop-i.invariant.1 (sym tested ∙ c.if-has.false))
+
+pub returns : goal.returns
+unfolding circle_of circle_in
+returns c = let at = c in
+    first_end elements (λ k. after at.args.self.rows k k) at.loop-i.i at.loop-i.invariant.1 (omega arith)

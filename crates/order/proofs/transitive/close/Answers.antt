@@ -1,0 +1,27 @@
+-- `transitive::close` meets its contract. The invariant: the rows are what the passes done make of the arcs; all of
+-- them are Warshall's closure.
+use Rattle.std.proofs.Common.{◌≡◌, ℕ, ◌-◌, ◌≤◌, ap, ◌∙◌, arith, rules}
+use Rattle.words.specs.model.Loops.{upto}
+use Rattle.words.proofs.Loops.{up_none, up_again, up_end}
+use Rattle.order.specs.Stored.{elements, number_of}
+use Rattle.order.specs.model.Warshall.{passing_over}
+use Rattle.order.proofs.Orders.{direct_closed}
+use Rattle.order.proofs.transitive.close.Goals as goal
+
+pub loop-k-init : goal.loop-k-init
+loop-k-init c = (up_none _ _, omega arith)
+
+pub loop-k-preserved : goal.loop-k-preserved
+loop-k-preserved c =
+    let at = c in
+    up_again (passing_over elements (number_of at.ends_of-ends.result)) elements at.loop-k.k at.args.rows.now (omega arith) at.loop-k.invariant
+    c.pass_over.ensures
+
+pub returns : goal.returns
+returns c =
+    let at = c in
+    let start = at in
+    let rows = start.args.rows.now in
+    up_end (passing_over elements (number_of at.ends_of-ends.result)) elements at.loop-k.k rows (omega arith) at.loop-k.invariant
+    ∙ ap (λ (e : ℕ). upto (passing_over elements e) elements rows) at.ends_of-ends.ensures
+    ∙ direct_closed rows start.requires.0 start.requires.1

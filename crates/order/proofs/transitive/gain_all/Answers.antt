@@ -1,0 +1,16 @@
+-- `transitive::gain_all` meets its contract, by that of `pass_by`.
+use Rattle.std.proofs.Common.{ℕ, ap, ◌∙◌, rules}
+use lib.Bits.{bit_or}
+use Rattle.order.specs.Stored.{elements, number_of, put_row}
+use Rattle.order.specs.model.Warshall.{passing_by}
+use Rattle.order.proofs.Stored.{number_of_lem}
+use Rattle.order.proofs.transitive.gain_all.Goals as goal
+
+pub returns : goal.returns
+returns c =
+    let put = c in
+    let add = put in
+    let e = add.args in
+    c.pass_by.ensures
+    ∙ ap (passing_by elements e.x (number_of e.gain))
+    (put.put_row.ensures ∙ ap (put_row e.rows.now e.x) (number_of_lem _ add.union-r.ensures ∙ ap (λ (w : ℕ). bit_or w (number_of e.gain)) (number_of_lem _ add.row.ensures)))
