@@ -15,17 +15,13 @@ loop-i-init c = (up_none _ _, omega arith)
 
 pub loop-i-preserved : goal.loop-i-preserved
 loop-i-preserved c =
-    let u = c in
-    let r = u in
-    let at = r in
-    let e = at.args in
-    up_again (update_row (step e.t2)) elements at.loop-i.i e.a (omega arith) at.loop-i.invariant
-    (put_turn (step e.t2) at.loop-i.rows at.loop-i.i r.row.result u.union-r.result r.row.ensures
-    (number_of_lem _ u.union-r.ensures ∙ ap (bit_or (number_of r.row.result)) (number_of_lem _ u.row-in-loop-i.ensures))
+    let e = c.args in
+    up_again (update_row (step e.b)) elements c.loop-i.i e.a (omega arith) c.loop-i.invariant
+    (put_turn (step e.b) c.loop-i.rows c.loop-i.i c.row.result c.union-r.result c.row.ensures
+    (number_of_lem _ c.union-r.ensures ∙ ap (bit_or (number_of c.row.result)) (number_of_lem _ c.row-in-loop-i.ensures))
     c.put_row.ensures)
 
 pub returns : goal.returns
 unfolding joined_rows cells
-returns c = let at = c in
-    let e = at.args in
-    up_end (update_row (step e.t2)) elements at.loop-i.i e.a (omega arith) at.loop-i.invariant ∙ rows_updated (step e.t2) elements e.a (search rules)
+returns c = let e = c.args in
+    up_end (update_row (step e.b)) elements c.loop-i.i e.a (omega arith) c.loop-i.invariant ∙ rows_updated (step e.b) elements e.a (search rules)

@@ -13,19 +13,14 @@ loop-i-init c = (omega arith, below_none _)
 
 pub returns-then-has : goal.returns-then-has
 unfolding circle_of circle_in
-returns-then-has c = let r = c in
-    let at = r in
-    let tested = c.has.ensures ∙ ap (λ (w : ℕ). bit w at.loop-i.i) (number_of_lem _ r.row.ensures) in
-    first_stop elements (λ k. after at.args.self.rows k k) at.loop-i.i at.loop-i.invariant.1 (omega arith) (sym tested ∙ c.if-has.true)
+returns-then-has c = let tested = c.has.ensures ∙ ap (λ (w : ℕ). bit w c.loop-i.i) (number_of_lem _ c.row.ensures) in
+    first_stop elements (λ k. after c.args.self.rows k k) c.loop-i.i c.loop-i.invariant.1 (omega arith) (sym tested ∙ c.if-has.true)
 
 pub loop-i-preserved : goal.loop-i-preserved
 loop-i-preserved c =
-    let r = c in
-    let at = r in
-    let tested = c.has.ensures ∙ ap (λ (w : ℕ). bit w at.loop-i.i) (number_of_lem _ r.row.ensures) in
-    (omega arith, below_more _ _ at.loop-i.invariant.1 (sym tested ∙ c.if-has.false))
+    let tested = c.has.ensures ∙ ap (λ (w : ℕ). bit w c.loop-i.i) (number_of_lem _ c.row.ensures) in
+    (omega arith, below_more _ _ c.loop-i.invariant.1 (sym tested ∙ c.if-has.false))
 
 pub returns : goal.returns
 unfolding circle_of circle_in
-returns c = let at = c in
-    first_end elements (λ k. after at.args.self.rows k k) at.loop-i.i at.loop-i.invariant.1 (omega arith)
+returns c = first_end elements (λ k. after c.args.self.rows k k) c.loop-i.i c.loop-i.invariant.1 (omega arith)

@@ -9,4 +9,4 @@ of_rows rs = record { rows = rs }
 
 pub returns : goal.returns
 unfolding after_rows
-returns c = (ap of_rows c.close.ensures, c.close.ensures)
+returns c = record { value = ap of_rows c.close.ensures; arcs_after = c.close.ensures }

@@ -15,12 +15,10 @@ of_rows rs = record { rows = rs }
 pub returns : goal.returns
 unfolding extended cells
 returns c =
-    let g = c in
-    let start = g in
-    let e = start.args in
+    let e = c.args in
     let long : length e.self.rows ≡ cells elements = search rules in
     ap of_rows
     (c.gain_all.ensures
     ∙ ap (λ (x : ℕ). gaining elements e.from x e.self.rows)
-    (number_of_lem _ g.with-gain.ensures ∙ ap (λ (w : ℕ). with_bit w e.to) (number_of_lem _ g.row.ensures))
-    ∙ gaining_grow elements e.self.rows long e.from start.requires.0 e.to)
+    (number_of_lem _ c.with-gain.ensures ∙ ap (λ (w : ℕ). with_bit w e.to) (number_of_lem _ c.row.ensures))
+    ∙ gaining_grow elements e.self.rows long e.from c.requires.0 e.to)

@@ -20,22 +20,18 @@ loop-i-init c =
 
 pub add_row-requires : goal.add_row-requires
 add_row-requires c =
-    let at = c in
-    (omega (arith, at.loop-i.invariant.1), at.loop-i.invariant.2, at.loop-i.invariant.3)
+    (omega (arith, c.loop-i.invariant.1), c.loop-i.invariant.2, c.loop-i.invariant.3)
 
 pub loop-i-preserved : goal.loop-i-preserved
 loop-i-preserved c =
-    let read = c in
-    let at = read in
-    let arcs = at.args.arcs in
-    let i = at.loop-i.i in
-    let rows = at.loop-i.rows in
-    let turn = c.add_row.ensures ∙ ap (grow_from elements rows _) (number_of_lem _ read.row.ensures) in
-    let kept = from_keeps elements rows (i - 1) (row arcs (i - 1)) (at.loop-i.invariant.2, at.loop-i.invariant.3) in
-    (grow_again elements arcs i rows (omega arith) at.loop-i.invariant.0 turn, omega arith, ap length turn ∙ kept.0, subst (RowsFit elements) (sym turn) kept.1)
+    let arcs = c.args.arcs in
+    let i = c.loop-i.i in
+    let rows = c.loop-i.rows in
+    let turn = c.add_row.ensures ∙ ap (grow_from elements rows _) (number_of_lem _ c.row.ensures) in
+    let kept = from_keeps elements rows (i - 1) (row arcs (i - 1)) (c.loop-i.invariant.2, c.loop-i.invariant.3) in
+    (grow_again elements arcs i rows (omega arith) c.loop-i.invariant.0 turn, omega arith, ap length turn ∙ kept.0, subst (RowsFit elements) (sym turn) kept.1)
 
 pub returns : goal.returns
 unfolding extended_by
 returns c =
-    let at = c in
-    ap of_rows (grow_end elements at.args.arcs at.loop-i.i at.loop-i.rows (omega arith) at.loop-i.invariant.0)
+    ap of_rows (grow_end elements c.args.arcs c.loop-i.i c.loop-i.rows (omega arith) c.loop-i.invariant.0)

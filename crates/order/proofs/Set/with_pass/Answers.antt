@@ -24,7 +24,6 @@ picks k w g a hg ha e = ⊎_elim none all (zero_or_one w k)
 pub returns : goal.returns
 unfolding number_of digit
 returns c =
-    let sub = c in
-    let e = sub.args in
+    let e = c.args in
     let fits : e.gain.word < 2 ^ word_bits = search rules in
-    picks e.k e.self.word e.gain.word sub.wrapping_sub_u64-all.result fits (search rules) sub.wrapping_sub_u64-all.ensures
+    picks e.k e.self.word e.gain.word c.wrapping_sub_u64-all.result fits (search rules) c.wrapping_sub_u64-all.ensures.value

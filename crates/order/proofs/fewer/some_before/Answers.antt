@@ -16,34 +16,23 @@ row-requires c = listed_below _ _ c.is_empty.ensures c.loop-left-test.true c.low
 
 pub returns-then-has : goal.returns-then-has
 returns-then-has c =
-    let read = c in
-    let low = read in
-    let test = low in
-    let at = test in
-    let e = at.args in
-    let tested = c.has.ensures ∙ ap (λ (w : ℕ). bit w e.j) (number_of_lem _ read.row.ensures) in
-    sym (some_before_here e.rows.now e.j at.loop-left.left _ test.is_empty.ensures low.lowest-k.result low.loop-left-test.true low.lowest-k.ensures (sym tested ∙ c.if-has.true))
-    ∙ at.loop-left.invariant
+    let e = c.args in
+    let tested = c.has.ensures ∙ ap (λ (w : ℕ). bit w e.j) (number_of_lem _ c.row.ensures) in
+    sym (some_before_here e.rows.now e.j c.loop-left.left _ c.is_empty.ensures c.lowest-k.result c.loop-left-test.true c.lowest-k.ensures (sym tested ∙ c.if-has.true))
+    ∙ c.loop-left.invariant
 
 pub loop-left-smaller : goal.loop-left-smaller
 loop-left-smaller c =
-    let low = c in
-    listing_less _ _ low.is_empty.ensures _ low.loop-left-test.true c.without_lowest-left.ensures
+    listing_less _ _ c.is_empty.ensures _ c.loop-left-test.true c.without_lowest-left.ensures
 
 pub loop-left-preserved : goal.loop-left-preserved
 loop-left-preserved c =
-    let read = c in
-    let low = read in
-    let test = low in
-    let at = test in
-    let e = at.args in
-    let tested = c.has.ensures ∙ ap (λ (w : ℕ). bit w e.j) (number_of_lem _ read.row.ensures) in
-    some_before_rest e.rows.now e.j at.loop-left.left _ test.is_empty.ensures low.lowest-k.result _ low.lowest-k.ensures (sym tested ∙ c.if-has.false) c.without_lowest-left.ensures
-    ∙ at.loop-left.invariant
+    let e = c.args in
+    let tested = c.has.ensures ∙ ap (λ (w : ℕ). bit w e.j) (number_of_lem _ c.row.ensures) in
+    some_before_rest e.rows.now e.j c.loop-left.left _ c.is_empty.ensures c.lowest-k.result _ c.lowest-k.ensures (sym tested ∙ c.if-has.false) c.without_lowest-left.ensures
+    ∙ c.loop-left.invariant
 
 pub returns : goal.returns
 returns c =
-    let test = c in
-    let at = test in
-    let e = at.args in
-    sym (some_before_none e.rows.now e.j at.loop-left.left _ test.is_empty.ensures c.loop-left-test.false) ∙ at.loop-left.invariant
+    let e = c.args in
+    sym (some_before_none e.rows.now e.j c.loop-left.left _ c.is_empty.ensures c.loop-left-test.false) ∙ c.loop-left.invariant

@@ -9,7 +9,6 @@ use Rattle.order.proofs.fewer.without_arc.Goals as goal
 pub returns : goal.returns
 unfolding without_arc
 returns c =
-    let cut = c in
-    let e = cut.args in
+    let e = c.args in
     c.put_row.ensures
-    ∙ ap (put_row e.arcs.now e.from) (number_of_lem _ cut.without-r.ensures ∙ ap (λ (w : ℕ). minus w (2 ^ e.to)) (number_of_lem _ cut.row.ensures))
+    ∙ ap (put_row e.arcs.now e.from) (number_of_lem _ c.without-r.ensures ∙ ap (λ (w : ℕ). minus w (2 ^ e.to)) (number_of_lem _ c.row.ensures))

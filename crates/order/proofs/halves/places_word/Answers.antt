@@ -11,12 +11,11 @@ loop-i-init c = let a = c.args.a.now in (nonzero_start (λ i. get_or a i 0), non
 
 pub loop-i-preserved : goal.loop-i-preserved
 loop-i-preserved c =
-    let first = c in
-    let l = first.loop-i in
-    let a = first.args.a.now in (
-      positive_more a l.i l.low _ _ l.invariant.0 first.half_bit-low.ensures refl,
+    let l = c.loop-i in
+    let a = c.args.a.now in (
+      positive_more a l.i l.low _ _ l.invariant.0 c.half_bit-low.ensures refl,
       positive_more (drop 32 a) l.i l.high _ _ l.invariant.1 c.half_bit-high.ensures (sym (get_or-drop 32 a l.i 0)),
-      omega (arith, first.loop-i-test.true),
+      omega (arith, c.loop-i-test.true),
     )
 
 -- both halves in a word, and the first m places of it
@@ -33,9 +32,7 @@ word a m low high l h w r hm el eh ql qh qw qr =
 
 pub returns : goal.returns
 returns c =
-    let upper = c in
-    let l = upper.loop-i in
-    let start = upper in
-    let end : l.i ≡ 32 = omega (arith, upper.loop-i-test.false, l.invariant.2) in
-    word start.args.a.now start.args.m l.low l.high _ _ _ _ start.requires (l.invariant.0 ∙ ap (λ (x : ℕ). positive x start.args.a.now) end)
-    (l.invariant.1 ∙ ap (λ (x : ℕ). positive x (drop 32 start.args.a.now)) end) c.wide.ensures.0 upper.wide-upper.ensures.0 refl c.lowest_bits.ensures
+    let l = c.loop-i in
+    let end : l.i ≡ 32 = omega (arith, c.loop-i-test.false, l.invariant.2) in
+    word c.args.a.now c.args.m l.low l.high _ _ _ _ c.requires (l.invariant.0 ∙ ap (λ (x : ℕ). positive x c.args.a.now) end)
+    (l.invariant.1 ∙ ap (λ (x : ℕ). positive x (drop 32 c.args.a.now)) end) c.wide.ensures.0 c.wide-upper.ensures.0 refl c.lowest_bits.ensures

@@ -26,63 +26,41 @@ more g r t f rows j e p q = number_of_lem f e ∙ ap (bit_or (number_of g)) (num
 
 pub returns-then-is_empty : goal.returns-then-is_empty
 returns-then-is_empty c =
-    let test = c in
-    let start = test in
-    each_end elements (grown elements start.args.i) start.args.rows.now _ (is_none _ _ test.is_empty.ensures c.if-is_empty.true) (
-      (fresh_start elements start.args.i start.requires.0 start.args.rows.now _ (less _ _ _ _ test.minus-w.ensures test.row.ensures)).0,
-      in_bound test.is_empty.ensures.1,
+    each_end elements (grown elements c.args.i) c.args.rows.now _ (is_none _ _ c.is_empty.ensures c.if-is_empty.true) (
+      (fresh_start elements c.args.i c.requires.0 c.args.rows.now _ (less _ _ _ _ c.minus-w.ensures c.row.ensures)).0,
+      in_bound c.is_empty.ensures.1,
     )
 
 pub loop-w-init : goal.loop-w-init
 loop-w-init c =
-    let minus = c in
-    let start = minus in
-    let rows = start.args.rows.now in
-    let i = start.args.i in
-    subst (λ (g : ℕ). Gains elements rows i (number_of minus.minus-w.result) g (number_of minus.minus-w.result)) (sym number_none)
-    (gains_start elements rows start.requires.1 i start.requires.0 start.requires.2 _ (fresh_start elements i start.requires.0 rows _ (less _ _ _ _ minus.minus-w.ensures minus.row.ensures)).1)
+    let rows = c.args.rows.now in
+    let i = c.args.i in
+    subst (λ (g : ℕ). Gains elements rows i (number_of c.minus-w.result) g (number_of c.minus-w.result)) (sym number_none)
+    (gains_start elements rows c.requires.1 i c.requires.0 c.requires.2 _ (fresh_start elements i c.requires.0 rows _ (less _ _ _ _ c.minus-w.ensures c.row.ensures)).1)
 
 pub row-requires-in-loop-w : goal.row-requires-in-loop-w
 row-requires-in-loop-w c =
-    let low = c in
-    listed_below _ _ low.is_empty-in-loop-w.ensures low.loop-w-test.true low.lowest-j.ensures
+    listed_below _ _ c.is_empty-in-loop-w.ensures c.loop-w-test.true c.lowest-j.ensures
 
 pub with-requires : goal.with-requires
 with-requires c =
-    let low = c in
-    listed_below _ _ low.is_empty-in-loop-w.ensures low.loop-w-test.true low.lowest-j.ensures
+    listed_below _ _ c.is_empty-in-loop-w.ensures c.loop-w-test.true c.lowest-j.ensures
 
 pub loop-w-smaller : goal.loop-w-smaller
 loop-w-smaller c =
-    let add = c in
-    let read = add in
-    let low = read in
-    let test = low in
-    let at = test in
-    let start = at in
-    gains_less elements start.args.rows.now start.requires.1 start.args.i start.requires.0 _ _ _ low.lowest-j.result (is_some _ _ test.is_empty-in-loop-w.ensures low.loop-w-test.true)
-    (in_bound test.is_empty-in-loop-w.ensures.1) at.loop-w.invariant low.lowest-j.ensures (more _ _ _ _ _ _ add.union-gain.ensures add.with.ensures read.row-in-loop-w.ensures)
+    gains_less elements c.args.rows.now c.requires.1 c.args.i c.requires.0 _ _ _ c.lowest-j.result (is_some _ _ c.is_empty-in-loop-w.ensures c.loop-w-test.true)
+    (in_bound c.is_empty-in-loop-w.ensures.1) c.loop-w.invariant c.lowest-j.ensures (more _ _ _ _ _ _ c.union-gain.ensures c.with.ensures c.row-in-loop-w.ensures)
     (number_of_lem _ c.minus-w-in-loop-w.ensures)
 
 pub loop-w-preserved : goal.loop-w-preserved
 loop-w-preserved c =
-    let add = c in
-    let read = add in
-    let low = read in
-    let test = low in
-    let at = test in
-    let start = at in
-    gains_again elements start.args.rows.now start.requires.1 start.args.i start.requires.0 _ _ _ low.lowest-j.result (is_some _ _ test.is_empty-in-loop-w.ensures low.loop-w-test.true)
-    (in_bound test.is_empty-in-loop-w.ensures.1) at.loop-w.invariant low.lowest-j.ensures (more _ _ _ _ _ _ add.union-gain.ensures add.with.ensures read.row-in-loop-w.ensures)
+    gains_again elements c.args.rows.now c.requires.1 c.args.i c.requires.0 _ _ _ c.lowest-j.result (is_some _ _ c.is_empty-in-loop-w.ensures c.loop-w-test.true)
+    (in_bound c.is_empty-in-loop-w.ensures.1) c.loop-w.invariant c.lowest-j.ensures (more _ _ _ _ _ _ c.union-gain.ensures c.with.ensures c.row-in-loop-w.ensures)
     (number_of_lem _ c.minus-w-in-loop-w.ensures)
 
 pub returns : goal.returns
 returns c =
-    let out = c in
-    let at = out in
-    let minus = at in
-    let start = minus in
     c.gain_all.ensures
-    ∙ listing_end _ _ out.is_empty-in-loop-w.ensures (grown elements start.args.i) (gaining elements start.args.i (number_of at.loop-w.gain) start.args.rows.now) at.loop-w.invariant.0
-    out.loop-w-test.false
-    ∙ (fresh_start elements start.args.i start.requires.0 start.args.rows.now _ (less _ _ _ _ minus.minus-w.ensures minus.row.ensures)).0
+    ∙ listing_end _ _ c.is_empty-in-loop-w.ensures (grown elements c.args.i) (gaining elements c.args.i (number_of c.loop-w.gain) c.args.rows.now) c.loop-w.invariant.0
+    c.loop-w-test.false
+    ∙ (fresh_start elements c.args.i c.requires.0 c.args.rows.now _ (less _ _ _ _ c.minus-w.ensures c.row.ensures)).0

@@ -13,15 +13,12 @@ loop-k-init c = (up_none _ _, omega arith)
 
 pub loop-k-preserved : goal.loop-k-preserved
 loop-k-preserved c =
-    let at = c in
-    up_again (passing_over elements (number_of at.ends_of-ends.result)) elements at.loop-k.k at.args.rows.now (omega arith) at.loop-k.invariant
+    up_again (passing_over elements (number_of c.ends_of-ends.result)) elements c.loop-k.k c.args.rows.now (omega arith) c.loop-k.invariant
     c.pass_over.ensures
 
 pub returns : goal.returns
 returns c =
-    let at = c in
-    let start = at in
-    let rows = start.args.rows.now in
-    up_end (passing_over elements (number_of at.ends_of-ends.result)) elements at.loop-k.k rows (omega arith) at.loop-k.invariant
-    ∙ ap (λ (e : ℕ). upto (passing_over elements e) elements rows) at.ends_of-ends.ensures
-    ∙ direct_closed rows start.requires.0 start.requires.1
+    let rows = c.args.rows.now in
+    up_end (passing_over elements (number_of c.ends_of-ends.result)) elements c.loop-k.k rows (omega arith) c.loop-k.invariant
+    ∙ ap (λ (e : ℕ). upto (passing_over elements e) elements rows) c.ends_of-ends.ensures
+    ∙ direct_closed rows c.requires.0 c.requires.1

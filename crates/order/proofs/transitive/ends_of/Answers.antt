@@ -13,8 +13,7 @@ loop-i-init c = (omega arith, number_set 0)
 pub loop-i-preserved : goal.loop-i-preserved
 unfolding ends_in
 loop-i-preserved c =
-    let at = c in
-    (omega arith, rw add-one (number_of_lem _ c.union-ends.ensures ∙ ap₂ bit_or at.loop-i.invariant.1 (number_of_lem _ c.row.ensures)))
+    (omega arith, rw add-one (number_of_lem _ c.union-ends.ensures ∙ ap₂ bit_or c.loop-i.invariant.1 (number_of_lem _ c.row.ensures)))
 
 pub returns : goal.returns
 returns c =

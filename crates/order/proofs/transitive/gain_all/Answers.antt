@@ -8,9 +8,7 @@ use Rattle.order.proofs.transitive.gain_all.Goals as goal
 
 pub returns : goal.returns
 returns c =
-    let put = c in
-    let add = put in
-    let e = add.args in
+    let e = c.args in
     c.pass_by.ensures
     ∙ ap (passing_by elements e.x (number_of e.gain))
-    (put.put_row.ensures ∙ ap (put_row e.rows.now e.x) (number_of_lem _ add.union-r.ensures ∙ ap (λ (w : ℕ). bit_or w (number_of e.gain)) (number_of_lem _ add.row.ensures)))
+    (c.put_row.ensures ∙ ap (put_row e.rows.now e.x) (number_of_lem _ c.union-r.ensures ∙ ap (λ (w : ℕ). bit_or w (number_of e.gain)) (number_of_lem _ c.row.ensures)))

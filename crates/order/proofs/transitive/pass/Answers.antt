@@ -7,6 +7,5 @@ use Rattle.order.proofs.transitive.pass.Goals as goal
 
 pub returns : goal.returns
 returns c =
-    let read = c in
-    let e = read.args in
-    c.pass_by.ensures ∙ ap (λ (w : ℕ). passing_by elements e.k w e.rows.now) (number_of_lem _ read.row-gain.ensures)
+    let e = c.args in
+    c.pass_by.ensures ∙ ap (λ (w : ℕ). passing_by elements e.k w e.rows.now) (number_of_lem _ c.row-gain.ensures)

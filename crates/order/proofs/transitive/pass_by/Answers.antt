@@ -13,15 +13,12 @@ loop-i-init c = (up_none _ _, omega arith)
 
 pub loop-i-preserved : goal.loop-i-preserved
 loop-i-preserved c =
-    let w = c in
-    let at = w in
-    let e = at.args in
+    let e = c.args in
     let f : ℕ → ℕ → ℕ = step e.k (number_of e.gain) in
-    up_again (update_row f) elements at.loop-i.i e.rows.now (omega arith) at.loop-i.invariant
-    (put_turn f at.loop-i.rows at.loop-i.i w.row.result w.with_pass-r.result w.row.ensures w.with_pass-r.ensures c.put_row.ensures)
+    up_again (update_row f) elements c.loop-i.i e.rows.now (omega arith) c.loop-i.invariant
+    (put_turn f c.loop-i.rows c.loop-i.i c.row.result c.with_pass-r.result c.row.ensures c.with_pass-r.ensures c.put_row.ensures)
 
 pub returns : goal.returns
 returns c =
-    let at = c in
-    let e = at.args in
-    up_end (update_row (step e.k (number_of e.gain))) elements at.loop-i.i e.rows.now (omega arith) at.loop-i.invariant
+    let e = c.args in
+    up_end (update_row (step e.k (number_of e.gain))) elements c.loop-i.i e.rows.now (omega arith) c.loop-i.invariant

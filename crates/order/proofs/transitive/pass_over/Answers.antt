@@ -15,12 +15,9 @@ returns-then-is_empty c = sym (cond_true _ _ (empty _ _ c.row.ensures c.is_empty
 
 pub returns-then-has : goal.returns-then-has
 returns-then-has c =
-    let at = c in
-    let one = at in
     c.pass.ensures
-    ∙ sym (cond_false _ _ (empty _ _ one.row.ensures one.is_empty.ensures.0 ∙ one.if-is_empty.false) ∙ cond_true _ _ (sym at.has.ensures ∙ at.if-has.true))
+    ∙ sym (cond_false _ _ (empty _ _ c.row.ensures c.is_empty.ensures.0 ∙ c.if-is_empty.false) ∙ cond_true _ _ (sym c.has.ensures ∙ c.if-has.true))
 
 pub returns-else-has : goal.returns-else-has
 returns-else-has c =
-    let one = c in
-    sym (cond_false _ _ (empty _ _ one.row.ensures one.is_empty.ensures.0 ∙ one.if-is_empty.false) ∙ cond_false _ _ (sym c.has.ensures ∙ c.if-has.false))
+    sym (cond_false _ _ (empty _ _ c.row.ensures c.is_empty.ensures.0 ∙ c.if-is_empty.false) ∙ cond_false _ _ (sym c.has.ensures ∙ c.if-has.false))
