@@ -35,7 +35,7 @@ loop-i-preserved c =
     let w = c.put_decimal-end in
     let a = c.args in
     listing_next a.at a.numbers.now a.out.now c.loop-i.i c.loop-i.end c.loop-i.out c.loop-i.invariant c.requires
-    (omega arith) w.result w.new.0 w.ensures
+    (omega arith) w.result w.new.out w.ensures
 
 pub shape_of-out : goal.shape_of-out
 shape_of-out c =

@@ -1,0 +1,14 @@
+-- `moves::take_from` meets its contract. The invariant: what is left to take back makes of the units what all of it
+-- makes of those at the start.
+use Rattle.std.proofs.Common.{◌≡◌, refl, arith, rules}
+use Rattle.words.specs.model.Loops.{each}
+use Rattle.order.specs.Stored.{elements, number_of}
+use Rattle.order.proofs.Listing.{listed_below, listing_less, listing_again, listing_end}
+use Rattle.solver.specs.model.Network.{dropping}
+use Rattle.solver.proofs.moves.take_from.Given as goal
+
+abbrev pub invariant-loop-w : goal.invariant-loop-w
+invariant-loop-w l = each elements (dropping l.j) l.flow (number_of l.w) ≡ each elements (dropping l.j) l.initial.flow (number_of l.initial.w)
+
+abbrev pub decreases-loop-w : goal.decreases-loop-w
+decreases-loop-w l = number_of l.w
