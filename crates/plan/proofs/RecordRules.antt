@@ -7,7 +7,7 @@ use native.Mathlib.Omega.{arith}
 use lib.ListN.{get_or, take, length-take, get_or-eq_default}
 use lib.Seq.{slice, get_or-take, get_or-drop}
 use lib.Dec.{eqb, leb, ltb}
-use borrow.Author.Tests.{ltb-true, ltb-false, leb-true, eqb-true, eqb-false, eq-eqb, lt-ltb, le-ltb, ne_eqb, not_false}
+use borrow.Author.Tests.{ltb-true, ltb-false, leb-true, eqb-true, eqb-false, eq-eqb, lt-ltb, le-ltb, ne_eqb, not-false}
 use Rattle.words.proofs.Tests.{by_test, test_same, and_left, and_right, cond_true, cond_false, cond_has}
 use Rattle.records.proofs.Zeros.{all_zero, zeros_of}
 use Rattle.records.specs.Bytes.{byte, zeros}

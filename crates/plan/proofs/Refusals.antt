@@ -5,7 +5,7 @@ use Prim.Native.Nat.{ℕ, zero, suc, ◌+◌, ◌<◌}
 use native.Mathlib.Nat.{zero-add, suc-add}
 use native.Mathlib.Omega.{arith}
 use lib.Dec.{ltb, leb-suc-suc}
-use borrow.Author.Tests.{lt-ltb, ltb-true, not_false}
+use borrow.Author.Tests.{lt-ltb, ltb-true, not-false}
 use Rattle.words.specs.Members.{first}
 use Rattle.words.proofs.Tests.{by_test, clash, holds, cond_true, cond_false}
 use Rattle.words.proofs.Firsts.{before_first}

@@ -6,7 +6,7 @@ use Prim.Native.Nat.{ℕ, ◌-◌, ◌≤◌, ◌<◌}
 use native.Mathlib.Omega.{arith}
 use lib.Dec.{ltb, leb}
 use lib.ListN.{length}
-use borrow.Author.Tests.{lt-ltb, ltb-true, ltb-false, leb-true, not_false}
+use borrow.Author.Tests.{lt-ltb, ltb-true, ltb-false, leb-true, not-false}
 use Rattle.words.proofs.Firsts.{before_first}
 use Rattle.words.proofs.Tests.{and_left, and_right}
 use Rattle.records.specs.Bytes.{AreBytes}

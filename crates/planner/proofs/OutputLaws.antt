@@ -7,7 +7,7 @@ use native.Mathlib.Omega.{arith}
 use lib.ListN.{length, get_or, drop, get_or-append}
 use Rattle.words.specs.Tables.{over}
 use Rattle.words.proofs.Tables.{over_all}
-use borrow.Author.Tests.{not-true, not_false}
+use borrow.Author.Tests.{not-true, not-false}
 use Rattle.words.proofs.Tests.{cond_true, cond_false}
 use Rattle.planner.specs.Faults.{is_fine}
 use Rattle.planner.specs.Output.{output_of, lent_after}
