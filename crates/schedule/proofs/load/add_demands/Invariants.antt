@@ -1,0 +1,26 @@
+-- `schedule::load::add_demands` meets its contract. The invariant: the kinds passed have the demand added, and
+-- the others are as they were.
+use mathlib.Core.Path.{◌≡◌, refl, ◌∙◌}
+use Prim.Native.Nat.{ℕ, ◌+◌, ◌*◌, ◌-◌, ◌^◌, ◌≤◌, ◌<◌}
+use native.Mathlib.Omega.{arith}
+use lib.ListN.{length, set, length-set}
+use lib.Seq.{get_or-set_same, get_or-set_other}
+use borrow.Author.Count.{below_none}
+use borrow.Author.Rules.{rules}
+use Rattle.words.proofs.Tables.{stored_next, is_table}
+use Rattle.words.proofs.Tests.{at_or_other}
+use Rattle.order.specs.Stored.{elements}
+use Rattle.schedule.specs.Lists.{at}
+use Rattle.schedule.specs.model.Arrays.{AllAtMost}
+use Rattle.schedule.proofs.load.add_demands.Given as goal
+
+abbrev pub invariant-loop-k : goal.invariant-loop-k
+invariant-loop-k l =
+    (l.k ≤ 8)
+    × (length l.load ≡ 8)
+    × ((x : ℕ) → x < l.k → at l.load x ≡ at l.initial.load x + at l.demands (elements * x + l.i))
+    × ((x : ℕ) → l.k ≤ x → at l.load x ≡ at l.initial.load x)
+    × AllAtMost ((l.i + 1) * 2 ^ 32) l.load
+
+abbrev pub decreases-loop-k : goal.decreases-loop-k
+decreases-loop-k l = 8 - l.k
