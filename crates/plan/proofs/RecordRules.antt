@@ -199,7 +199,7 @@ cause_holds P s p typed fields timed spare repeated =
     (λ _ _. spare))
     (λ t.
     cond_has (Holds P) (eqb p m) crew arc (λ _. three _ _ _)
-    (λ u. rule_holds P _ _ (RepeatedArc p) (three _ _ _) (λ a b. repeated (omega (arith, ltb-false p m t, eqb-false p m u)) a (not_false (arc_repeats s p) b))))
+    (λ u. rule_holds P _ _ (RepeatedArc p) (three _ _ _) (λ a b. repeated (omega (arith, ltb-false p m t, eqb-false p m u)) a (not-false (arc_repeats s p) b))))
   where
     three : (a b c : Bool) → Holds P (rule (rule (rule Readable a (RecordType p)) b (Field p)) c (Spare p))
     three a b c =

@@ -111,7 +111,7 @@ first_refused n f e =
     let bad : ℕ → Bool = λ i. not (is_readable (f i)) in
     let p : ℕ = first n bad in
     by_test (ltb p n)
-    (λ t. (p, ltb-true p n t, cond_true (f p) Readable t, (λ i h. not_false (is_readable (f i)) (before_first n bad i h))))
+    (λ t. (p, ltb-true p n t, cond_true (f p) Readable t, (λ i h. not-false (is_readable (f i)) (before_first n bad i h))))
     (λ t. absurd (false≢true (sym e ∙ ap is_readable (cond_false (f p) Readable t))))
 
 -- so where no answer is a refusal, there is none

@@ -61,7 +61,7 @@ module _ (s : List ℕ) (kind n needed : ℕ) where
   roomy_fine e =
       let r = short_fine known n needed e in
       let k = cause_fine (fault_of s) (not (is_kind kind (plan_in s).kinds)) (NoKind (plan_in s).kinds) r.0 in
-      (k.0, not_false (is_kind kind (plan_in s).kinds) k.1, r.1)
+      (k.0, not-false (is_kind kind (plan_in s).kinds) k.1, r.1)
 
   pub kind_fine : is_fine (kind_fault s kind n needed) ≡ true
       → Opens s × (is_kind kind (plan_in s).kinds ≡ true) × (needed ≤ n) × (is_overloaded (plan_in s) ≡ false)

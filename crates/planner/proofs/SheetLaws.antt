@@ -51,7 +51,7 @@ module _ (n page : ℕ) where
   page_ends p q e test = record { fault = e ∙ rw (q, p) refl; test = test }
 
   pub page_there : is_fine (page_fault n page) ≡ true → (1 ≤ page) × (page ≤ pages_of n)
-  page_there e = kind_within page (pages_of n) (not_false (is_page page (pages_of n)) (cause_fine Fine (not (is_page page (pages_of n))) (NoPage (pages_of n)) e).1)
+  page_there e = kind_within page (pages_of n) (not-false (is_page page (pages_of n)) (cause_fine Fine (not (is_page page (pages_of n))) (NoPage (pages_of n)) e).1)
 
 -- where 8, 9 and 7 are no cause, there are few pages
 pub pages_small : (s : List ℕ) → AreBytes s → (kind n : ℕ) → is_fine (kind_fault s kind n page_bytes) ≡ true → sheet_pages s kind ≤ most_records

@@ -68,7 +68,7 @@ module _ (s : List ℕ) (e : Readable s) where
   unfolding over_cause
   plan_overloads bytes free t =
       let o = (opens_when s).1 (e, free) in
-      (over_cause (plan_in s), verdict_refused s bytes o (not_false (is_overloaded (plan_in s)) (sym (accepted_by (plan_in s) (opens_plan s o)) ∙ t)), refl)
+      (over_cause (plan_in s), verdict_refused s bytes o (not-false (is_overloaded (plan_in s)) (sym (accepted_by (plan_in s) (opens_plan s o)) ∙ t)), refl)
 
 -- ---- PLANS WITH THE SAME ACTIVITIES, CREW AND JOB ARCS are read alike but for the extra arcs
 

@@ -13,20 +13,20 @@ loop-i-init c =
 pub bounds-out-at : goal.bounds-out-at
 bounds-out-at c =
     let a = c.args in
-    let e = copying_length a.at a.bytes.now a.out.now c.loop-i.i c.loop-i.out c.loop-i.invariant c.before.requires in
+    let e = copying_length a.at a.bytes.now a.out.now c.loop-i.i c.loop-i.out c.loop-i.invariant c.requires in
     omega arith
 
 pub loop-i-preserved : goal.loop-i-preserved
 loop-i-preserved c =
     let a = c.args in
-    copying_next a.at a.bytes.now a.out.now c.loop-i.i c.loop-i.out c.loop-i.invariant c.before.requires (omega arith)
+    copying_next a.at a.bytes.now a.out.now c.loop-i.i c.loop-i.out c.loop-i.invariant c.requires (omega arith)
 
 pub shape_of-out : goal.shape_of-out
 shape_of-out c =
     let a = c.args in
-    copying_length a.at a.bytes.now a.out.now c.loop-i.i c.loop-i.out c.loop-i.invariant c.before.requires
+    copying_length a.at a.bytes.now a.out.now c.loop-i.i c.loop-i.out c.loop-i.invariant c.requires
 
 pub returns : goal.returns
 returns c =
     let a = c.args in
-    copying_end a.at a.bytes.now a.out.now c.loop-i.i c.loop-i.out c.loop-i.invariant c.before.requires (omega arith)
+    copying_end a.at a.bytes.now a.out.now c.loop-i.i c.loop-i.out c.loop-i.invariant c.requires (omega arith)

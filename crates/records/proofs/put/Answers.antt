@@ -10,23 +10,23 @@ loop-i-init c = let a = c.args in putting_none a.at a.n a.x a.out.now
 pub bounds-out-at : goal.bounds-out-at
 bounds-out-at c =
     let a = c.args in
-    let e = putting_length a.at a.n a.x a.out.now c.loop-i.rest c.loop-i.i c.loop-i.out c.loop-i.invariant c.before.requires in
+    let e = putting_length a.at a.n a.x a.out.now c.loop-i.rest c.loop-i.i c.loop-i.out c.loop-i.invariant c.requires in
     omega arith
 
 pub loop-i-preserved : goal.loop-i-preserved
 loop-i-preserved c =
     let a = c.args in
-    putting_next a.at a.n a.x a.out.now c.loop-i.rest c.loop-i.i c.loop-i.out c.loop-i.invariant c.before.requires (omega arith)
+    putting_next a.at a.n a.x a.out.now c.loop-i.rest c.loop-i.i c.loop-i.out c.loop-i.invariant c.requires (omega arith)
 
 pub shape_of-out : goal.shape_of-out
 shape_of-out c =
     let a = c.args in
-    putting_length a.at a.n a.x a.out.now c.loop-i.rest c.loop-i.i c.loop-i.out c.loop-i.invariant c.before.requires
+    putting_length a.at a.n a.x a.out.now c.loop-i.rest c.loop-i.i c.loop-i.out c.loop-i.invariant c.requires
 
 pub returns : goal.returns
 returns c =
     let a = c.args in
-    putting_all a.at a.n a.x a.out.now c.loop-i.rest c.loop-i.i c.loop-i.out c.loop-i.invariant c.before.requires (omega arith)
+    putting_all a.at a.n a.x a.out.now c.loop-i.rest c.loop-i.i c.loop-i.out c.loop-i.invariant c.requires (omega arith)
 
 pub overflow_cast-out : goal.overflow_cast-out
 overflow_cast-out c = omega arith

@@ -10,7 +10,7 @@ loop-p-init c = (clearing_none _ _ c.requires.1, omega arith)
 pub loop-p-preserved : goal.loop-p-preserved
 loop-p-preserved c =
     let l = c.loop-p in
-    let within = c.before.requires.0 in
+    let within = c.requires.0 in
     (clearing_more _ _ l.p (omega arith) l.invariant.0, omega arith)
 
 pub returns : goal.returns

@@ -5,7 +5,7 @@ use Rattle.solver.proofs.quote.Goals as goal
 
 pub quote_ranked-requires : goal.quote_ranked-requires
 quote_ranked-requires c =
-    let pre = c.before.requires in
+    let pre = c.requires in
     (pre.0, c.ranks-b.ensures, c.leads_of-l.ensures, pre.1)
 
 pub returns : goal.returns

@@ -8,4 +8,4 @@ pub returns-then-x-eq0 : goal.returns-then-x-eq0
 returns-then-x-eq0 c = sym (cond_true _ _ (eq-eqb _ _ c.if-x-eq0.true))
 
 pub returns-else-x-eq0 : goal.returns-else-x-eq0
-returns-else-x-eq0 c = shl_one 32 _ c.before.requires ∙ sym (cond_false _ _ (ne_eqb _ _ c.if-x-eq0.false))
+returns-else-x-eq0 c = shl_one 32 _ c.requires ∙ sym (cond_false _ _ (ne_eqb _ _ c.if-x-eq0.false))

@@ -12,7 +12,7 @@ returns-then-m-eq64 c =
     sym (ap (λ (m : ℕ). e.w % 2 ^ m) c.if-m-eq64.true ∙ mod-eq_of_lt fits)
 
 pub overflow_sub-result : goal.overflow_sub-result
-overflow_sub-result c = let m = c.args.m in omega (arith, shl_one word_bits m (omega (arith, c.before.requires, c.if-m-eq64.false)), pow_pos m)
+overflow_sub-result c = let m = c.args.m in omega (arith, shl_one word_bits m (omega (arith, c.requires, c.if-m-eq64.false)), pow_pos m)
 
 pub returns : goal.returns
-returns c = let e = c.args in ap (λ (x : ℕ). bit_and e.w (x - 1)) (shl_one word_bits e.m (omega (arith, c.before.requires, c.if-m-eq64.false))) ∙ and_mask e.w e.m
+returns c = let e = c.args in ap (λ (x : ℕ). bit_and e.w (x - 1)) (shl_one word_bits e.m (omega (arith, c.requires, c.if-m-eq64.false))) ∙ and_mask e.w e.m

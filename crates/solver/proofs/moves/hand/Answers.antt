@@ -14,7 +14,7 @@ returns-then-left-i-eq0 c =
 
 pub pass-requires : goal.pass-requires
 pass-requires c =
-    (c.before.requires, listed_below _ _ c.is_empty.ensures c.loop-w-test.true c.lowest-j.ensures)
+    (c.requires, listed_below _ _ c.is_empty.ensures c.loop-w-test.true c.lowest-j.ensures)
 
 pub loop-w-smaller : goal.loop-w-smaller
 loop-w-smaller c =

@@ -15,17 +15,17 @@ overflow_mul-at c =
 pub overflow_add-at : goal.overflow_add-at
 overflow_add-at c =
     let p = listed_below _ _ c.is_empty.ensures c.loop-w-test.true c.lowest-i.ensures in
-    omega (arith, c.before.requires)
+    omega (arith, c.requires)
 
 pub offset_bounds-flow-at : goal.offset_bounds-flow-at
 offset_bounds-flow-at c =
     let p = listed_below _ _ c.is_empty.ensures c.loop-w-test.true c.lowest-i.ensures in
-    omega (arith, c.before.requires)
+    omega (arith, c.requires)
 
 pub bounds-flow-at : goal.bounds-flow-at
 bounds-flow-at c =
     let p = listed_below _ _ c.is_empty.ensures c.loop-w-test.true c.lowest-i.ensures in
-    omega (arith, c.before.requires)
+    omega (arith, c.requires)
 
 pub loop-w-smaller : goal.loop-w-smaller
 loop-w-smaller c =

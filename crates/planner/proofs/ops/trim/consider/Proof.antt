@@ -7,7 +7,7 @@ use lib.ListN.{get_or}
 use borrow.Author.Rules.{rules}
 use mir.Syntax.{w64}
 use mir.Val.{Fits}
-use borrow.Author.Tests.{not-true, not_false}
+use borrow.Author.Tests.{not-true, not-false}
 use Rattle.words.specs.Bits.{bit}
 use Rattle.order.specs.Orders.{after_rows, order_in, joined_rows}
 use Rattle.order.specs.Stored.{cells}
@@ -39,7 +39,7 @@ returns-2 c =
     let h = else.before in
     let start = h.before.before in
     let a = start.args in
-    let may = sym (tested h) ∙ not_false _ else.if1.false in
+    let may = sym (tested h) ∙ not-false _ else.if1.false in
     let e = sym f.follows.ensures ∙ c.before.before.if2.true in
     let less = c.without-arc.ensures in (
       less ∙ left_follows a.m a.job.now a.demand.now a.available.now a.n a.free.now a.afters.now a.extra.now a.i a.j may e,
@@ -59,7 +59,7 @@ returns-3 c =
     let h = else.before in
     let start = h.before.before in
     let a = start.args in
-    let may = sym (tested h) ∙ not_false _ else.if1.false in (
+    let may = sym (tested h) ∙ not-false _ else.if1.false in (
       left_stays a.m a.job.now a.demand.now a.available.now a.n a.free.now a.afters.now a.extra.now a.i a.j may
           (joined.joined.ensures ∙ ap (joined_rows a.job.now) less.without-arc2.ensures)
           closing.closing.ensures.0 over.lowest-overload.ensures
@@ -76,7 +76,7 @@ returns-4 c =
     let else = less.before.before.before.before.before.before.before in
     let h = else.before in
     let a = h.before.before.args in
-    let may = sym (tested h) ∙ not_false _ else.if1.false in
+    let may = sym (tested h) ∙ not-false _ else.if1.false in
     let joins = joined.joined.ensures ∙ ap (joined_rows a.job.now) less.without-arc2.ensures in (
       less.without-arc2.ensures
           ∙ left_fits a.m a.job.now a.demand.now a.available.now a.n a.free.now a.afters.now
