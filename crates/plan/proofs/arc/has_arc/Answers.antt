@@ -1,0 +1,8 @@
+-- `plan::arc::has_arc` meets its contract.
+use borrow.Author.Rules.{rules}
+use Rattle.order.proofs.Stored.{number_of_lem}
+use Rattle.plan.proofs.arc.has_arc.Goals as goal
+
+pub returns : goal.returns
+returns c =
+    simp (c.has.ensures, number_of_lem c.row.result c.row.ensures, c.index-j.ensures.value, c.index-i.ensures.value)
