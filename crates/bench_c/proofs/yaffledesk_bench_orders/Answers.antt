@@ -6,18 +6,12 @@ use borrow.Author.Rules.{rules}
 use Rattle.order.specs.Orders.{after_rows, order_in, extended_by, joined_rows}
 use Rattle.order.specs.declared.Order.{Order}
 use Rattle.order.proofs.Orders.{order_begun}
-use Rattle.bench_c.proofs.yaffledesk_bench_orders.Statement.{statement}
-use Rattle.bench_c.proofs.yaffledesk_bench_orders.Tie as tie
+use Rattle.bench_c.proofs.yaffledesk_bench_orders.Goals as goal
 
 begun : (a b : List ℕ) {job whole : Order} → job ≡ order_in a → whole ≡ extended_by job b → whole ≡ order_in (joined_rows a b)
 begun a b e f = rw (f, e) (order_begun a b)
 
-returns : tie.Need-returns
+pub returns : goal.returns
 returns c =
-    let p = c.before in
-    let j = p.before in
-    let e = j.before.of.ensures in
-    (j.after_rows.ensures ∙ ap after_rows e, c.after-rows2.ensures ∙ ap after_rows (begun _ _ e p.with-arcs.ensures))
-
-pub yaffledesk_bench_orders_spec : {M : Type 1} → statement M
-yaffledesk_bench_orders_spec = tie.close (tie.spec (λ c κs. search rules) (λ c κs. search rules) (λ c κs. search rules) (λ c κs. search rules) returns)
+    let e = c.of-first.ensures in
+    (c.after_rows-j.ensures ∙ ap after_rows e, c.after_rows-p.ensures ∙ ap after_rows (begun _ _ e c.with_arcs.ensures))
