@@ -7,13 +7,13 @@ use borrow.Author.Rules.{rules}
 use Rattle.yaffledesk.proofs.codes.crew_check_code.Goals as goal
 
 pub found_code-requires : goal.found_code-requires
-found_code-requires c = subst (λ (x : CrewChecked). crew_check_code x < 2 ^ 64) c.c.given.1 c.requires
+found_code-requires c = subst (λ (x : CrewChecked). crew_check_code x < 2 ^ 64) c.in-Found.is c.requires
 
 pub returns-in-Found : goal.returns-in-Found
-returns-in-Found c = c.found_code.ensures ∙ sym (ap crew_check_code c.c.given.1)
+returns-in-Found c = c.found_code.ensures ∙ sym (ap crew_check_code c.in-Found.is)
 
 pub cause_code-requires : goal.cause_code-requires
-cause_code-requires c = subst (λ (x : CrewChecked). crew_check_code x < 2 ^ 64) c.c2.given.1 c.requires
+cause_code-requires c = subst (λ (x : CrewChecked). crew_check_code x < 2 ^ 64) c.in-Refused.is c.requires
 
 pub returns-in-Refused : goal.returns-in-Refused
-returns-in-Refused c = c.cause_code.ensures ∙ sym (ap crew_check_code c.c2.given.1)
+returns-in-Refused c = c.cause_code.ensures ∙ sym (ap crew_check_code c.in-Refused.is)

@@ -9,16 +9,16 @@ use Rattle.yaffledesk.proofs.codes.output_code.Goals as goal
 
 pub pack-requires : goal.pack-requires
 unfolding output_code
-pack-requires c = omega (arith, subst (λ (x : Output). output_code x < 2 ^ 64) c.o.given.1 c.requires)
+pack-requires c = omega (arith, subst (λ (x : Output). output_code x < 2 ^ 64) c.in-Written.is c.requires)
 
 pub returns-in-Written : goal.returns-in-Written
 unfolding output_code
-returns-in-Written c = c.pack.ensures ∙ sym (ap output_code c.o.given.1)
+returns-in-Written c = c.pack.ensures ∙ sym (ap output_code c.in-Written.is)
 
 pub cause_code-requires : goal.cause_code-requires
 unfolding output_code
-cause_code-requires c = subst (λ (x : Output). output_code x < 2 ^ 64) c.o2.given.1 c.requires
+cause_code-requires c = subst (λ (x : Output). output_code x < 2 ^ 64) c.in-Refused.is c.requires
 
 pub returns-in-Refused : goal.returns-in-Refused
 unfolding output_code
-returns-in-Refused c = c.cause_code.ensures ∙ sym (ap output_code c.o2.given.1)
+returns-in-Refused c = c.cause_code.ensures ∙ sym (ap output_code c.in-Refused.is)

@@ -7,7 +7,7 @@ use borrow.Author.Rules.{rules}
 use Rattle.yaffledesk.proofs.codes.shown_word.Goals as goal
 
 pub returns-in-Accepted : goal.returns-in-Accepted
-returns-in-Accepted c = sym (ap (λ (x : Decision). shown_word x % 2 ^ 64) c.v.given.1)
+returns-in-Accepted c = sym (ap (λ (x : Decision). shown_word x % 2 ^ 64) c.in-Accepted.is)
 
 pub returns-in-Refused : goal.returns-in-Refused
-returns-in-Refused c = c.cause_word.ensures ∙ sym (ap (λ (x : Decision). shown_word x % 2 ^ 64) c.v2.given.1)
+returns-in-Refused c = c.cause_word.ensures ∙ sym (ap (λ (x : Decision). shown_word x % 2 ^ 64) c.in-Refused.is)
