@@ -1,10 +1,9 @@
 -- What a loop over the members of a set goes by, `while !w.is_empty() { let b = w.lowest(); ..; w = w.without_lowest();
 -- }`: its invariant is `each elements f s (number_of w) ≡ r`, with r the run from the start, and its measure `number_of
 -- w`. Each law takes what `is_empty` ensures, the loop's test, and what `lowest` and `without_lowest` ensure.
-use Rattle.std.proofs.Common.{◌≡◌, ℕ, ◌<◌, Bool, true, false, not, eqb, sym, refl, ◌∙◌, eqb-true}
+use Rattle.std.proofs.Common.{◌≡◌, ℕ, ◌<◌, Bool, true, false, eqb, sym, ◌∙◌, eqb-true}
 use borrow.Author.Tests.{eqb-false}
 use Rattle.words.specs.model.Loops.{each}
-use Rattle.words.proofs.Tests.{false_of_not}
 use Rattle.words.proofs.Loops.{each_again, each_end, each_still}
 use Rattle.words.proofs.Members.{low_place, rest_less}
 use Rattle.order.specs.Stored.{elements, bound, number_of}

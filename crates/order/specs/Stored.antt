@@ -2,7 +2,7 @@
 -- means a number (its members are the places of the number's digits 1), and a table of sets is a list of
 -- words with a row for each set. Everything else speaks of the numbers, for any number of elements; the laws
 -- of proofs/Stored.antt are all that is known of this.
-use Rattle.std.specs.Prelude.{ℕ, ◌-◌, ◌^◌, ◌<◌, List, set, slice_index, slice_set}
+use Rattle.std.specs.Prelude.{ℕ, ◌-◌, ◌^◌, ◌<◌, List, slice_index, slice_set}
 use Rattle.words.specs.Bits.{word_bits}
 use Rattle.words.specs.Tables.{table}
 use Rattle.order.specs.declared.Set.{Set}

@@ -1,13 +1,12 @@
 -- How the operations that write end: the laws of `output_of` and `lent_after`, once for all of them.
 use mathlib.Core.Path.{◌≡◌, refl, sym, ap, ◌∙◌}
-use mathlib.Core.Bool.{Bool, true, false, not, true≢false}
+use mathlib.Core.Bool.{Bool, true, false, true≢false}
 use mathlib.Core.List.{List, ◌++◌}
 use Prim.Native.Nat.{ℕ, ◌<◌}
 use native.Mathlib.Omega.{arith}
 use lib.ListN.{length, get_or, drop, get_or-append}
 use Rattle.words.specs.Tables.{over}
 use Rattle.words.proofs.Tables.{over_all}
-use borrow.Author.Tests.{not-true, not-false}
 use Rattle.words.proofs.Tests.{cond_true, cond_false}
 use Rattle.planner.specs.Faults.{is_fine}
 use Rattle.planner.specs.Output.{output_of, lent_after}

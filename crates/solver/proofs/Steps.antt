@@ -10,7 +10,7 @@ use Rattle.solver.specs.declared.Quoted.{Quoted}
 use Rattle.solver.specs.model.Search.{low, marks, Seen, seen, visit, reached, fresh, found, onward, advance, begun, reach}
 use Rattle.order.specs.model.Places.{positive}
 use Rattle.solver.specs.model.Network.{Network, network, wrap, cell, giver, leaders, joined, shifted, walk, handing, augmented}
-use Rattle.solver.specs.model.Solve.{blanks, blank_rows, Round, round, solved, rank_of, ranked_at, ranked, hand_rank, started, sought, rounded, next, settle}
+use Rattle.solver.specs.model.Solve.{blanks, blank_rows, Round, round, solved, rank_of, ranked_at, ranked, hand_rank, started, sought, rounded, settle}
 use Rattle.solver.specs.model.Quote.{unused, copied, outcome, amount, told, quoted, quote_in, flow_in}
 
 -- ---- a search

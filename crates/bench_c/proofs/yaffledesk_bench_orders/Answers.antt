@@ -2,7 +2,6 @@
 use mathlib.Core.Path.{◌≡◌, ap, ◌∙◌}
 use mathlib.Core.List.{List}
 use Prim.Native.Nat.{ℕ}
-use borrow.Author.Rules.{rules}
 use Rattle.order.specs.Orders.{after_rows, order_in, extended_by, joined_rows}
 use Rattle.order.specs.declared.Order.{Order}
 use Rattle.order.proofs.Orders.{order_begun}

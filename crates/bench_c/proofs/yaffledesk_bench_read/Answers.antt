@@ -1,6 +1,5 @@
 -- `bench_c::yaffledesk_bench_read` meets its contract, field by field, by that of `plan::read`.
 use mathlib.Core.Path.{ap}
-use borrow.Author.Rules.{rules}
 use Rattle.plan.specs.declared.Reading.{Reading}
 use Rattle.bench_c.proofs.yaffledesk_bench_read.Goals as goal
 

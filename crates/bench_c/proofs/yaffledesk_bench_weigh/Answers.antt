@@ -1,7 +1,6 @@
 -- `bench_c::yaffledesk_bench_weigh` meets its contract, by that of `solver::weigh_ranked`.
 use mathlib.Core.Path.{ap, ◌∙◌}
 use Prim.Native.Nat.{◌%◌, ◌^◌}
-use borrow.Author.Rules.{rules}
 use Rattle.order.specs.Stored.{number_of}
 use Rattle.solver.specs.declared.Quoted.{Quoted}
 use Rattle.bench_c.proofs.yaffledesk_bench_weigh.Goals as goal

@@ -2,7 +2,6 @@
 -- as `solver::quote` leaves it.
 use mathlib.Core.Path.{ap, ◌∙◌}
 use Prim.Native.Nat.{◌%◌, ◌^◌}
-use borrow.Author.Rules.{rules}
 use Rattle.order.specs.declared.Order.{Order}
 use Rattle.order.specs.Stored.{number_of}
 use Rattle.solver.specs.declared.Quoted.{Quoted}

@@ -2,8 +2,6 @@
 use mathlib.Core.Path.{sym, ap₂, ◌∙◌}
 use mathlib.Core.List.{List}
 use Prim.Native.Nat.{ℕ}
-use native.Mathlib.Omega.{arith}
-use lib.ListN.{length}
 use Rattle.crew_sheet.specs.Sheet.{page_lines}
 use Rattle.crew_sheet.specs.Underway.{onto}
 use Rattle.crew_sheet.proofs.Filling.{head_room_lem, lines_room, page_said}

@@ -1,7 +1,6 @@
 -- `lines::digits` meets its contract: each turn divides one digit more off (`Dividing`).
 use native.Mathlib.Omega.{arith}
-use borrow.Author.Rules.{rules}
-use Rattle.lines.proofs.Decimals.{Dividing, dividing_one, dividing_next, dividing_end}
+use Rattle.lines.proofs.Decimals.{dividing_one, dividing_next, dividing_end}
 use Rattle.lines.proofs.digits.Goals as goal
 
 pub loop-rest-init : goal.loop-rest-init

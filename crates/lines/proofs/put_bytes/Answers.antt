@@ -1,8 +1,6 @@
 -- `lines::put_bytes` meets its contract: each turn writes one byte more (`Copying`).
-use Prim.Native.Nat.{◌-◌}
 use native.Mathlib.Omega.{arith}
-use borrow.Author.Rules.{rules}
-use Rattle.lines.proofs.Texts.{Copying, copying_none, copying_next, copying_length, copying_end}
+use Rattle.lines.proofs.Texts.{copying_none, copying_next, copying_length, copying_end}
 use Rattle.lines.proofs.put_bytes.Goals as goal
 
 pub loop-i-init : goal.loop-i-init

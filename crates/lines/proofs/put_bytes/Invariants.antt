@@ -1,8 +1,6 @@
 -- `lines::put_bytes` meets its contract: each turn writes one byte more (`Copying`).
 use Prim.Native.Nat.{◌-◌}
-use native.Mathlib.Omega.{arith}
-use borrow.Author.Rules.{rules}
-use Rattle.lines.proofs.Texts.{Copying, copying_none, copying_next, copying_length, copying_end}
+use Rattle.lines.proofs.Texts.{Copying}
 use Rattle.lines.proofs.put_bytes.Given as goal
 
 abbrev pub invariant-loop-i : goal.invariant-loop-i

@@ -1,8 +1,5 @@
 -- `lines::put_decimal` meets its contract: each turn writes one digit more, from the last on (`Spelling`).
-use native.Mathlib.Omega.{arith}
-use borrow.Author.Rules.{rules}
-use Rattle.lines.proofs.Decimals.{places_most}
-use Rattle.lines.proofs.Texts.{Spelling, spelling_none, spelling_next, spelling_length, spelling_end}
+use Rattle.lines.proofs.Texts.{Spelling}
 use Rattle.lines.proofs.put_decimal.Given as goal
 
 abbrev pub invariant-loop-i : goal.invariant-loop-i

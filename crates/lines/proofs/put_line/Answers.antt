@@ -1,7 +1,6 @@
 -- `lines::put_line` meets its contract: the word, the numbers and the line's end, one after another (`line_more`).
 use mathlib.Core.Path.{◌∙◌}
 use native.Mathlib.Omega.{arith}
-use borrow.Author.Rules.{rules}
 use lib.ListN.{length-set}
 use Rattle.lines.proofs.Texts.{room_numbers, line_end, line_more}
 use Rattle.lines.proofs.put_line.Goals as goal

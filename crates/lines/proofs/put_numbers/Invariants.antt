@@ -1,9 +1,6 @@
 -- `lines::put_numbers` meets its contract: each turn writes a space and a number more (`Listing`).
 use Prim.Native.Nat.{◌-◌}
-use native.Mathlib.Omega.{arith}
-use lib.ListN.{length-set}
-use borrow.Author.Rules.{rules}
-use Rattle.lines.proofs.Texts.{Listing, listing_none, listing_room, listing_next, listing_length, listing_end}
+use Rattle.lines.proofs.Texts.{Listing}
 use Rattle.lines.proofs.put_numbers.Given as goal
 
 abbrev pub invariant-loop-i : goal.invariant-loop-i

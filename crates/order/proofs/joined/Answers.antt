@@ -1,9 +1,8 @@
 -- `order::joined` meets its contract. The invariant: the rows are what the steps done make of those at the start.
-use Rattle.std.proofs.Common.{◌≡◌, ℕ, ◌-◌, ◌≤◌, List, ap, ◌∙◌, arith, rules}
-use Rattle.words.specs.model.Loops.{upto}
+use Rattle.std.proofs.Common.{ap, ◌∙◌, arith, rules}
 use Rattle.words.proofs.Loops.{up_none, up_again, up_end}
 use lib.Bits.{bit_or}
-use Rattle.order.specs.Stored.{elements, number_of, row, cells}
+use Rattle.order.specs.Stored.{elements, number_of, cells}
 use Rattle.order.specs.model.Warshall.{update_row}
 use Rattle.order.specs.Orders.{joined_rows}
 use Rattle.order.proofs.Stored.{number_of_lem, put_turn, rows_updated}

@@ -1,12 +1,9 @@
 -- `order::joined` meets its contract. The invariant: the rows are what the steps done make of those at the start.
-use Rattle.std.proofs.Common.{◌≡◌, ℕ, ◌-◌, ◌≤◌, List, ap, ◌∙◌, arith, rules}
+use Rattle.std.proofs.Common.{◌≡◌, ℕ, ◌-◌, ◌≤◌, List}
 use Rattle.words.specs.model.Loops.{upto}
-use Rattle.words.proofs.Loops.{up_none, up_again, up_end}
 use lib.Bits.{bit_or}
-use Rattle.order.specs.Stored.{elements, number_of, row, cells}
+use Rattle.order.specs.Stored.{elements, row}
 use Rattle.order.specs.model.Warshall.{update_row}
-use Rattle.order.specs.Orders.{joined_rows}
-use Rattle.order.proofs.Stored.{number_of_lem, put_turn, rows_updated}
 use Rattle.order.proofs.joined.Given as goal
 
 abbrev pub step : List ℕ → ℕ → ℕ → ℕ

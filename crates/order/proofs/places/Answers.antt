@@ -1,5 +1,4 @@
 -- `order::places` meets its contract, by that of `places_word`.
-use Rattle.std.proofs.Common.{rules}
 use Rattle.order.specs.Stored.{number_of}
 use Rattle.order.proofs.places.Goals as goal
 

@@ -1,5 +1,5 @@
 -- `order::row` meets its contract: a row is a word.
-use Rattle.std.proofs.Common.{refl, rules}
+use Rattle.std.proofs.Common.{refl}
 use Rattle.order.specs.Stored.{row, set_of}
 use Rattle.order.proofs.row.Goals as goal
 

@@ -2,7 +2,6 @@
 use mathlib.Core.Path.{◌∙◌}
 use native.Mathlib.Omega.{arith}
 use lib.ListN.{length}
-use borrow.Author.Rules.{rules}
 use Rattle.plan.specs.model.Reads.{read_of}
 use Rattle.plan.specs.Causes.{answer_of}
 use Rattle.plan.proofs.ReaderLoops.{told, told_not}

@@ -1,7 +1,6 @@
 -- `records::append_flow` meets its contract: a writing to the start of the lent tail is a
 -- writing there (`tail_written`).
 use Prim.Native.Nat.{◌*◌}
-use borrow.Author.Rules.{rules}
 use Rattle.records.specs.Records.{bytes, flow_record}
 use Rattle.records.proofs.Steps.{tail_written}
 use Rattle.records.proofs.append_flow.Goals as goal

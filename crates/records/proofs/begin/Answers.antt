@@ -1,5 +1,4 @@
 -- `records::begin` meets its contract: zeros, and then four stores (`begin_steps`).
-use borrow.Author.Rules.{rules}
 use native.Mathlib.Omega.{arith}
 use lib.ListN.{length-set}
 use Rattle.records.proofs.Steps.{begin_steps}

@@ -1,7 +1,6 @@
 -- `records::put` meets its contract: each turn writes one byte more of the number (`Puts`).
 use Prim.Native.Nat.{◌-◌}
-use native.Mathlib.Omega.{arith}
-use Rattle.records.proofs.Puts.{Putting, putting_none, putting_next, putting_length, putting_all}
+use Rattle.records.proofs.Puts.{Putting}
 use Rattle.records.proofs.put.Given as goal
 
 abbrev pub invariant-loop-i : goal.invariant-loop-i

@@ -1,5 +1,4 @@
 -- `records::write_flow` meets its contract: the type and three fields, the units, the mark (`flow_steps`).
-use borrow.Author.Rules.{rules}
 use native.Mathlib.Omega.{arith}
 use lib.ListN.{length-set}
 use Rattle.records.proofs.Steps.{flow_steps}

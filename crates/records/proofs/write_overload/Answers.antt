@@ -1,5 +1,4 @@
 -- `records::write_overload` meets its contract: the type and two fields, the need, the set (`overload_steps`).
-use borrow.Author.Rules.{rules}
 use Rattle.records.proofs.Steps.{overload_steps}
 use Rattle.records.proofs.write_overload.Goals as goal
 

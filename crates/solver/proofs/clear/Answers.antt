@@ -1,7 +1,6 @@
 -- `clear` meets its contract. The invariant: the places passed are 0, as are those past the m first rows.
-use Rattle.std.proofs.Common.{◌-◌, ◌*◌, ◌≤◌, arith, rules}
-use Rattle.order.specs.Stored.{elements}
-use Rattle.solver.proofs.Cleared.{Clearing, clearing_none, clearing_more, clearing_all}
+use Rattle.std.proofs.Common.{arith}
+use Rattle.solver.proofs.Cleared.{clearing_none, clearing_more, clearing_all}
 use Rattle.solver.proofs.clear.Goals as goal
 
 pub loop-p-init : goal.loop-p-init

@@ -1,7 +1,7 @@
 -- `clear` meets its contract. The invariant: the places passed are 0, as are those past the m first rows.
-use Rattle.std.proofs.Common.{◌-◌, ◌*◌, ◌≤◌, arith, rules}
+use Rattle.std.proofs.Common.{◌-◌, ◌*◌, ◌≤◌}
 use Rattle.order.specs.Stored.{elements}
-use Rattle.solver.proofs.Cleared.{Clearing, clearing_none, clearing_more, clearing_all}
+use Rattle.solver.proofs.Cleared.{Clearing}
 use Rattle.solver.proofs.clear.Given as goal
 
 abbrev pub invariant-loop-p : goal.invariant-loop-p

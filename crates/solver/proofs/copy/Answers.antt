@@ -1,9 +1,8 @@
 -- `copy` meets its contract. The invariant: the list has the entries passed.
-use Rattle.std.proofs.Common.{◌≡◌, ◌-◌, ◌≤◌, refl, arith, rules}
-use Rattle.words.specs.model.Loops.{upto}
+use Rattle.std.proofs.Common.{refl, arith}
 use Rattle.words.proofs.Loops.{up_none, up_again, up_end}
 use Rattle.solver.specs.model.Solve.{blanks}
-use Rattle.solver.specs.model.Quote.{copying, copied}
+use Rattle.solver.specs.model.Quote.{copied}
 use Rattle.solver.proofs.copy.Goals as goal
 
 pub loop-i-init : goal.loop-i-init

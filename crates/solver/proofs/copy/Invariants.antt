@@ -1,9 +1,8 @@
 -- `copy` meets its contract. The invariant: the list has the entries passed.
-use Rattle.std.proofs.Common.{◌≡◌, ◌-◌, ◌≤◌, refl, arith, rules}
+use Rattle.std.proofs.Common.{◌≡◌, ◌-◌, ◌≤◌}
 use Rattle.words.specs.model.Loops.{upto}
-use Rattle.words.proofs.Loops.{up_none, up_again, up_end}
 use Rattle.solver.specs.model.Solve.{blanks}
-use Rattle.solver.specs.model.Quote.{copying, copied}
+use Rattle.solver.specs.model.Quote.{copying}
 use Rattle.solver.proofs.copy.Given as goal
 
 abbrev pub invariant-loop-i : goal.invariant-loop-i

@@ -1,5 +1,4 @@
 -- `leads_of` meets its contract, by that of `leading_of`.
-use Rattle.std.proofs.Common.{rules}
 use Rattle.solver.proofs.leads_of.Goals as goal
 
 pub returns : goal.returns

@@ -1,5 +1,5 @@
 -- `quote` meets its contract, by that of `quote_ranked`.
-use Rattle.std.proofs.Common.{ℕ, List, ap, ◌∙◌, rules}
+use Rattle.std.proofs.Common.{ℕ, List, ap, ◌∙◌}
 use Rattle.solver.specs.model.Quote.{quote_in, flow_in}
 use Rattle.solver.proofs.quote.Goals as goal
 

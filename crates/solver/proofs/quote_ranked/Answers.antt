@@ -1,5 +1,4 @@
 -- `quote_ranked` meets its contract, by those of its parts.
-use Rattle.std.proofs.Common.{rules}
 use Rattle.solver.proofs.Steps.{quotes}
 use Rattle.solver.proofs.quote_ranked.Goals as goal
 

@@ -1,5 +1,5 @@
 -- `told` meets its contract, by those of its parts.
-use Rattle.std.proofs.Common.{ap, ◌∙◌, rules}
+use Rattle.std.proofs.Common.{ap, ◌∙◌}
 use Rattle.order.specs.declared.Set.{Set}
 use Rattle.order.proofs.Stored.{number_of_lem}
 use Rattle.solver.specs.model.Search.{looked}

@@ -1,5 +1,5 @@
 -- `total` meets its contract. The invariant: the sum is that of the entries passed.
-use Rattle.std.proofs.Common.{◌≡◌, ℕ, ◌-◌, ◌≤◌, ap, ◌∙◌, arith, rules}
+use Rattle.std.proofs.Common.{ℕ, ap, ◌∙◌, arith}
 use Rattle.solver.specs.model.Quote.{amount}
 use Rattle.solver.proofs.Steps.{amount_none, amount_more}
 use Rattle.solver.proofs.total.Goals as goal

@@ -1,5 +1,4 @@
 -- `weigh_ranked` meets its contract, by those of its parts.
-use Rattle.std.proofs.Common.{rules}
 use Rattle.solver.proofs.Steps.{quotes, ends_as}
 use Rattle.solver.proofs.Taken.{takes}
 use Rattle.solver.proofs.weigh_ranked.Goals as goal

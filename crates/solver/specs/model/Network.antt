@@ -1,6 +1,6 @@
 -- The handover and its moves, as functions on lists: the units at i * elements + j, for each taker the word
 -- of those that give to it, and what each giver and each taker has left.
-use Rattle.std.specs.Prelude.{ℕ, ◌+◌, ◌-◌, ◌*◌, ◌%◌, ◌^◌, min, Bool, cond, List, set, ◌==◌, nat_le, slice_index, slice_set}
+use Rattle.std.specs.Prelude.{ℕ, ◌+◌, ◌-◌, ◌*◌, ◌%◌, ◌^◌, min, Bool, cond, List, ◌==◌, nat_le, slice_index, slice_set}
 use Rattle.words.specs.Bits.{with_bit, minus}
 use Rattle.words.specs.model.Loops.{each, run}
 use Rattle.order.specs.Stored.{elements, row as set_at, put_row}

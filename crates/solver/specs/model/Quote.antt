@@ -1,7 +1,7 @@
 -- What `quote` gives, as a function of the number m of elements in use, the order and the
 -- demands alone: the need, a set that has it, and the handover. The elements from m on are
 -- passed over, whatever stands for them.
-use Rattle.std.specs.Prelude.{◌≡◌, ℕ, zero, suc, ◌+◌, ◌*◌, ◌≤◌, List, length, set, replicate, bit_and, slice_index, slice_set}
+use Rattle.std.specs.Prelude.{◌≡◌, ℕ, zero, suc, ◌+◌, ◌*◌, ◌≤◌, List, length, replicate, bit_and, slice_index, slice_set}
 use Rattle.words.specs.Bits.{minus}
 use Rattle.words.specs.model.Loops.{upto}
 use Rattle.order.specs.Orders.{after_rows}

@@ -6,7 +6,6 @@ use Rattle.planner.specs.CrewCheck.{crew_check_answer}
 use Rattle.planner.specs.declared.CrewChecked.{CrewChecked}
 use Rattle.yaffledesk.specs.Codes.{crew_check_code}
 use Rattle.yaffledesk.proofs.CodeBounds.{crew_small}
-use borrow.Author.Rules.{rules}
 use Rattle.yaffledesk.proofs.yaffledesk_crew_check.Goals as goal
 
 pub crew_check_code-requires : goal.crew_check_code-requires

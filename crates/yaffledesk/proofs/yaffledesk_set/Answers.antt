@@ -6,7 +6,6 @@ use native.Mathlib.Omega.{arith}
 use Rattle.planner.specs.declared.Decision.{Decision}
 use Rattle.yaffledesk.specs.Codes.{shown_word}
 use Rattle.yaffledesk.proofs.CodeBounds.{shown_small}
-use borrow.Author.Rules.{rules}
 use Rattle.yaffledesk.proofs.yaffledesk_set.Goals as goal
 
 pub returns : goal.returns

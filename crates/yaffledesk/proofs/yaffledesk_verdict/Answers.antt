@@ -5,7 +5,6 @@ use native.Mathlib.Omega.{arith}
 use Rattle.planner.specs.declared.Decision.{Decision}
 use Rattle.yaffledesk.specs.Codes.{verdict_code}
 use Rattle.yaffledesk.proofs.CodeBounds.{verdict_small}
-use borrow.Author.Rules.{rules}
 use Rattle.yaffledesk.proofs.yaffledesk_verdict.Goals as goal
 
 pub verdict_code-requires : goal.verdict_code-requires

@@ -1,8 +1,7 @@
 -- `Page::head` meets its contract: the page has its line, and has come as far.
-use mathlib.Core.Path.{ap, ap₂, ◌∙◌}
+use mathlib.Core.Path.{ap, ap₂}
 use Prim.Native.Nat.{ℕ}
 use mathlib.Core.List.{List}
-use native.Mathlib.Omega.{arith}
 use borrow.Rule.Slice.Mut.{set_vals}
 use Rattle.lines.specs.Text.{Text}
 use Rattle.crew_sheet.specs.Sheet.{head_line}

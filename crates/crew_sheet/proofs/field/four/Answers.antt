@@ -1,5 +1,4 @@
 -- `crew_sheet::field::four` meets its contract: the two halves that it read are those of `field`.
-use borrow.Author.Rules.{rules}
 use Rattle.crew_sheet.proofs.Filling.{field_halves}
 use Rattle.crew_sheet.proofs.field.four.Goals as goal
 

@@ -1,5 +1,4 @@
 -- `crew_sheet::fill::pages` meets its contract, case by case.
-use borrow.Author.Rules.{rules}
 use native.Mathlib.Omega.{arith}
 use Rattle.crew_sheet.specs.Sheet.{pages_of}
 use Rattle.crew_sheet.proofs.fill.pages.Goals as goal

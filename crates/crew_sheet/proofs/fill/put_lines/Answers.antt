@@ -1,10 +1,8 @@
 -- `crew_sheet::fill::put_lines` meets its contract: each turn writes one line more (`Putting`).
-use Prim.Native.Nat.{◌-◌}
-use borrow.Author.Rules.{rules}
 use native.Mathlib.Omega.{arith}
 use Rattle.lines.specs.Text.{text}
-use Rattle.lines.proofs.Putting.{Putting, putting_none, putting_length, putting_next, putting_end}
-use Rattle.crew_sheet.proofs.Filling.{line_at, line_short, page_end, row_put}
+use Rattle.lines.proofs.Putting.{putting_none, putting_length, putting_next, putting_end}
+use Rattle.crew_sheet.proofs.Filling.{line_short, page_end, row_put}
 use Rattle.crew_sheet.proofs.fill.put_lines.Goals as goal
 
 pub loop-l-init : goal.loop-l-init

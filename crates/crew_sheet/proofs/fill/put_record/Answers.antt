@@ -1,5 +1,4 @@
 -- `crew_sheet::fill::put_record` meets its contract: the line of what it read.
-use borrow.Author.Rules.{rules}
 use native.Mathlib.Omega.{arith}
 use Rattle.lines.specs.Text.{text}
 use Rattle.crew_sheet.proofs.Filling.{record_put, blank_put}

@@ -1,10 +1,9 @@
 -- `crew_sheet::text::put_blank` meets its contract: blanks and the line's end.
 use mathlib.Core.Path.{◌≡◌, refl, ◌∙◌}
-use mathlib.Core.List.{List, [], ◌∷◌, ◌++◌}
-use Prim.Native.Nat.{ℕ, ◌+◌, ◌≤◌}
+use mathlib.Core.List.{List}
+use Prim.Native.Nat.{ℕ}
 use native.Mathlib.Omega.{arith}
-use borrow.Author.Rules.{rules}
-use lib.ListN.{length, replicate, length-set, length-replicate}
+use lib.ListN.{replicate, length-set}
 use Rattle.lines.specs.Text.{text, more}
 use Rattle.crew_sheet.specs.Sheet.{blank_line}
 use Rattle.crew_sheet.proofs.LinesWritten.{Grown, grown_length, grown_room, grown_one}

@@ -1,11 +1,10 @@
 -- `crew_sheet::text::put_blanks` meets its contract: each turn writes one blank more (`Copying`).
 use mathlib.Core.Path.{sym, ap, ◌∙◌}
-use Prim.Native.Nat.{ℕ, ◌+◌, ◌-◌}
+use Prim.Native.Nat.{ℕ, ◌+◌}
 use native.Mathlib.Omega.{arith}
 use lib.ListN.{replicate, length-replicate, get_or-replicate}
-use borrow.Author.Rules.{rules}
 use Rattle.lines.specs.Text.{text}
-use Rattle.lines.proofs.Texts.{Copying, copying_none, copying_next, copying_length, copying_end}
+use Rattle.lines.proofs.Texts.{copying_none, copying_next, copying_length, copying_end}
 use Rattle.crew_sheet.proofs.text.put_blanks.Goals as goal
 
 pub loop-i-init : goal.loop-i-init

@@ -1,11 +1,7 @@
 -- `crew_sheet::text::put_blanks` meets its contract: each turn writes one blank more (`Copying`).
-use mathlib.Core.Path.{sym, ap, ◌∙◌}
-use Prim.Native.Nat.{ℕ, ◌+◌, ◌-◌}
-use native.Mathlib.Omega.{arith}
-use lib.ListN.{replicate, length-replicate, get_or-replicate}
-use borrow.Author.Rules.{rules}
-use Rattle.lines.specs.Text.{text}
-use Rattle.lines.proofs.Texts.{Copying, copying_none, copying_next, copying_length, copying_end}
+use Prim.Native.Nat.{◌-◌}
+use lib.ListN.{replicate}
+use Rattle.lines.proofs.Texts.{Copying}
 use Rattle.crew_sheet.proofs.text.put_blanks.Given as goal
 
 abbrev pub invariant-loop-i : goal.invariant-loop-i

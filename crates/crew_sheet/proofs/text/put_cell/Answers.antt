@@ -1,10 +1,9 @@
 -- `crew_sheet::text::put_cell` meets its contract: columns, then blanks.
-use mathlib.Core.Path.{◌≡◌, refl, ◌∙◌}
-use mathlib.Core.List.{List, [], ◌∷◌, ◌++◌}
-use Prim.Native.Nat.{ℕ, ◌+◌, ◌≤◌}
+use mathlib.Core.Path.{◌≡◌}
+use mathlib.Core.List.{List}
+use Prim.Native.Nat.{ℕ}
 use native.Mathlib.Omega.{arith}
-use borrow.Author.Rules.{rules}
-use lib.ListN.{length, replicate, length-set, length-replicate}
+use lib.ListN.{length-replicate}
 use Rattle.lines.specs.Text.{text, more}
 use Rattle.crew_sheet.specs.Sheet.{column, cell}
 use Rattle.crew_sheet.proofs.Columns.{length_column}

@@ -2,7 +2,7 @@
 -- from the last on (`Aligning`).
 use native.Mathlib.Omega.{arith}
 use borrow.Author.Rules.{rules}
-use Rattle.crew_sheet.proofs.Columns.{Aligning, aligning_none, aligning_next, aligning_length, aligning_end}
+use Rattle.crew_sheet.proofs.Columns.{aligning_none, aligning_next, aligning_length, aligning_end}
 use Rattle.crew_sheet.proofs.text.put_column.Goals as goal
 
 pub loop-i-init : goal.loop-i-init

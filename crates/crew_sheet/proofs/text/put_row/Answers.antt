@@ -1,10 +1,9 @@
 -- `crew_sheet::text::put_row` meets its contract: four cells and the line's end, one after another.
-use mathlib.Core.Path.{◌≡◌, refl, ◌∙◌}
-use mathlib.Core.List.{List, [], ◌∷◌, ◌++◌}
+use mathlib.Core.Path.{◌≡◌, ◌∙◌}
+use mathlib.Core.List.{List, ◌++◌}
 use Prim.Native.Nat.{ℕ, ◌+◌, ◌≤◌}
 use native.Mathlib.Omega.{arith}
-use borrow.Author.Rules.{rules}
-use lib.ListN.{length, replicate, length-set, length-replicate}
+use lib.ListN.{length, length-set}
 use Rattle.lines.specs.Text.{text, more}
 use Rattle.crew_sheet.specs.Sheet.{cell, row_line}
 use Rattle.crew_sheet.proofs.LinesWritten.{Grown, grown_length, grown_room, grown_one, grown_cell, length_cell}

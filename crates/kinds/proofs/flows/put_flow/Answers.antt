@@ -1,9 +1,6 @@
 -- `kinds::flows::put_flow` meets its contract. The invariant: the rows passed are written.
-use mathlib.Core.Path.{◌≡◌}
-use Prim.Native.Nat.{◌+◌, ◌≤◌, ◌-◌}
+use Prim.Native.Nat.{◌+◌}
 use native.Mathlib.Omega.{arith}
-use borrow.Author.Rules.{rules}
-use Rattle.words.specs.model.Loops.{upto}
 use Rattle.words.proofs.Loops.{up_none, up_again}
 use Rattle.order.specs.Rows.{after}
 use Rattle.kinds.specs.Flows.{units, mark_of}

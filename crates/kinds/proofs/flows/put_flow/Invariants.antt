@@ -1,14 +1,10 @@
 -- `kinds::flows::put_flow` meets its contract. The invariant: the rows passed are written.
 use mathlib.Core.Path.{◌≡◌}
 use Prim.Native.Nat.{◌+◌, ◌≤◌, ◌-◌}
-use native.Mathlib.Omega.{arith}
-use borrow.Author.Rules.{rules}
 use Rattle.words.specs.model.Loops.{upto}
-use Rattle.words.proofs.Loops.{up_none, up_again}
 use Rattle.order.specs.Rows.{after}
 use Rattle.kinds.specs.Flows.{units, mark_of}
 use Rattle.kinds.specs.model.Writing.{lent, put_row}
-use Rattle.kinds.proofs.RecordRoom.{row_room, rows_length, rows_end}
 use Rattle.kinds.proofs.flows.put_flow.Given as goal
 
 abbrev pub invariant-loop-from : goal.invariant-loop-from

@@ -1,7 +1,6 @@
 -- `kinds::flows::put_pair` meets its contract: a pair without units writes nothing, another its record.
 use mathlib.Core.Path.{sym}
 use native.Mathlib.Omega.{arith}
-use borrow.Author.Rules.{rules}
 use Rattle.kinds.specs.model.Writing.{lent}
 use Rattle.kinds.proofs.RecordRoom.{pair_none, pair_put}
 use Rattle.kinds.proofs.flows.put_pair.Goals as goal

@@ -1,14 +1,11 @@
 -- `kinds::flows::put_row` meets its contract. The invariant: the pairs passed are written.
 use mathlib.Core.Path.{◌≡◌}
 use Prim.Native.Nat.{◌+◌, ◌≤◌, ◌-◌}
-use native.Mathlib.Omega.{arith}
-use borrow.Author.Rules.{rules}
 use Rattle.words.specs.model.Loops.{upto}
-use Rattle.words.proofs.Loops.{up_none}
 use Rattle.order.specs.Rows.{after}
 use Rattle.kinds.specs.Flows.{units, mark_of}
 use Rattle.kinds.specs.model.Writing.{lent}
-use Rattle.kinds.proofs.RecordRoom.{pair_step, pair_room, pair_next, pairs_length, pairs_end}
+use Rattle.kinds.proofs.RecordRoom.{pair_step}
 use Rattle.kinds.proofs.flows.put_row.Given as goal
 
 abbrev pub invariant-loop-j : goal.invariant-loop-j

@@ -1,12 +1,10 @@
 -- `kinds::needs::demands_for` meets its contract. The invariant: the demands passed are copied.
-use mathlib.Core.Path.{◌≡◌, refl, ◌∙◌}
-use Prim.Native.Nat.{ℕ, ◌≤◌, ◌<◌, ◌-◌}
+use mathlib.Core.Path.{refl, ◌∙◌}
 use native.Mathlib.Omega.{arith}
-use lib.ListN.{length, get_or, length-set}
+use lib.ListN.{length-set}
 use borrow.Author.Count.{below_none}
 use borrow.Author.Rules.{rules}
 use Rattle.words.proofs.Tables.{stored_next}
-use Rattle.order.specs.Stored.{elements}
 use Rattle.kinds.specs.Needs.{demand_at}
 use Rattle.kinds.proofs.KindLoops.{demands_made}
 use Rattle.kinds.proofs.needs.demands_for.Goals as goal

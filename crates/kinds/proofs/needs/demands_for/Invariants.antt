@@ -1,14 +1,9 @@
 -- `kinds::needs::demands_for` meets its contract. The invariant: the demands passed are copied.
-use mathlib.Core.Path.{◌≡◌, refl, ◌∙◌}
+use mathlib.Core.Path.{◌≡◌}
 use Prim.Native.Nat.{ℕ, ◌≤◌, ◌<◌, ◌-◌}
-use native.Mathlib.Omega.{arith}
-use lib.ListN.{length, get_or, length-set}
-use borrow.Author.Count.{below_none}
-use borrow.Author.Rules.{rules}
-use Rattle.words.proofs.Tables.{stored_next}
+use lib.ListN.{length, get_or}
 use Rattle.order.specs.Stored.{elements}
 use Rattle.kinds.specs.Needs.{demand_at}
-use Rattle.kinds.proofs.KindLoops.{demands_made}
 use Rattle.kinds.proofs.needs.demands_for.Given as goal
 
 abbrev pub invariant-loop-i : goal.invariant-loop-i

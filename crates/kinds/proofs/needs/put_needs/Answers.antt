@@ -2,13 +2,10 @@
 -- over the front, and nothing is handed over any more. (It does not see the order itself: it speaks of
 -- every order that has the rows.)
 use mathlib.Core.Path.{◌≡◌, refl, ap, ◌∙◌}
-use Prim.Native.Nat.{ℕ, ◌≤◌, ◌-◌}
+use Prim.Native.Nat.{ℕ}
 use native.Mathlib.Omega.{arith}
-use lib.ListN.{length, length-set}
-use borrow.Author.Rules.{rules}
+use lib.ListN.{length-set}
 use Rattle.words.specs.Tables.{over}
-use Rattle.order.specs.Orders.{after_rows}
-use Rattle.order.specs.declared.Order.{Order}
 use Rattle.solver.specs.model.Quote.{unused}
 use Rattle.kinds.specs.Needs.{needs_for}
 use Rattle.kinds.proofs.KindLoops.{quoted_for, needs_next}

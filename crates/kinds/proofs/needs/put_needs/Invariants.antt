@@ -1,17 +1,14 @@
 -- `kinds::needs::put_needs` meets its contract. The invariant: the needs of the kinds passed are written
 -- over the front, and nothing is handed over any more. (It does not see the order itself: it speaks of
 -- every order that has the rows.)
-use mathlib.Core.Path.{◌≡◌, refl, ap, ◌∙◌}
-use Prim.Native.Nat.{ℕ, ◌≤◌, ◌-◌}
-use native.Mathlib.Omega.{arith}
-use lib.ListN.{length, length-set}
-use borrow.Author.Rules.{rules}
+use mathlib.Core.Path.{◌≡◌}
+use Prim.Native.Nat.{◌≤◌, ◌-◌}
+use lib.ListN.{length}
 use Rattle.words.specs.Tables.{over}
 use Rattle.order.specs.Orders.{after_rows}
 use Rattle.order.specs.declared.Order.{Order}
 use Rattle.solver.specs.model.Quote.{unused}
 use Rattle.kinds.specs.Needs.{needs_for}
-use Rattle.kinds.proofs.KindLoops.{quoted_for, needs_next}
 use Rattle.kinds.proofs.needs.put_needs.Given as goal
 
 abbrev pub invariant-loop-k : goal.invariant-loop-k

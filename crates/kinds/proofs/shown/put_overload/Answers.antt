@@ -1,7 +1,6 @@
 -- `kinds::shown::put_overload` meets its contract, by whether the kind is one of the first n.
 use mathlib.Core.Path.{◌∙◌}
 use native.Mathlib.Omega.{arith}
-use borrow.Author.Rules.{rules}
 use Rattle.order.proofs.Sets.{size_le}
 use Rattle.kinds.proofs.KindLoops.{shown_none, shown_one}
 use Rattle.kinds.proofs.shown.put_overload.Goals as goal

@@ -3,7 +3,6 @@
 use mathlib.Core.Path.{◌∙◌, ap}
 use Prim.Native.Nat.{ℕ, ◌-◌}
 use native.Mathlib.Omega.{arith}
-use borrow.Author.Rules.{rules}
 use Rattle.solver.specs.Sound.{asked}
 use Rattle.kinds.proofs.NodeUnits.{element_end, element_to}
 use Rattle.kinds.proofs.units.from_element.Goals as goal

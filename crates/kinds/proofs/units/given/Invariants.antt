@@ -1,10 +1,7 @@
 -- `kinds::units::given` meets its contract. The invariant: the sum is that of the elements passed.
-use mathlib.Core.Path.{◌≡◌, ap, ◌∙◌}
-use Prim.Native.Nat.{ℕ, ◌≤◌, ◌-◌}
-use native.Mathlib.Omega.{arith}
-use borrow.Author.Rules.{rules}
+use mathlib.Core.Path.{◌≡◌}
+use Prim.Native.Nat.{◌≤◌, ◌-◌}
 use Rattle.flow_math.specs.Handover.{row}
-use Rattle.flow_math.proofs.Rows.{row_none, row_step, row_next}
 use Rattle.solver.specs.model.Network.{handed}
 use Rattle.kinds.proofs.units.given.Given as goal
 

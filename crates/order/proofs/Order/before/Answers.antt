@@ -1,5 +1,5 @@
 -- `Order::before` meets its contract, by its row.
-use Rattle.std.proofs.Common.{ℕ, ap, ◌∙◌, rules}
+use Rattle.std.proofs.Common.{ℕ, ap, ◌∙◌}
 use Rattle.words.specs.Bits.{bit}
 use Rattle.order.proofs.Stored.{number_of_lem}
 use Rattle.order.proofs.Order.before.Goals as goal

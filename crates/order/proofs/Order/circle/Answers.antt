@@ -1,5 +1,5 @@
 -- `Order::circle` meets its contract. The invariant: no element below i is before itself.
-use Rattle.std.proofs.Common.{◌≡◌, ℕ, ◌-◌, ◌<◌, ◌≤◌, false, sym, ap, ◌∙◌, arith, rules, below_none, below_more}
+use Rattle.std.proofs.Common.{ℕ, sym, ap, ◌∙◌, arith, below_none, below_more}
 use Rattle.words.specs.Bits.{bit}
 use Rattle.words.proofs.Firsts.{first_stop, first_end}
 use Rattle.order.specs.Stored.{elements}

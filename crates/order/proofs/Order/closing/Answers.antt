@@ -1,5 +1,5 @@
 -- `Order::closing` meets its contract: the rows are closed, and so are those that the order has of them.
-use Rattle.std.proofs.Common.{ℕ, List, ap, rules}
+use Rattle.std.proofs.Common.{ℕ, List, ap}
 use Rattle.order.specs.Orders.{after_rows}
 use Rattle.order.specs.declared.Order.{Order}
 use Rattle.order.proofs.Order.closing.Goals as goal

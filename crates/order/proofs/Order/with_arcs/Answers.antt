@@ -1,8 +1,8 @@
 -- `Order::with_arcs` meets its contract. The invariant: the run over the rows left, from the rows
 -- so far, is the run over all.
-use Rattle.std.proofs.Common.{◌≡◌, ℕ, ◌-◌, ◌≤◌, List, length, get_or, sym, refl, ap, ◌∙◌, subst, arith, w64, Fits, rules}
+use Rattle.std.proofs.Common.{ℕ, ◌-◌, List, length, get_or, sym, refl, ap, ◌∙◌, subst, arith, w64, Fits, rules}
 use Rattle.order.specs.Stored.{elements, cells, row, RowsFit}
-use Rattle.order.specs.model.Growing.{grow_from, grow_by}
+use Rattle.order.specs.model.Growing.{grow_from}
 use Rattle.order.specs.Orders.{extended_by}
 use Rattle.order.specs.declared.Order.{Order}
 use Rattle.order.proofs.Stored.{number_of_lem, words_fit}

@@ -1,12 +1,8 @@
 -- `Order::with_arcs` meets its contract. The invariant: the run over the rows left, from the rows
 -- so far, is the run over all.
-use Rattle.std.proofs.Common.{◌≡◌, ℕ, ◌-◌, ◌≤◌, List, length, get_or, sym, refl, ap, ◌∙◌, subst, arith, w64, Fits, rules}
-use Rattle.order.specs.Stored.{elements, cells, row, RowsFit}
-use Rattle.order.specs.model.Growing.{grow_from, grow_by}
-use Rattle.order.specs.Orders.{extended_by}
-use Rattle.order.specs.declared.Order.{Order}
-use Rattle.order.proofs.Stored.{number_of_lem, words_fit}
-use Rattle.order.proofs.Growing.{from_keeps, grow_again, grow_end}
+use Rattle.std.proofs.Common.{◌≡◌, ◌≤◌, length}
+use Rattle.order.specs.Stored.{elements, cells, RowsFit}
+use Rattle.order.specs.model.Growing.{grow_by}
 use Rattle.order.proofs.Order.with_arcs.Given as goal
 
 abbrev pub invariant-loop-i : goal.invariant-loop-i

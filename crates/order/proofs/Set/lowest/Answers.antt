@@ -1,5 +1,4 @@
 -- `Set::lowest` meets its contract, by the number of the word.
-use Rattle.std.proofs.Common.{rules}
 use Rattle.order.specs.Stored.{number_of, set_of}
 use Rattle.order.proofs.Set.lowest.Goals as goal
 

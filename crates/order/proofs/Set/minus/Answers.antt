@@ -1,5 +1,5 @@
 -- `Set::minus` meets its contract, by the number of the word.
-use Rattle.std.proofs.Common.{ap, rules}
+use Rattle.std.proofs.Common.{ap}
 use Rattle.order.specs.Stored.{number_of, set_of}
 use Rattle.order.proofs.Set.minus.Goals as goal
 

@@ -1,5 +1,4 @@
 -- `Set::single` meets its contract, by that of `with`.
-use Rattle.std.proofs.Common.{rules}
 use Rattle.order.specs.Stored.{number_of, set_of}
 use Rattle.order.proofs.Set.single.Goals as goal
 

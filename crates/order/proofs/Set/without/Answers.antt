@@ -1,5 +1,5 @@
 -- `Set::without` meets its contract, by the number of the word.
-use Rattle.std.proofs.Common.{ap, rules}
+use Rattle.std.proofs.Common.{ap}
 use Rattle.order.specs.Stored.{number_of, set_of}
 use Rattle.order.proofs.Set.without.Goals as goal
 

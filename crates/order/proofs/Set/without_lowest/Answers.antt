@@ -1,5 +1,5 @@
 -- `Set::without_lowest` meets its contract, by that of `words::without_lowest`; nothing is taken out of the empty set.
-use Rattle.std.proofs.Common.{ℕ, sym, ap, ◌∙◌, rules}
+use Rattle.std.proofs.Common.{ℕ, sym, ap, ◌∙◌}
 use Rattle.words.specs.Bits.{rest}
 use Rattle.order.specs.Stored.{number_of, set_of}
 use Rattle.order.proofs.Set.without_lowest.Goals as goal

@@ -1,8 +1,6 @@
 -- `fewer::some_before` meets its contract. The invariant: what is left tells as much as the set at the start.
-use Rattle.std.proofs.Common.{◌≡◌, ℕ, sym, refl, ap, ◌∙◌, rules}
+use Rattle.std.proofs.Common.{ℕ, sym, refl, ap, ◌∙◌}
 use Rattle.words.specs.Bits.{bit}
-use Rattle.order.specs.Stored.{number_of}
-use Rattle.order.specs.Orders.{some_before}
 use Rattle.order.proofs.Stored.{number_of_lem}
 use Rattle.order.proofs.Listing.{listed_below, listing_less}
 use Rattle.order.proofs.Lacking.{some_before_here, some_before_none, some_before_rest}

@@ -1,5 +1,5 @@
 -- `fewer::without_arc` meets its contract, by its row.
-use Rattle.std.proofs.Common.{ℕ, ◌^◌, ap, ◌∙◌, rules}
+use Rattle.std.proofs.Common.{ℕ, ◌^◌, ap, ◌∙◌}
 use Rattle.words.specs.Bits.{minus}
 use Rattle.order.specs.Stored.{put_row}
 use Rattle.order.specs.Orders.{without_arc}

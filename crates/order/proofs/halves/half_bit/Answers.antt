@@ -1,5 +1,5 @@
 -- `halves::half_bit` meets its contract.
-use Rattle.std.proofs.Common.{sym, ◌∙◌, rules, eq-eqb, ne_eqb}
+use Rattle.std.proofs.Common.{sym, ◌∙◌, eq-eqb, ne_eqb}
 use Rattle.words.proofs.Bits.{shl_one}
 use Rattle.words.proofs.Tests.{cond_true, cond_false}
 use Rattle.order.proofs.halves.half_bit.Goals as goal

@@ -1,5 +1,5 @@
 -- `halves::places_word` meets its contract. The invariant: both halves have the places passed.
-use Rattle.std.proofs.Common.{◌≡◌, ℕ, ◌+◌, ◌-◌, ◌*◌, ◌%◌, ◌^◌, ◌≤◌, List, get_or, drop, sym, refl, ap, ◌∙◌, mod-eq_of_lt, arith, get_or-drop, rules}
+use Rattle.std.proofs.Common.{◌≡◌, ℕ, ◌+◌, ◌*◌, ◌%◌, ◌^◌, ◌≤◌, List, get_or, drop, sym, refl, ap, ◌∙◌, mod-eq_of_lt, arith, get_or-drop}
 use lib.Bits.{bit_or, or_shifted}
 use Rattle.order.specs.Stored.{elements}
 use Rattle.order.specs.model.Places.{positive}

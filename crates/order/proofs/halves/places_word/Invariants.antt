@@ -1,9 +1,6 @@
 -- `halves::places_word` meets its contract. The invariant: both halves have the places passed.
-use Rattle.std.proofs.Common.{◌≡◌, ℕ, ◌+◌, ◌-◌, ◌*◌, ◌%◌, ◌^◌, ◌≤◌, List, get_or, drop, sym, refl, ap, ◌∙◌, mod-eq_of_lt, arith, get_or-drop, rules}
-use lib.Bits.{bit_or, or_shifted}
-use Rattle.order.specs.Stored.{elements}
+use Rattle.std.proofs.Common.{◌≡◌, ◌-◌, ◌≤◌, drop}
 use Rattle.order.specs.model.Places.{positive}
-use Rattle.order.proofs.Nonzero.{nonzero_start, positive_more, positive_fits, positive_cat, positive_first}
 use Rattle.order.proofs.halves.places_word.Given as goal
 
 abbrev pub invariant-loop-i : goal.invariant-loop-i

@@ -1,6 +1,6 @@
 -- `transitive::add_row` meets its contract. The invariant: the run over what is left, from the rows with what is gained
 -- so far, is the run from the start, and none of what is left is held.
-use Rattle.std.proofs.Common.{◌≡◌, ℕ, List, sym, ap, ◌∙◌, subst, rules}
+use Rattle.std.proofs.Common.{◌≡◌, ℕ, List, sym, ap, ◌∙◌, subst}
 use lib.Bits.{bit_or}
 use Rattle.words.specs.Bits.{with_bit, minus}
 use Rattle.words.proofs.Loops.{each_end}

@@ -1,6 +1,6 @@
 -- `transitive::close` meets its contract. The invariant: the rows are what the passes done make of the arcs; all of
 -- them are Warshall's closure.
-use Rattle.std.proofs.Common.{◌≡◌, ℕ, ◌-◌, ◌≤◌, ap, ◌∙◌, arith, rules}
+use Rattle.std.proofs.Common.{ℕ, ap, ◌∙◌, arith}
 use Rattle.words.specs.model.Loops.{upto}
 use Rattle.words.proofs.Loops.{up_none, up_again, up_end}
 use Rattle.order.specs.Stored.{elements, number_of}

@@ -1,9 +1,7 @@
 -- `transitive::ends_of` meets its contract. The invariant: the set has the ends of the rows passed.
-use Rattle.std.proofs.Common.{◌≡◌, ◌-◌, ◌≤◌, ◌∙◌, ap₂, add-one, arith, rules}
-use lib.Bits.{bit_or}
-use Rattle.order.specs.Stored.{elements, number_of, set_of}
+use Rattle.std.proofs.Common.{◌≡◌, ◌-◌, ◌≤◌}
+use Rattle.order.specs.Stored.{elements, number_of}
 use Rattle.order.specs.model.Warshall.{ends_in}
-use Rattle.order.proofs.Stored.{number_of_lem, number_set}
 use Rattle.order.proofs.transitive.ends_of.Given as goal
 
 abbrev pub invariant-loop-i : goal.invariant-loop-i

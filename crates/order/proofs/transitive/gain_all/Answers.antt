@@ -1,5 +1,5 @@
 -- `transitive::gain_all` meets its contract, by that of `pass_by`.
-use Rattle.std.proofs.Common.{ℕ, ap, ◌∙◌, rules}
+use Rattle.std.proofs.Common.{ℕ, ap, ◌∙◌}
 use lib.Bits.{bit_or}
 use Rattle.order.specs.Stored.{elements, number_of, put_row}
 use Rattle.order.specs.model.Warshall.{passing_by}

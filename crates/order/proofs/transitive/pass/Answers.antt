@@ -1,5 +1,5 @@
 -- `transitive::pass` meets its contract, by that of `pass_by`.
-use Rattle.std.proofs.Common.{ℕ, ap, ◌∙◌, rules}
+use Rattle.std.proofs.Common.{ℕ, ap, ◌∙◌}
 use Rattle.order.specs.Stored.{elements}
 use Rattle.order.specs.model.Warshall.{passing_by}
 use Rattle.order.proofs.Stored.{number_of_lem}

@@ -1,10 +1,8 @@
 -- `transitive::pass_by` meets its contract. The invariant: the rows are what the steps done make of those at the start.
-use Rattle.std.proofs.Common.{◌≡◌, ℕ, ◌-◌, ◌≤◌, arith, rules}
+use Rattle.std.proofs.Common.{◌≡◌, ℕ, ◌-◌, ◌≤◌}
 use Rattle.words.specs.model.Loops.{upto}
-use Rattle.words.proofs.Loops.{up_none, up_again, up_end}
 use Rattle.order.specs.Stored.{elements, number_of}
 use Rattle.order.specs.model.Warshall.{passed, update_row}
-use Rattle.order.proofs.Stored.{put_turn}
 use Rattle.order.proofs.transitive.pass_by.Given as goal
 
 abbrev pub step : ℕ → ℕ → ℕ → ℕ → ℕ

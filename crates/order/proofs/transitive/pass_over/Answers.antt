@@ -1,5 +1,5 @@
 -- `transitive::pass_over` meets its contract, by the two tests.
-use Rattle.std.proofs.Common.{◌≡◌, ℕ, Bool, eqb, sym, ap, ◌∙◌, rules}
+use Rattle.std.proofs.Common.{◌≡◌, ℕ, Bool, eqb, sym, ap, ◌∙◌}
 use Rattle.words.proofs.Tests.{cond_true, cond_false}
 use Rattle.order.specs.Stored.{number_of, set_of}
 use Rattle.order.specs.declared.Set.{Set}

@@ -1,5 +1,4 @@
 -- `plan::activity::activity_cause` meets its contract: it rewrites with the calls, each one the next rule of the chain.
-use borrow.Author.Rules.{rules}
 use Rattle.plan.specs.Causes.{activity_cause}
 use Rattle.plan.proofs.activity.activity_cause.Goals as goal
 

@@ -1,7 +1,6 @@
 -- `plan::activity::activity_fields` meets its contract: each `return` rewrites with the test that led there.
 use native.Mathlib.Omega.{arith}
 use borrow.Author.Tests.{lt-ltb, le-ltb}
-use borrow.Author.Rules.{rules}
 use Rattle.plan.specs.Records.{activity_fields, activities}
 use Rattle.plan.proofs.activity.activity_fields.Goals as goal
 

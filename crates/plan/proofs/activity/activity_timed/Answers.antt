@@ -1,7 +1,6 @@
 -- `plan::activity::activity_timed` meets its contract: each `return` rewrites with the test of the duration.
 use native.Mathlib.Omega.{arith}
 use borrow.Author.Tests.{lt-ltb, le-ltb}
-use borrow.Author.Rules.{rules}
 use Rattle.plan.specs.Records.{duration_in}
 use Rattle.plan.proofs.activity.activity_timed.Goals as goal
 

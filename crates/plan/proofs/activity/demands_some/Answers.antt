@@ -1,11 +1,8 @@
 -- `plan::activity::demands_some` meets its contract. The invariant: nothing is demanded of the kinds passed.
-use mathlib.Core.Path.{◌≡◌, sym}
-use mathlib.Core.Bool.{false}
-use Prim.Native.Nat.{ℕ, ◌≤◌, ◌<◌, ◌-◌}
+use mathlib.Core.Path.{sym}
 use native.Mathlib.Omega.{arith}
 use lib.Dec.{ltb}
 use borrow.Author.Count.{below_none, below_more}
-use borrow.Author.Rules.{rules}
 use borrow.Author.Tests.{lt-ltb, le-ltb}
 use Rattle.words.proofs.Firsts.{some_here, some_none}
 use Rattle.plan.specs.Records.{demand_in, demands_some}

@@ -1,9 +1,5 @@
 -- `plan::activity::store_durations` meets its contract: the array is what the steps so far make of it.
-use mathlib.Core.Path.{◌≡◌}
-use Prim.Native.Nat.{◌-◌, ◌≤◌}
 use native.Mathlib.Omega.{arith}
-use borrow.Author.Rules.{rules}
-use Rattle.words.specs.model.Loops.{upto}
 use Rattle.words.proofs.Loops.{up_none, up_again, up_end}
 use Rattle.plan.specs.model.Phases.{put_duration}
 use Rattle.records.proofs.Steps.{rest_of_lem}

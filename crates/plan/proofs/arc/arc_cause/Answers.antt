@@ -1,5 +1,4 @@
 -- `plan::arc::arc_cause` meets its contract: it rewrites with the calls, each one the next rule of the chain.
-use borrow.Author.Rules.{rules}
 use Rattle.plan.specs.Causes.{arc_cause}
 use Rattle.plan.proofs.arc.arc_cause.Goals as goal
 

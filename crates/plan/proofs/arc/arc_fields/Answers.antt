@@ -1,5 +1,4 @@
 -- `plan::arc::arc_fields` meets its contract: each `return` rewrites with the tests and the calls that led there.
-use borrow.Author.Rules.{rules}
 use Rattle.plan.specs.Records.{arc_fields}
 use Rattle.plan.proofs.ReaderLoops.{told, told_not}
 use Rattle.plan.proofs.arc.arc_fields.Goals as goal

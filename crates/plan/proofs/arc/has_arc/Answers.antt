@@ -1,5 +1,4 @@
 -- `plan::arc::has_arc` meets its contract.
-use borrow.Author.Rules.{rules}
 use Rattle.order.proofs.Stored.{number_of_lem}
 use Rattle.plan.proofs.arc.has_arc.Goals as goal
 

@@ -1,7 +1,6 @@
 -- `plan::arc::is_end` meets its contract: each `return` rewrites with the tests and the calls that led there.
 use native.Mathlib.Omega.{arith}
 use borrow.Author.Tests.{lt-ltb, le-ltb}
-use borrow.Author.Rules.{rules}
 use Rattle.plan.proofs.arc.is_end.Goals as goal
 
 pub returns-then-i-eq0 : goal.returns-then-i-eq0

@@ -1,7 +1,6 @@
 -- `plan::arc::read_arc` meets its contract: each `return` is one way through the chain of rules.
 use mathlib.Core.Path.{refl, sym, ap, ◌∙◌}
 use mathlib.Core.Bool.{not}
-use borrow.Author.Rules.{rules}
 use Rattle.words.proofs.Tests.{cond_false}
 use Rattle.plan.specs.Causes.{is_readable}
 use Rattle.plan.proofs.RecordRules.{rule_keeps, rule_breaks, rule_stops}

@@ -1,18 +1,11 @@
 -- `plan::arc::read_arcs` meets its contract: no record before the place of the loop is refused, and their arcs are
 -- stored, so that they tell which arc is repeated.
-use mathlib.Core.Path.{◌≡◌, ap, ◌∙◌}
+use mathlib.Core.Path.{◌≡◌}
 use mathlib.Core.Bool.{true}
 use Prim.Native.Nat.{ℕ, ◌-◌, ◌≤◌, ◌<◌}
-use native.Mathlib.Omega.{arith}
-use borrow.Author.Rules.{rules}
 use Rattle.words.specs.model.Loops.{upto}
-use Rattle.words.proofs.Loops.{up_none, up_again, up_end}
-use Rattle.words.proofs.Tests.{cond_true, cond_false}
 use Rattle.plan.specs.Causes.{is_readable}
 use Rattle.plan.specs.model.Phases.{put_arc, arc_in}
-use Rattle.records.proofs.Steps.{rest_of_lem}
-use Rattle.plan.proofs.ReaderLoops.{told, told_not, record_left, refusal_here, refusal_stop, refusal_again, refusal_none, refusal_end}
-use Rattle.plan.proofs.RepeatedArcs.{looked_up}
 use Rattle.plan.proofs.arc.read_arcs.Given as goal
 
 abbrev pub invariant-loop-i : goal.invariant-loop-i

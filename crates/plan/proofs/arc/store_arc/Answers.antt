@@ -1,5 +1,4 @@
 -- `plan::arc::store_arc` meets its contract.
-use borrow.Author.Rules.{rules}
 use Rattle.order.proofs.Stored.{number_of_lem}
 use Rattle.plan.specs.model.ArcRows.{with_arc}
 use Rattle.plan.proofs.arc.store_arc.Goals as goal

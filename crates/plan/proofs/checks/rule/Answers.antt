@@ -1,5 +1,4 @@
 -- `plan::checks::rule` meets its contract, by the cases of the answer so far and of the test.
-use borrow.Author.Rules.{rules}
 use Rattle.plan.specs.Causes.{rule}
 use Rattle.plan.proofs.checks.rule.Goals as goal
 

@@ -1,9 +1,7 @@
 -- `plan::crew::available` meets its contract: the elements below the place of the loop are the table's.
-use mathlib.Core.Path.{◌≡◌, refl, ◌∙◌}
-use Prim.Native.Nat.{ℕ, ◌-◌, ◌≤◌, ◌<◌}
+use mathlib.Core.Path.{refl, ◌∙◌}
 use native.Mathlib.Omega.{arith}
-use borrow.Author.Rules.{rules}
-use lib.ListN.{length, get_or, length-set}
+use lib.ListN.{length-set}
 use Rattle.words.proofs.Tables.{is_table, stored_next}
 use Rattle.plan.specs.Records.{available_in}
 use Rattle.plan.proofs.crew.available.Goals as goal

@@ -1,10 +1,7 @@
 -- `plan::crew::available` meets its contract: the elements below the place of the loop are the table's.
-use mathlib.Core.Path.{◌≡◌, refl, ◌∙◌}
+use mathlib.Core.Path.{◌≡◌}
 use Prim.Native.Nat.{ℕ, ◌-◌, ◌≤◌, ◌<◌}
-use native.Mathlib.Omega.{arith}
-use borrow.Author.Rules.{rules}
-use lib.ListN.{length, get_or, length-set}
-use Rattle.words.proofs.Tables.{is_table, stored_next}
+use lib.ListN.{length, get_or}
 use Rattle.plan.specs.Records.{available_in}
 use Rattle.plan.proofs.crew.available.Given as goal
 

@@ -1,5 +1,4 @@
 -- `plan::crew::crew_cause` meets its contract: it rewrites with the calls, each one the next rule of the chain.
-use borrow.Author.Rules.{rules}
 use Rattle.plan.specs.Causes.{crew_cause}
 use Rattle.plan.proofs.crew.crew_cause.Goals as goal
 

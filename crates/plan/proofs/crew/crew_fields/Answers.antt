@@ -2,7 +2,6 @@
 use native.Mathlib.Omega.{arith}
 use lib.ListN.{get_or}
 use borrow.Author.Tests.{lt-ltb, le-ltb, lt-leb, le-leb}
-use borrow.Author.Rules.{rules}
 use Rattle.plan.specs.Records.{crew_fields}
 use Rattle.plan.proofs.ReaderLoops.{told, told_not}
 use Rattle.plan.proofs.crew.crew_fields.Goals as goal

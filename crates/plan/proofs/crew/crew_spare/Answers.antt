@@ -1,5 +1,4 @@
 -- `plan::crew::crew_spare` meets its contract: each `return` rewrites with the tests and the calls that led there.
-use borrow.Author.Rules.{rules}
 use Rattle.plan.proofs.ReaderLoops.{told, told_not}
 use Rattle.plan.proofs.crew.crew_spare.Goals as goal
 

@@ -1,11 +1,8 @@
 -- `plan::crew::no_demand_from` meets its contract: the test of what is left of the demands
 -- equals the test of all of them.
-use Prim.Native.Nat.{◌*◌, ◌≤◌, ◌-◌}
+use Prim.Native.Nat.{◌*◌}
 use mathlib.Core.Path.{◌≡◌, refl, sym, ◌∙◌}
 use native.Mathlib.Omega.{arith}
-use borrow.Author.Rules.{rules}
-use lib.Seq.{slice}
-use Rattle.records.specs.Bytes.{zeros}
 use Rattle.records.proofs.Zeros.{zeros_step, zeros_stop, zeros_none}
 use Rattle.order.specs.Stored.{elements}
 use Rattle.plan.proofs.crew.no_demand_from.Goals as goal

@@ -1,11 +1,8 @@
 -- `plan::field::all_zero` meets its contract: the test of what is left of the range equals the test of the whole range.
 use Prim.Native.Nat.{◌≤◌, ◌-◌}
-use mathlib.Core.Path.{◌≡◌, refl, sym, ◌∙◌}
-use native.Mathlib.Omega.{arith}
-use borrow.Author.Rules.{rules}
+use mathlib.Core.Path.{◌≡◌}
 use lib.Seq.{slice}
 use Rattle.records.specs.Bytes.{zeros}
-use Rattle.records.proofs.Zeros.{zeros_step, zeros_stop, zeros_none}
 use Rattle.plan.proofs.field.all_zero.Given as goal
 
 abbrev pub invariant-loop-i : goal.invariant-loop-i

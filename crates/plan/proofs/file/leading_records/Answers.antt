@@ -1,12 +1,9 @@
 -- `plan::file::leading_records` meets its contract: the run of what is left, from here, equals the run
 -- of the whole from the start.
-use Prim.Native.Nat.{◌+◌, ◌*◌, ◌≤◌, ◌-◌}
-use mathlib.Core.Path.{◌≡◌}
+use Prim.Native.Nat.{◌*◌}
 use native.Mathlib.Nat.{sub-zero, zero-add}
 use native.Mathlib.Omega.{arith}
-use borrow.Author.Rules.{rules}
 use lib.ListN.{drop}
-use Rattle.plan.specs.Records.{leading}
 use Rattle.plan.proofs.ReaderLoops.{leading_done, leading_turn, leading_stop}
 use Rattle.plan.proofs.file.leading_records.Goals as goal
 

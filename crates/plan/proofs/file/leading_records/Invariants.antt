@@ -2,12 +2,8 @@
 -- of the whole from the start.
 use Prim.Native.Nat.{◌+◌, ◌*◌, ◌≤◌, ◌-◌}
 use mathlib.Core.Path.{◌≡◌}
-use native.Mathlib.Nat.{sub-zero, zero-add}
-use native.Mathlib.Omega.{arith}
-use borrow.Author.Rules.{rules}
 use lib.ListN.{drop}
 use Rattle.plan.specs.Records.{leading}
-use Rattle.plan.proofs.ReaderLoops.{leading_done, leading_turn, leading_stop}
 use Rattle.plan.proofs.file.leading_records.Given as goal
 
 abbrev pub invariant-loop-i : goal.invariant-loop-i

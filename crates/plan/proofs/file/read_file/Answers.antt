@@ -1,7 +1,6 @@
 -- `plan::file::read_file` meets its contract: what follows the answer on the activities is what
 -- the definition has follow it.
 use native.Mathlib.Omega.{arith}
-use borrow.Author.Rules.{rules}
 use Rattle.plan.specs.model.Phases.{file_of}
 use Rattle.records.proofs.Steps.{rest_of_lem}
 use Rattle.plan.proofs.ReaderLoops.{length_rest, run_few, accepted, then_on, then_refused}

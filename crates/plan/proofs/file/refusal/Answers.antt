@@ -1,5 +1,4 @@
 -- `plan::file::refusal` meets its contract: the plan beside the answer is the empty one.
-use borrow.Author.Rules.{rules}
 use Rattle.plan.proofs.file.refusal.Goals as goal
 
 pub returns : goal.returns

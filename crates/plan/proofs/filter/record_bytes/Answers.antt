@@ -1,10 +1,9 @@
 -- `plan::filter::record_bytes` meets its contract: each turn copies one byte more.
 use mathlib.Core.Path.{◌≡◌, refl, ap, ◌∙◌}
-use mathlib.Core.List.{List, ◌++◌, append-nil}
-use Prim.Native.Nat.{ℕ, ◌-◌, ◌≤◌}
+use mathlib.Core.List.{List, append-nil}
+use Prim.Native.Nat.{ℕ}
 use native.Mathlib.Omega.{arith}
-use lib.ListN.{get_or, set, take, drop, replicate}
-use borrow.Author.Rules.{rules}
+use lib.ListN.{get_or, set, take, replicate}
 use Rattle.plan.proofs.Staying.{copy_more}
 use Rattle.plan.proofs.filter.record_bytes.Goals as goal
 

@@ -1,11 +1,8 @@
 -- `plan::filter::record_bytes` meets its contract: each turn copies one byte more.
-use mathlib.Core.Path.{◌≡◌, refl, ap, ◌∙◌}
-use mathlib.Core.List.{List, ◌++◌, append-nil}
-use Prim.Native.Nat.{ℕ, ◌-◌, ◌≤◌}
-use native.Mathlib.Omega.{arith}
-use lib.ListN.{get_or, set, take, drop, replicate}
-use borrow.Author.Rules.{rules}
-use Rattle.plan.proofs.Staying.{copy_more}
+use mathlib.Core.Path.{◌≡◌}
+use mathlib.Core.List.{◌++◌}
+use Prim.Native.Nat.{◌-◌, ◌≤◌}
+use lib.ListN.{take, drop, replicate}
 use Rattle.plan.proofs.filter.record_bytes.Given as goal
 
 abbrev pub invariant-loop-i : goal.invariant-loop-i

@@ -1,6 +1,5 @@
 -- `plan::filter::stays` meets its contract: by the record's type.
 use mathlib.Core.Path.{◌∙◌}
-use borrow.Author.Rules.{rules}
 use Rattle.plan.proofs.Staying.{other_stays, extra_stays}
 use Rattle.plan.proofs.filter.stays.Goals as goal
 

@@ -1,11 +1,7 @@
 -- `plan::filter::store_each_free` meets its contract: the rows are what the records so far make of them.
 use mathlib.Core.Path.{◌≡◌}
 use Prim.Native.Nat.{◌-◌, ◌≤◌}
-use native.Mathlib.Omega.{arith}
-use borrow.Author.Rules.{rules}
 use Rattle.words.specs.model.Loops.{upto}
-use Rattle.words.proofs.Loops.{up_none, up_again, up_end}
-use Rattle.records.proofs.Steps.{rest_of_lem}
 use Rattle.plan.specs.model.ArcRows.{put_free}
 use Rattle.plan.proofs.filter.store_each_free.Given as goal
 

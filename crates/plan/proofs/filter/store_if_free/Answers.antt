@@ -1,6 +1,5 @@
 -- `plan::filter::store_if_free` meets its contract: each `return` is one way that the definition has.
 use mathlib.Core.Path.{sym, ◌∙◌}
-use borrow.Author.Rules.{rules}
 use Rattle.plan.proofs.FreeArcs.{free_other, free_waits, free_here}
 use Rattle.plan.proofs.filter.store_if_free.Goals as goal
 

@@ -1,11 +1,10 @@
 -- `plan::filter::write_record` meets its contract: each turn copies one byte more.
 use mathlib.Core.Path.{◌≡◌, refl, ap, ◌∙◌}
 use mathlib.Core.List.{List, ◌++◌}
-use Prim.Native.Nat.{ℕ, ◌-◌, ◌≤◌}
+use Prim.Native.Nat.{ℕ, ◌≤◌}
 use native.Mathlib.Omega.{arith}
 use lib.ListN.{length, get_or, set, take, drop}
 use lib.Seq.{length-take-le}
-use borrow.Author.Rules.{rules}
 use Rattle.records.specs.Records.{starting_with}
 use Rattle.plan.proofs.Staying.{copy_more, copy_length, copy_all}
 use Rattle.plan.proofs.filter.write_record.Goals.{After-record_bytes-b}

@@ -1,5 +1,4 @@
 -- `plan::wait::raise_wait` meets its contract, from the ends of the arc and its wait.
-use borrow.Author.Rules.{rules}
 use Rattle.plan.proofs.wait.raise_wait.Goals as goal
 
 pub returns : goal.returns

@@ -1,9 +1,5 @@
 -- `plan::wait::raise_waits` meets its contract: the table is what the records so far make of it.
-use mathlib.Core.Path.{◌≡◌}
-use Prim.Native.Nat.{◌-◌, ◌≤◌}
 use native.Mathlib.Omega.{arith}
-use borrow.Author.Rules.{rules}
-use Rattle.words.specs.model.Loops.{upto}
 use Rattle.words.proofs.Loops.{up_none, up_again, up_end}
 use Rattle.records.proofs.Steps.{rest_of_lem}
 use Rattle.plan.specs.model.Waits.{put_wait}

@@ -2,7 +2,6 @@
 use mathlib.Core.Path.{sym, ap}
 use Rattle.planner.specs.Output.{output_of}
 use Rattle.planner.specs.declared.Fault.{Fault}
-use borrow.Author.Rules.{rules}
 use Rattle.planner.proofs.answer.output_of.Goals as goal
 
 pub returns-in-Fine : goal.returns-in-Fine

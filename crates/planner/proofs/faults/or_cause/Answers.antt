@@ -4,7 +4,6 @@ use mathlib.Core.Bool.{Bool}
 use Rattle.planner.specs.Faults.{or_cause}
 use Rattle.planner.specs.declared.Fault.{Fault}
 use Rattle.planner.specs.declared.Fault.TheVariants.{Fine}
-use borrow.Author.Rules.{rules}
 use Rattle.planner.proofs.faults.or_cause.Goals as goal
 
 pub returns-then-test : goal.returns-then-test

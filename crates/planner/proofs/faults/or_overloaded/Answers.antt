@@ -1,12 +1,10 @@
 -- `planner::faults::or_overloaded` meets its contract, by whether there is a fault already.
 use mathlib.Core.Path.{sym, ap, ◌∙◌}
 use native.Mathlib.Omega.{arith}
-use borrow.Author.Tests.{not-true}
 use Rattle.kinds.specs.declared.Overload.{Overload}
 use Rattle.kinds.proofs.KindLoops.{lowest_le}
 use Rattle.planner.specs.model.Opening.{overload_in, or_found}
 use Rattle.planner.proofs.FaultLaws.{not_weighed}
-use borrow.Author.Rules.{rules}
 use Rattle.planner.proofs.faults.or_overloaded.Goals as goal
 
 pub returns-then-not-is_fine : goal.returns-then-not-is_fine

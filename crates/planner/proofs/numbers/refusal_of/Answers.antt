@@ -2,7 +2,6 @@
 use mathlib.Core.Path.{sym, ap, ◌∙◌}
 use Rattle.plan.specs.declared.Told.{Told}
 use Rattle.planner.specs.Numbers.{plain, refusal_of}
-use borrow.Author.Rules.{rules}
 use Rattle.planner.proofs.numbers.refusal_of.Goals as goal
 
 -- the reader's causes, by what they tell

@@ -3,7 +3,6 @@ use mathlib.Core.Path.{ap, ◌∙◌}
 use Rattle.planner.specs.Open.{fault_of}
 use Rattle.planner.specs.model.Opening.{ordered_of}
 use Rattle.planner.specs.declared.open.Read.{Read}
-use borrow.Author.Rules.{rules}
 use Rattle.planner.proofs.open.open_plan.Goals as goal
 
 pub returns : goal.returns

@@ -2,7 +2,6 @@
 use native.Mathlib.Omega.{arith}
 use Rattle.order.proofs.Orders.{circle_le}
 use Rattle.planner.proofs.OpenLaws.{circles-as}
-use borrow.Author.Rules.{rules}
 use Rattle.planner.proofs.open.or_circles.Goals as goal
 
 pub overflow_add-i : goal.overflow_add-i

@@ -1,6 +1,5 @@
 -- `planner::open::ordered` meets its contract, from the rows, the orders and the circles.
 use Rattle.planner.proofs.OpenLaws.{ordered-as}
-use borrow.Author.Rules.{rules}
 use Rattle.planner.proofs.open.ordered.Goals as goal
 
 pub returns : goal.returns

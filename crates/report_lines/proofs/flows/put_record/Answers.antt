@@ -1,7 +1,6 @@
 -- `report_lines::flows::put_record` meets its contract: the line of the numbers that it read.
 use mathlib.Core.Path.{ap, ◌∙◌}
 use native.Mathlib.Omega.{arith}
-use borrow.Author.Rules.{rules}
 use Rattle.lines.specs.Text.{text, more}
 use Rattle.report_lines.proofs.FlowLines.{record_line_lem}
 use Rattle.report_lines.proofs.flows.put_record.Goals as goal

@@ -1,11 +1,9 @@
 -- `report_lines::flows::put_records` meets its contract: each turn writes a line more (`Putting`).
 use mathlib.Core.Path.{ap, ◌∙◌}
-use Prim.Native.Nat.{◌-◌}
 use native.Mathlib.Omega.{arith}
-use borrow.Author.Rules.{rules}
 use Rattle.lines.specs.Text.{text, more}
-use Rattle.report_lines.proofs.FlowLines.{flow_line, flow_short, flow_line_lem, flow_end}
-use Rattle.lines.proofs.Putting.{Putting, putting_none, putting_length, putting_next, putting_end}
+use Rattle.report_lines.proofs.FlowLines.{flow_short, flow_line_lem, flow_end}
+use Rattle.lines.proofs.Putting.{putting_none, putting_length, putting_next, putting_end}
 use Rattle.report_lines.proofs.flows.put_records.Goals as goal
 
 pub loop-i-init : goal.loop-i-init

@@ -1,5 +1,4 @@
 -- `report_lines::flows::units` meets its contract: the four bytes that it read are the four of `field`.
-use borrow.Author.Rules.{rules}
 use Rattle.report_lines.proofs.FlowLines.{units_field}
 use Rattle.report_lines.proofs.flows.units.Goals as goal
 

@@ -1,6 +1,5 @@
 -- `report_lines::head::head_text` meets its contract: the four parts, one after another (`head_end`).
 use native.Mathlib.Omega.{arith}
-use borrow.Author.Rules.{rules}
 use Rattle.report_lines.proofs.HeadLines.{needs_room, starts_room, started_at, head_length, head_end}
 use Rattle.report_lines.proofs.head.head_text.Goals as goal
 

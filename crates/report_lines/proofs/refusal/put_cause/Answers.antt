@@ -3,7 +3,6 @@
 use mathlib.Core.Path.{ap, ◌∙◌}
 use native.Mathlib.Omega.{arith}
 use lib.ListN.{length-set}
-use borrow.Author.Rules.{rules}
 use Rattle.report_lines.specs.Lines.{refusal_numbers}
 use Rattle.report_lines.proofs.RefusalLine.{values_first}
 use Rattle.report_lines.proofs.refusal.put_cause.Goals as goal

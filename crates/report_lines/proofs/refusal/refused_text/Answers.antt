@@ -1,5 +1,5 @@
 -- `report_lines::refusal::refused_text` meets its contract: the line of the numbers that were put down.
-use mathlib.Core.Path.{◌≡◌, sym}
+use mathlib.Core.Path.{◌≡◌}
 use native.Mathlib.Omega.{arith}
 use lib.ListN.{length}
 use borrow.Author.Rules.{rules}

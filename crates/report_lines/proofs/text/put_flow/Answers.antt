@@ -2,7 +2,6 @@
 -- does not refuse (`not_refused`).
 use mathlib.Core.Path.{ap, ◌∙◌}
 use native.Mathlib.Omega.{arith}
-use borrow.Author.Rules.{rules}
 use Rattle.lines.specs.Text.{text, more}
 use Rattle.report_lines.proofs.KindLines.{not_refused, written_lines}
 use Rattle.report_lines.proofs.text.put_flow.Goals as goal

@@ -2,12 +2,11 @@
 use mathlib.Core.Path.{◌≡◌, ap, ◌∙◌}
 use Prim.Native.Nat.{ℕ, ◌+◌, ◌-◌}
 use native.Mathlib.Omega.{arith}
-use borrow.Author.Rules.{rules}
 use Rattle.lines.specs.Text.{text, more}
 use Rattle.planner.specs.Open.{plan_in}
-use Rattle.report_lines.specs.Report.{flow_room, kind_lines}
+use Rattle.report_lines.specs.Report.{kind_lines}
 use Rattle.lines.proofs.Texts.{grown_by}
-use Rattle.lines.proofs.Putting.{Putting, putting_none, putting_length, putting_next, putting_end}
+use Rattle.lines.proofs.Putting.{putting_none, putting_length, putting_next, putting_end}
 use Rattle.report_lines.proofs.text.put_flows.Goals as goal
 
 pub loop-k-init : goal.loop-k-init

@@ -1,13 +1,8 @@
 -- `report_lines::text::put_flows` meets its contract: each turn writes the lines of a kind more (`Putting`).
-use mathlib.Core.Path.{◌≡◌, ap, ◌∙◌}
-use Prim.Native.Nat.{ℕ, ◌+◌, ◌-◌}
-use native.Mathlib.Omega.{arith}
-use borrow.Author.Rules.{rules}
-use Rattle.lines.specs.Text.{text, more}
+use Prim.Native.Nat.{◌-◌}
 use Rattle.planner.specs.Open.{plan_in}
 use Rattle.report_lines.specs.Report.{flow_room, kind_lines}
-use Rattle.lines.proofs.Texts.{grown_by}
-use Rattle.lines.proofs.Putting.{Putting, putting_none, putting_length, putting_next, putting_end}
+use Rattle.lines.proofs.Putting.{Putting}
 use Rattle.report_lines.proofs.text.put_flows.Given as goal
 
 abbrev pub invariant-loop-k : goal.invariant-loop-k

@@ -1,6 +1,5 @@
 -- `report_lines::text::put_head` meets its contract: the numbers that were lent are the plan's (`head_read`).
 use native.Mathlib.Omega.{arith}
-use borrow.Author.Rules.{rules}
 use Rattle.lines.specs.Text.{text}
 use Rattle.report_lines.proofs.Whole.{sizes_few, head_read}
 use Rattle.report_lines.proofs.text.put_head.Goals as goal

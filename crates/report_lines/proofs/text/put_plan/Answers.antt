@@ -1,7 +1,6 @@
 -- `report_lines::text::put_plan` meets its contract: the head, and the flows behind it (`plan_end`).
 use native.Mathlib.Nat.{le_of_eq}
 use native.Mathlib.Omega.{arith}
-use borrow.Author.Rules.{rules}
 use Rattle.report_lines.proofs.Whole.{flows_room, plan_end}
 use Rattle.report_lines.proofs.text.put_plan.Goals as goal
 

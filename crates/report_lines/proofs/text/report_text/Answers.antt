@@ -1,6 +1,5 @@
 -- `report_lines::text::report_text` meets its contract, by Verdict's answer (`report_is`).
 use mathlib.Core.Path.{ap, ◌∙◌}
-use borrow.Author.Rules.{rules}
 use Rattle.lines.specs.Text.{text, more}
 use Rattle.report_lines.proofs.Accepted.{accepted}
 use Rattle.report_lines.proofs.Whole.{report_is, counts_within}

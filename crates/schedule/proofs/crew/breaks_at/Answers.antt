@@ -3,7 +3,6 @@ use mathlib.Core.Bool.{Bool, ◌&&◌}
 use mathlib.Core.Path.{sym, ◌∙◌, ap, ap₂}
 use Prim.Native.Nat.{ℕ, ◌+◌, ◌*◌}
 use lib.Dec.{ltb}
-use borrow.Author.Rules.{rules}
 use Rattle.order.specs.Stored.{elements}
 use Rattle.schedule.specs.Lists.{at}
 use Rattle.schedule.proofs.crew.breaks_at.Goals as goal

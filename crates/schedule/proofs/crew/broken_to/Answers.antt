@@ -1,12 +1,11 @@
 -- `schedule::broken_to` meets its contract. The invariant: no arc to an element passed is broken.
 use mathlib.Core.Bool.{false, ◌&&◌}
 use mathlib.Core.Path.{◌≡◌, ap, ◌∙◌}
-use Prim.Native.Nat.{ℕ, ◌≤◌, ◌<◌, ◌-◌, ◌+◌, ◌*◌}
+use Prim.Native.Nat.{ℕ, ◌+◌, ◌*◌}
 use native.Mathlib.Omega.{arith}
 use lib.Dec.{ltb}
 use lib.ListN.{length}
 use borrow.Author.Count.{below_none, below_more}
-use borrow.Author.Rules.{rules}
 use Rattle.words.specs.Bits.{bit}
 use Rattle.order.specs.Stored.{elements}
 use Rattle.order.proofs.Stored.{number_of_lem}

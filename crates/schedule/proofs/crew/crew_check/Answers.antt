@@ -1,7 +1,6 @@
 -- `schedule::crew_check` meets its contract. From what the parts found.
 use mathlib.Core.Path.{◌≡◌}
 use native.Mathlib.Omega.{arith}
-use borrow.Author.Rules.{rules}
 use Rattle.schedule.specs.Checks.{broken_from}
 use Rattle.schedule.specs.model.Arrays.{crew_net, with_waits, work_of}
 use Rattle.schedule.specs.Lists.{at}

@@ -2,11 +2,9 @@
 -- after the start of one passed.
 use mathlib.Core.Bool.{Bool}
 use mathlib.Core.Path.{◌≡◌, sym, ◌∙◌, ap, ap₂, subst}
-use Prim.Native.Nat.{ℕ, suc, ◌≤◌, ◌-◌, ◌+◌}
+use Prim.Native.Nat.{ℕ, suc, ◌+◌}
 use native.Mathlib.Omega.{arith}
 use lib.Dec.{ltb}
-use lib.ListN.{length}
-use borrow.Author.Rules.{rules}
 use Rattle.schedule.specs.Checks.{lowest_kind}
 use Rattle.schedule.specs.model.Arrays.{work_of}
 use Rattle.schedule.specs.Lists.{at}

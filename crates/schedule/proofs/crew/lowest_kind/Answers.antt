@@ -1,10 +1,8 @@
 -- `schedule::lowest_kind` meets its contract. The invariant: no kind passed is exceeded.
 use mathlib.Core.Bool.{false}
 use mathlib.Core.Path.{◌≡◌, ◌∙◌}
-use Prim.Native.Nat.{ℕ, ◌≤◌, ◌<◌, ◌-◌}
 use native.Mathlib.Omega.{arith}
 use borrow.Author.Count.{below_none, below_more}
-use borrow.Author.Rules.{rules}
 use borrow.Author.Tests.{lt-ltb, le-ltb}
 use Rattle.words.proofs.Firsts.{first_stop, first_end}
 use Rattle.schedule.specs.Checks.{exceeds, lowest_kind}

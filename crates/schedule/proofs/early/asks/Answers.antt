@@ -1,6 +1,5 @@
 -- `schedule::asks` meets its contract. By its test.
 use mathlib.Core.Path.{sym, ◌∙◌}
-use borrow.Author.Rules.{rules}
 use Rattle.words.proofs.Tests.{cond_true, cond_false}
 use Rattle.schedule.proofs.early.asks.Goals as goal
 

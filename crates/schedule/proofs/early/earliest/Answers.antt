@@ -1,11 +1,10 @@
 -- `schedule::earliest` meets its contract. The invariant: the starts are those of the elements done, and these are
 -- all of a rank below the level.
 use mathlib.Core.List.{List}
-use mathlib.Core.Path.{◌≡◌, sym, ap, ◌∙◌, subst}
-use Prim.Native.Nat.{ℕ, ◌+◌, ◌≤◌, ◌-◌}
+use mathlib.Core.Path.{sym, ap, ◌∙◌, subst}
+use Prim.Native.Nat.{ℕ, ◌+◌}
 use native.Mathlib.Nat.{not-suc-le-zero}
 use native.Mathlib.Omega.{arith}
-use borrow.Author.Rules.{rules}
 use Rattle.schedule.specs.model.Arrays.{net_of, with_waits, FinishesFit}
 use Rattle.schedule.specs.model.Levels.{starts_by, RanksDone}
 use Rattle.schedule.proofs.Arrays.{weights_most}

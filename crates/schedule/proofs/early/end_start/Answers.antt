@@ -1,9 +1,6 @@
 -- `schedule::end_start` meets its contract. The invariant: the largest finish of the elements passed.
 use mathlib.Core.Path.{◌≡◌, refl}
-use Prim.Native.Nat.{◌≤◌, ◌-◌, ◌+◌}
 use native.Mathlib.Omega.{arith}
-use lib.ListN.{get_or}
-use borrow.Author.Rules.{rules}
 use Rattle.words.specs.Sums.{maximum}
 use Rattle.words.proofs.Maxima.{maximum_next}
 use Rattle.schedule.specs.Starts.{end_of}

@@ -1,12 +1,8 @@
 -- `schedule::end_start` meets its contract. The invariant: the largest finish of the elements passed.
-use mathlib.Core.Path.{◌≡◌, refl}
+use mathlib.Core.Path.{◌≡◌}
 use Prim.Native.Nat.{◌≤◌, ◌-◌, ◌+◌}
-use native.Mathlib.Omega.{arith}
 use lib.ListN.{get_or}
-use borrow.Author.Rules.{rules}
 use Rattle.words.specs.Sums.{maximum}
-use Rattle.words.proofs.Maxima.{maximum_next}
-use Rattle.schedule.specs.Starts.{end_of}
 use Rattle.schedule.proofs.early.end_start.Given as goal
 
 abbrev pub invariant-loop-i : goal.invariant-loop-i

@@ -1,16 +1,10 @@
 -- `schedule::latest` meets its contract. The invariant: the largest that the arcs passed ask.
 use mathlib.Core.Bool.{cond}
-use mathlib.Core.Path.{◌≡◌, refl, sym, ap₂, ◌∙◌}
-use Prim.Native.Nat.{ℕ, ◌≤◌, ◌-◌, ◌+◌, ◌*◌}
-use native.Mathlib.Omega.{arith}
-use borrow.Author.Rules.{rules}
-use Rattle.words.specs.Bits.{bit}
+use mathlib.Core.Path.{◌≡◌}
+use Prim.Native.Nat.{◌≤◌, ◌-◌, ◌+◌, ◌*◌}
 use Rattle.words.specs.Sums.{maximum}
-use Rattle.words.proofs.Maxima.{maximum_next}
 use Rattle.order.specs.Stored.{elements}
-use Rattle.order.proofs.Stored.{number_of_lem}
 use Rattle.order.specs.Rows.{after}
-use Rattle.schedule.specs.Starts.{asked}
 use Rattle.schedule.specs.Lists.{at}
 use Rattle.schedule.proofs.early.latest.Given as goal
 

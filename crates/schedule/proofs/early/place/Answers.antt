@@ -1,14 +1,12 @@
 -- `schedule::place` meets its contract. The invariant: what is left to store comes to what
 -- there was to store at the start.
-use mathlib.Core.Path.{◌≡◌, ap}
+use mathlib.Core.Path.{ap}
 use native.Mathlib.Omega.{arith}
 use lib.ListN.{set}
-use borrow.Author.Rules.{rules}
-use Rattle.order.specs.Stored.{number_of}
 use Rattle.order.proofs.Listing.{listed_below, listing_less, listing_again, listing_end}
 use Rattle.schedule.specs.model.Arrays.{net_of, with_waits}
 use Rattle.schedule.specs.Lists.{at}
-use Rattle.schedule.specs.model.Levels.{place, placed}
+use Rattle.schedule.specs.model.Levels.{place}
 use Rattle.schedule.proofs.early.place.Goals as goal
 
 pub latest-requires : goal.latest-requires

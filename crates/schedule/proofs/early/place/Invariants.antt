@@ -1,14 +1,10 @@
 -- `schedule::place` meets its contract. The invariant: what is left to store comes to what
 -- there was to store at the start.
-use mathlib.Core.Path.{◌≡◌, ap}
-use native.Mathlib.Omega.{arith}
-use lib.ListN.{set}
-use borrow.Author.Rules.{rules}
+use mathlib.Core.Path.{◌≡◌}
 use Rattle.order.specs.Stored.{number_of}
-use Rattle.order.proofs.Listing.{listed_below, listing_less, listing_again, listing_end}
 use Rattle.schedule.specs.model.Arrays.{net_of, with_waits}
 use Rattle.schedule.specs.Lists.{at}
-use Rattle.schedule.specs.model.Levels.{place, placed}
+use Rattle.schedule.specs.model.Levels.{placed}
 use Rattle.schedule.proofs.early.place.Given as goal
 
 abbrev pub invariant-loop-left : goal.invariant-loop-left

@@ -1,7 +1,6 @@
 -- `schedule::ready` meets its contract. From what its calls give.
 use mathlib.Core.Path.{◌∙◌, ap, ap₂}
 use Prim.Native.Nat.{ℕ}
-use borrow.Author.Rules.{rules}
 use Rattle.words.specs.Bits.{minus}
 use Rattle.order.specs.Stored.{number_of}
 use Rattle.order.proofs.Stored.{number_of_lem, number_all}

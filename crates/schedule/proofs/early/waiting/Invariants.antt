@@ -1,16 +1,11 @@
 -- `schedule::waiting` meets its contract. The invariant: going on from here comes to what going
 -- on from the start comes to.
 use mathlib.Core.List.{List}
-use mathlib.Core.Path.{◌≡◌, ap, ap₂, ◌∙◌}
+use mathlib.Core.Path.{◌≡◌}
 use Prim.Native.Nat.{ℕ}
 use lib.Bits.{bit_or}
-use borrow.Author.Rules.{rules}
-use Rattle.words.specs.Bits.{minus}
 use Rattle.words.specs.model.Loops.{each}
 use Rattle.order.specs.Stored.{elements, number_of, row}
-use Rattle.order.proofs.Stored.{number_of_lem, number_none, number_all}
-use Rattle.order.proofs.Listing.{listed_below, listing_less, listing_again, listing_end}
-use Rattle.schedule.proofs.Levels.{waiting_members}
 use Rattle.schedule.proofs.early.waiting.Given as goal
 
 abbrev pub step : List ℕ → ℕ → ℕ → ℕ

@@ -1,14 +1,8 @@
 -- `schedule::load::add_demands` meets its contract. The invariant: the kinds passed have the demand added, and
 -- the others are as they were.
-use mathlib.Core.Path.{◌≡◌, refl, ◌∙◌}
+use mathlib.Core.Path.{◌≡◌}
 use Prim.Native.Nat.{ℕ, ◌+◌, ◌*◌, ◌-◌, ◌^◌, ◌≤◌, ◌<◌}
-use native.Mathlib.Omega.{arith}
-use lib.ListN.{length, set, length-set}
-use lib.Seq.{get_or-set_same, get_or-set_other}
-use borrow.Author.Count.{below_none}
-use borrow.Author.Rules.{rules}
-use Rattle.words.proofs.Tables.{stored_next, is_table}
-use Rattle.words.proofs.Tests.{at_or_other}
+use lib.ListN.{length}
 use Rattle.order.specs.Stored.{elements}
 use Rattle.schedule.specs.Lists.{at}
 use Rattle.schedule.specs.model.Arrays.{AllAtMost}

@@ -2,7 +2,6 @@
 use mathlib.Core.Path.{ap₂}
 use Prim.Native.Nat.{ℕ, ◌+◌}
 use lib.Dec.{leb}
-use borrow.Author.Rules.{rules}
 use Rattle.schedule.proofs.load.finished_no_sooner.Goals as goal
 
 pub returns : goal.returns

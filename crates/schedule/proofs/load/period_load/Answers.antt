@@ -1,16 +1,12 @@
 -- `schedule::load::period_load` meets its contract. The invariant: the load is that of the activities passed, and at
 -- most 2 ^ 32 for each of them.
 use mathlib.Core.List.{[]}
-use mathlib.Core.Logic.{⊎_elim}
 use mathlib.Core.Bool.{true, false}
 use mathlib.Core.Path.{◌≡◌, refl, ap, ◌∙◌}
-use Prim.Native.Nat.{◌*◌, ◌-◌, ◌^◌, ◌≤◌}
 use native.Mathlib.Omega.{arith}
 use lib.ListN.{length}
-use borrow.Author.Rules.{rules}
 use Rattle.words.proofs.Tables.{length_table, get_d_zeros}
-use Rattle.schedule.specs.model.Arrays.{AllAtMost, work_of}
-use Rattle.schedule.specs.model.Loads.{load_up_to}
+use Rattle.schedule.specs.model.Arrays.{work_of}
 use Rattle.schedule.proofs.PeriodLoads.{tested, load_none, load_more, load_same}
 use Rattle.schedule.proofs.load.period_load.Goals as goal
 use Rattle.schedule.proofs.load.period_load.Goals.{then-started_by+then-finished_no_sooner, then-started_by+else-finished_no_sooner, else-started_by}

@@ -1,17 +1,11 @@
 -- `schedule::load::period_load` meets its contract. The invariant: the load is that of the activities passed, and at
 -- most 2 ^ 32 for each of them.
 use mathlib.Core.List.{[]}
-use mathlib.Core.Logic.{⊎_elim}
-use mathlib.Core.Bool.{true, false}
-use mathlib.Core.Path.{◌≡◌, refl, ap, ◌∙◌}
+use mathlib.Core.Path.{◌≡◌}
 use Prim.Native.Nat.{◌*◌, ◌-◌, ◌^◌, ◌≤◌}
-use native.Mathlib.Omega.{arith}
 use lib.ListN.{length}
-use borrow.Author.Rules.{rules}
-use Rattle.words.proofs.Tables.{length_table, get_d_zeros}
 use Rattle.schedule.specs.model.Arrays.{AllAtMost, work_of}
 use Rattle.schedule.specs.model.Loads.{load_up_to}
-use Rattle.schedule.proofs.PeriodLoads.{tested, load_none, load_more, load_same}
 use Rattle.schedule.proofs.load.period_load.Given as goal
 
 abbrev pub invariant-loop-i : goal.invariant-loop-i

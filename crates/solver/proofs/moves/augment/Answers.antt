@@ -1,10 +1,9 @@
 -- `augment` meets its contract. The invariant: what is left of the walk from here comes to what the
 -- walk comes to from the start.
-use Rattle.std.proofs.Common.{◌≡◌, ◌-◌, ◌<◌, ◌≤◌, get_or, ◌∙◌, arith, rules, le-leb}
+use Rattle.std.proofs.Common.{get_or, ◌∙◌, arith, le-leb}
 use borrow.Author.Tests.{lt-leb}
 use Rattle.words.proofs.Loops.{run_again, run_stop, run_end}
 use Rattle.order.specs.Stored.{elements}
-use Rattle.solver.specs.model.Network.{network, walk, augmented}
 use Rattle.solver.proofs.Digits.{masked}
 use Rattle.solver.proofs.Steps.{walks}
 use Rattle.solver.proofs.moves.augment.Goals as goal

@@ -1,5 +1,4 @@
 -- `moves::given` meets its contract, by the test.
-use Rattle.std.proofs.Common.{rules}
 use Rattle.order.proofs.Stored.{number_of_lem}
 use Rattle.solver.proofs.Steps.{given_none, given_some}
 use Rattle.solver.proofs.moves.given.Goals as goal

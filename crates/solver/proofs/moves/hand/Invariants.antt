@@ -1,11 +1,9 @@
 -- `moves::hand` meets its contract. The invariant: what is left to hand over to makes of the network what all of it
 -- makes of that at the start.
-use Rattle.std.proofs.Common.{◌≡◌, rules}
+use Rattle.std.proofs.Common.{◌≡◌}
 use Rattle.words.specs.model.Loops.{each}
 use Rattle.order.specs.Stored.{elements, number_of}
-use Rattle.order.proofs.Listing.{listed_below, listing_less, listing_again, listing_end, listing_still}
 use Rattle.solver.specs.model.Network.{network, handing}
-use Rattle.solver.proofs.Steps.{hands_spent}
 use Rattle.solver.proofs.moves.hand.Given as goal
 
 abbrev pub invariant-loop-w : goal.invariant-loop-w

@@ -1,5 +1,4 @@
 -- `join` meets its contract: the stores are those of the model, by `joins`.
-use Rattle.std.proofs.Common.{rules}
 use Rattle.solver.proofs.Steps.{joins}
 use Rattle.solver.proofs.moves.join.Goals as goal
 

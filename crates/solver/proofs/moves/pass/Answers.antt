@@ -1,5 +1,5 @@
 -- `pass` meets its contract: both ways out are those of `handing`.
-use Rattle.std.proofs.Common.{◌∙◌, rules}
+use Rattle.std.proofs.Common.{◌∙◌}
 use Rattle.solver.proofs.Steps.{hands_none, hands_some}
 use Rattle.solver.proofs.moves.pass.Goals as goal
 

@@ -1,5 +1,4 @@
 -- `shift` meets its contract: the stores are those of the model, by `shifts`.
-use Rattle.std.proofs.Common.{rules}
 use Rattle.solver.proofs.Steps.{shifts}
 use Rattle.solver.proofs.moves.shift.Goals as goal
 

@@ -1,5 +1,5 @@
 -- `moves::store` meets its contract.
-use Rattle.std.proofs.Common.{ℕ, refl, ap, ◌∙◌, rules}
+use Rattle.std.proofs.Common.{ℕ, refl, ap, ◌∙◌}
 use Rattle.order.specs.Stored.{put_row}
 use Rattle.order.proofs.Stored.{number_of_lem}
 use Rattle.solver.specs.model.Network.{giver}

@@ -1,11 +1,9 @@
 -- `moves::take_back` meets its contract. The invariant: what is left to take back makes of the units what all of it
 -- makes of those at the start.
-use Rattle.std.proofs.Common.{◌≡◌, ap, ◌∙◌, rules}
+use Rattle.std.proofs.Common.{◌≡◌}
 use Rattle.words.specs.model.Loops.{each}
 use Rattle.order.specs.Stored.{elements, number_of}
-use Rattle.order.proofs.Stored.{number_of_lem}
-use Rattle.order.proofs.Listing.{listed_below, listing_less, listing_again, listing_end}
-use Rattle.solver.specs.model.Network.{dropping, taken_from, taken_back}
+use Rattle.solver.specs.model.Network.{taken_from}
 use Rattle.solver.proofs.moves.take_back.Given as goal
 
 abbrev pub invariant-loop-w : goal.invariant-loop-w

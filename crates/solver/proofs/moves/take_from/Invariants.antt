@@ -1,9 +1,8 @@
 -- `moves::take_from` meets its contract. The invariant: what is left to take back makes of the units what all of it
 -- makes of those at the start.
-use Rattle.std.proofs.Common.{◌≡◌, refl, arith, rules}
+use Rattle.std.proofs.Common.{◌≡◌}
 use Rattle.words.specs.model.Loops.{each}
 use Rattle.order.specs.Stored.{elements, number_of}
-use Rattle.order.proofs.Listing.{listed_below, listing_less, listing_again, listing_end}
 use Rattle.solver.specs.model.Network.{dropping}
 use Rattle.solver.proofs.moves.take_from.Given as goal
 

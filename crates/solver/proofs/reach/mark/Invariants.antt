@@ -1,9 +1,8 @@
 -- `reach::mark` meets its contract. The invariant: what is left to mark makes of the parents what all of it
 -- makes of those at the start.
-use Rattle.std.proofs.Common.{◌≡◌, refl, arith, rules}
+use Rattle.std.proofs.Common.{◌≡◌}
 use Rattle.order.specs.Stored.{number_of}
-use Rattle.order.proofs.Listing.{listed_below, listing_less, listing_again, listing_end}
-use Rattle.solver.specs.model.Search.{put, marks}
+use Rattle.solver.specs.model.Search.{marks}
 use Rattle.solver.proofs.reach.mark.Given as goal
 
 abbrev pub invariant-loop-w : goal.invariant-loop-w

@@ -1,12 +1,12 @@
 -- `reach::seek` meets its contract. The invariant: the turns left make of the search what all of
 -- them make of that at the start.
-use Rattle.std.proofs.Common.{◌≡◌, ℕ, ◌-◌, ◌≤◌, List, sym, ap, ◌∙◌, arith, rules}
+use Rattle.std.proofs.Common.{◌≡◌, ℕ, List, sym, ap, ◌∙◌, arith}
 use lib.Bits.{bit_and}
 use Rattle.words.proofs.Loops.{run_again, run_stop, run_end}
 use Rattle.order.specs.Stored.{elements, number_of, no_set}
 use Rattle.order.proofs.Stored.{number_none, number_of_lem}
 use Rattle.order.proofs.Listing.{is_some}
-use Rattle.solver.specs.model.Search.{Look, looked, reached, reach, begun}
+use Rattle.solver.specs.model.Search.{Look, reached, reach, begun}
 use Rattle.solver.proofs.Steps.{begins}
 use Rattle.solver.proofs.reach.seek.Goals as goal
 

@@ -1,12 +1,9 @@
 -- `reach::spread` meets its contract. The invariant: what is left to visit makes of what is seen what all of
 -- it makes of what was known.
-use Rattle.std.proofs.Common.{◌≡◌, rules}
+use Rattle.std.proofs.Common.{◌≡◌}
 use Rattle.words.specs.model.Loops.{each}
 use Rattle.order.specs.Stored.{elements, number_of}
-use Rattle.order.proofs.Stored.{number_of_lem}
-use Rattle.order.proofs.Listing.{listed_below, listing_less, listing_again, listing_end}
 use Rattle.solver.specs.model.Search.{seen, visit}
-use Rattle.solver.proofs.Steps.{visits}
 use Rattle.solver.proofs.reach.spread.Given as goal
 
 abbrev pub invariant-loop-w : goal.invariant-loop-w

@@ -1,5 +1,5 @@
 -- `reach::turn` meets its contract, by the two tests.
-use Rattle.std.proofs.Common.{arith, rules}
+use Rattle.std.proofs.Common.{arith}
 use Rattle.words.proofs.Members.{low_place}
 use Rattle.order.specs.Stored.{elements, number_of}
 use Rattle.order.proofs.Stored.{number_of_lem, number_none, in_bound}

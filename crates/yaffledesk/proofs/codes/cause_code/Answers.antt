@@ -3,7 +3,6 @@ use mathlib.Core.Path.{sym, ap, ◌∙◌, subst}
 use Prim.Native.Nat.{◌<◌, ◌^◌}
 use Rattle.planner.specs.declared.Refusal.{Refusal}
 use Rattle.yaffledesk.specs.Codes.{refusal_code}
-use borrow.Author.Rules.{rules}
 use Rattle.yaffledesk.proofs.codes.cause_code.Goals as goal
 
 pub refusal_code-requires : goal.refusal_code-requires

@@ -3,7 +3,6 @@ use mathlib.Core.Path.{ap, ◌∙◌}
 use Prim.Native.Nat.{◌%◌, ◌^◌}
 use Rattle.order.specs.Stored.{number_of}
 use Rattle.planner.specs.declared.Refusal.{Refusal}
-use borrow.Author.Rules.{rules}
 use Rattle.yaffledesk.proofs.codes.cause_word.Goals as goal
 
 pub returns : goal.returns

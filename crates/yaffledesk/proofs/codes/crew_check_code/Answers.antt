@@ -3,7 +3,6 @@ use mathlib.Core.Path.{sym, ap, ◌∙◌, subst}
 use Prim.Native.Nat.{◌<◌, ◌^◌}
 use Rattle.planner.specs.declared.CrewChecked.{CrewChecked}
 use Rattle.yaffledesk.specs.Codes.{crew_check_code}
-use borrow.Author.Rules.{rules}
 use Rattle.yaffledesk.proofs.codes.crew_check_code.Goals as goal
 
 pub found_code-requires : goal.found_code-requires

@@ -4,7 +4,6 @@ use Prim.Native.Nat.{◌<◌, ◌^◌}
 use native.Mathlib.Omega.{arith}
 use Rattle.schedule.specs.declared.Checked.{Checked}
 use Rattle.yaffledesk.specs.Codes.{found_code}
-use borrow.Author.Rules.{rules}
 use Rattle.yaffledesk.proofs.codes.found_code.Goals as goal
 
 pub returns-in-Fits : goal.returns-in-Fits

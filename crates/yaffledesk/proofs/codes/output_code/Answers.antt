@@ -4,7 +4,6 @@ use Prim.Native.Nat.{◌<◌, ◌^◌}
 use Rattle.planner.specs.declared.Output.{Output}
 use Rattle.yaffledesk.specs.Codes.{output_code}
 use native.Mathlib.Omega.{arith}
-use borrow.Author.Rules.{rules}
 use Rattle.yaffledesk.proofs.codes.output_code.Goals as goal
 
 pub pack-requires : goal.pack-requires

@@ -3,7 +3,6 @@ use mathlib.Core.Path.{sym, ap, ◌∙◌}
 use Prim.Native.Nat.{◌%◌, ◌^◌}
 use Rattle.planner.specs.declared.Decision.{Decision}
 use Rattle.yaffledesk.specs.Codes.{shown_word}
-use borrow.Author.Rules.{rules}
 use Rattle.yaffledesk.proofs.codes.shown_word.Goals as goal
 
 pub returns-in-Accepted : goal.returns-in-Accepted

@@ -4,7 +4,6 @@ use Prim.Native.Nat.{◌<◌, ◌^◌}
 use native.Mathlib.Omega.{arith}
 use Rattle.planner.specs.declared.Decision.{Decision}
 use Rattle.yaffledesk.specs.Codes.{verdict_code}
-use borrow.Author.Rules.{rules}
 use Rattle.yaffledesk.proofs.codes.verdict_code.Goals as goal
 
 pub overflow_mul-kinds : goal.overflow_mul-kinds

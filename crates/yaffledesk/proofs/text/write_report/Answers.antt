@@ -1,5 +1,4 @@
 -- `yaffledesk::text::write_report` meets its contract, by the room that is lent (`report_refused`, `report_written`).
-use borrow.Author.Rules.{rules}
 use Rattle.yaffledesk.proofs.Reports.{report_refused, report_written}
 use Rattle.yaffledesk.proofs.text.write_report.Goals as goal
 

@@ -1,7 +1,6 @@
 -- `planner::ops::crew_check::bad_lists` meets its contract, by the lengths and the worked durations.
 use Rattle.planner.proofs.CrewCheckLaws.{bad_starts, bad_worked, bad_work}
 use native.Mathlib.Omega.{arith}
-use borrow.Author.Rules.{rules}
 use Rattle.planner.proofs.ops.crew_check.bad_lists.Goals as goal
 
 pub returns-then-starts-m : goal.returns-then-starts-m

@@ -7,7 +7,6 @@ use Rattle.planner.specs.CrewCheck.{crew_check_fault}
 use Rattle.planner.proofs.OutputLaws.{Ends, stops, goes_on}
 use Rattle.planner.proofs.OpenLaws.{opened_few}
 use Rattle.planner.proofs.CrewCheckLaws.{ends, looks, answered}
-use borrow.Author.Rules.{rules}
 use Rattle.planner.proofs.ops.crew_check.crew_check.Goals.{After-is_fine}
 use Rattle.planner.proofs.ops.crew_check.crew_check.Goals as goal
 

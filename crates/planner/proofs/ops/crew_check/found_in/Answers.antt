@@ -4,7 +4,6 @@ use mathlib.Core.List.{List}
 use Prim.Native.Nat.{ℕ}
 use native.Mathlib.Omega.{arith}
 use lib.ListN.{length}
-use borrow.Author.Rules.{rules}
 use Rattle.order.specs.Rows.{after}
 use Rattle.schedule.specs.Checks.{check_of}
 use Rattle.schedule.specs.model.Arrays.{crew_net, with_waits, work_of}

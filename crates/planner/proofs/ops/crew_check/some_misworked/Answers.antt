@@ -1,11 +1,8 @@
 -- `planner::ops::crew_check::some_misworked` meets its contract. The invariant: every worked duration passed fits.
-use mathlib.Core.Path.{◌≡◌, sym, ◌∙◌}
-use mathlib.Core.Bool.{false}
-use Prim.Native.Nat.{ℕ, ◌≤◌, ◌<◌, ◌-◌}
+use mathlib.Core.Path.{sym, ◌∙◌}
 use native.Mathlib.Omega.{arith}
 use lib.ListN.{length, get_or}
 use borrow.Author.Count.{below_none, below_more}
-use borrow.Author.Rules.{rules}
 use Rattle.words.proofs.Firsts.{some_here, some_none}
 use Rattle.planner.specs.CrewCheck.{misworked, some_misworked}
 use Rattle.planner.proofs.ops.crew_check.some_misworked.Goals as goal

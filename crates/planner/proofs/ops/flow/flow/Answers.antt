@@ -10,7 +10,6 @@ use Rattle.planner.proofs.OutputLaws.{Ends, goes_on, refused, done}
 use Rattle.planner.proofs.OpenLaws.{opened_few}
 use Rattle.planner.proofs.QuotedNeeds.{opened_kinds}
 use Rattle.planner.proofs.FlowLaws.{ends, positive, flow_asked, written}
-use borrow.Author.Rules.{rules}
 use Rattle.planner.proofs.ops.flow.flow.Goals.{After-is_fine}
 use Rattle.planner.proofs.ops.flow.flow.Goals as goal
 

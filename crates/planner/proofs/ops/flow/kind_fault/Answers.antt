@@ -1,6 +1,5 @@
 -- `planner::ops::flow::kind_fault` meets its contract: three causes in turn.
 use mathlib.Core.Path.{refl}
-use borrow.Author.Rules.{rules}
 use Rattle.planner.proofs.ops.flow.kind_fault.Goals as goal
 
 pub returns : goal.returns

@@ -10,7 +10,6 @@ use Rattle.planner.proofs.OutputLaws.{Ends, goes_on, refused, done_over}
 use Rattle.planner.proofs.OpenLaws.{opened_few}
 use Rattle.planner.proofs.QuotedNeeds.{opened_kinds}
 use Rattle.planner.proofs.NeedsLaws.{length_numbers, ends, room, counted, written}
-use borrow.Author.Rules.{rules}
 use Rattle.planner.proofs.ops.needs.needs.Goals.{After-is_fine}
 use Rattle.planner.proofs.ops.needs.needs.Goals as goal
 

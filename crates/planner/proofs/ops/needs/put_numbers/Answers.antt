@@ -1,7 +1,7 @@
 -- `planner::ops::needs::put_numbers` meets its contract. The invariant: so many numbers are written over the front.
 use mathlib.Core.Path.{◌≡◌, refl, ap, ◌∙◌}
 use mathlib.Core.List.{List}
-use Prim.Native.Nat.{ℕ, ◌≤◌, ◌-◌}
+use Prim.Native.Nat.{ℕ}
 use native.Mathlib.Omega.{arith}
 use lib.ListN.{length, length-set, get_or, set}
 use borrow.Author.Rules.{rules}

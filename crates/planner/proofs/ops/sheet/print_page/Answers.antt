@@ -2,7 +2,6 @@
 use mathlib.Core.List.{List}
 use Prim.Native.Nat.{ℕ}
 use native.Mathlib.Omega.{arith}
-use borrow.Author.Rules.{rules}
 use Rattle.crew_sheet.specs.Sheet.{pages_of, sheet_page, most_lines}
 use Rattle.planner.specs.Sheet.{page_fault}
 use Rattle.planner.proofs.OutputLaws.{Ends, goes_on, refused, done}

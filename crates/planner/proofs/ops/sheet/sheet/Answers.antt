@@ -14,7 +14,6 @@ use Rattle.planner.proofs.OpenLaws.{opened_few}
 use Rattle.planner.proofs.QuotedNeeds.{opened_kinds}
 use Rattle.planner.proofs.FlowLaws.{kind_ends}
 use Rattle.planner.proofs.SheetLaws.{stopped, counts, starts_asked, records_asked, print_asked, printed}
-use borrow.Author.Rules.{rules}
 use Rattle.planner.proofs.ops.sheet.sheet.Goals.{After-is_fine}
 use Rattle.planner.proofs.ops.sheet.sheet.Goals as goal
 

@@ -3,7 +3,6 @@ use mathlib.Core.Path.{refl, sym, ◌∙◌, subst}
 use mathlib.Core.List.{List}
 use Prim.Native.Nat.{ℕ}
 use native.Mathlib.Omega.{arith}
-use borrow.Author.Rules.{rules}
 use Rattle.schedule.specs.model.Arrays.{by_duration, FinishesFit}
 use Rattle.planner.proofs.TimesLaws.{starts_finish}
 use Rattle.planner.proofs.ops.sheet.starts_of.Goals as goal

@@ -4,7 +4,6 @@ use mathlib.Core.Path.{sym, ap, ◌∙◌, subst}
 use mathlib.Core.List.{List}
 use Prim.Native.Nat.{ℕ}
 use native.Mathlib.Omega.{arith}
-use borrow.Author.Rules.{rules}
 use Rattle.plan.proofs.Waits.{waits_small}
 use Rattle.schedule.specs.model.Arrays.{AllAtMost, with_waits, starts_of}
 use Rattle.schedule.proofs.Weights.{starts_weights}

@@ -1,10 +1,7 @@
 -- `planner::ops::starts::put_starts` meets its contract. The invariant: so many numbers are written over the front.
-use Rattle.planner.proofs.StartsLaws.{put_next, before_end, at_end}
-use lib.ListN.{length, length-set}
-use mathlib.Core.Path.{◌≡◌, refl, sym, ap, ◌∙◌}
-use Prim.Native.Nat.{ℕ, ◌≤◌, ◌-◌}
-use native.Mathlib.Omega.{arith}
-use borrow.Author.Rules.{rules}
+use lib.ListN.{length}
+use mathlib.Core.Path.{◌≡◌}
+use Prim.Native.Nat.{◌≤◌, ◌-◌}
 use Rattle.words.specs.Tables.{over}
 use Rattle.planner.specs.Starts.{with_end}
 use Rattle.planner.proofs.ops.starts.put_starts.Given as goal

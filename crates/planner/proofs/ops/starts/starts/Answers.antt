@@ -8,7 +8,6 @@ use Rattle.planner.specs.Starts.{needed, starts_fault, start_numbers, starts_out
 use Rattle.planner.proofs.OutputLaws.{Ends, goes_on, refused, done_over}
 use Rattle.planner.proofs.OpenLaws.{opened_few}
 use Rattle.planner.proofs.StartsLaws.{length_numbers, ends, counted, written, room, readable, free, small, fits}
-use borrow.Author.Rules.{rules}
 use Rattle.planner.proofs.ops.starts.starts.Goals.{After-is_fine}
 use Rattle.planner.proofs.ops.starts.starts.Goals as goal
 

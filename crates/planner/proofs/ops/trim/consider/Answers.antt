@@ -7,7 +7,6 @@ use lib.ListN.{get_or}
 use borrow.Author.Rules.{rules}
 use mir.Syntax.{w64}
 use mir.Val.{Fits}
-use borrow.Author.Tests.{not-true, not-false}
 use Rattle.words.specs.Bits.{bit}
 use Rattle.order.specs.Orders.{after_rows, order_in, joined_rows}
 use Rattle.order.specs.Stored.{cells}

@@ -1,7 +1,6 @@
 -- `planner::ops::trim::follows` meets its contract, by where the element leads otherwise.
 use mathlib.Core.Path.{◌≡◌, sym, ap, ap₂, ◌∙◌}
 use Prim.Native.Nat.{ℕ}
-use borrow.Author.Rules.{rules}
 use Rattle.order.specs.Sets.{member, without_element, union_of}
 use Rattle.order.specs.Orders.{some_before}
 use Rattle.order.specs.declared.Set.{Set}

@@ -11,7 +11,6 @@ use Rattle.planner.proofs.OutputLaws.{Ends, goes_on, refused, done}
 use Rattle.planner.proofs.OpenLaws.{opened_few}
 use Rattle.planner.proofs.QuotedNeeds.{opened_kinds}
 use Rattle.planner.proofs.TrimLaws.{ends, left_asked, write_asked, written}
-use borrow.Author.Rules.{rules}
 use Rattle.planner.proofs.ops.trim.trim.Goals.{After-is_fine}
 use Rattle.planner.proofs.ops.trim.trim.Goals as goal
 

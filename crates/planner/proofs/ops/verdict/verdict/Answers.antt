@@ -3,7 +3,6 @@ use native.Mathlib.Omega.{arith}
 use Rattle.planner.proofs.OpenLaws.{opened_few}
 use Rattle.planner.proofs.QuotedNeeds.{opened_kinds}
 use Rattle.planner.proofs.VerdictLaws.{answered}
-use borrow.Author.Rules.{rules}
 use Rattle.planner.proofs.ops.verdict.verdict.Goals as goal
 
 pub or_overloaded-fault-requires : goal.or_overloaded-fault-requires
