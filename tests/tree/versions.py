@@ -55,6 +55,19 @@ def replacements(edit):
     return found, None if found else "it has no replacement"
 
 
+def edited(crate, edit):
+    """The texts of the files that an edit changes, by their paths in the crate, and why it cannot be applied, or None."""
+    texts = {}
+    for one in replacements(edit)[0]:
+        if one.file not in texts and not (crate / str(one.file)).is_file():
+            return {}, f"there is no file {one.file}"
+        text = texts.get(one.file) or (crate / one.file).read_text()
+        if not one.old or text.count(one.old) != 1:
+            return {}, f"'{one.old}' stands in {one.file} {text.count(one.old) if one.old else 0} times, and not once"
+        texts[one.file] = text.replace(one.old, one.new)
+    return texts, None
+
+
 def places(crate, found):
     """What is wrong with where each replacement of code stands, or None: it belongs into the function that it names."""
     texts = {}
