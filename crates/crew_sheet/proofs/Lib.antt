@@ -3,7 +3,6 @@
 -- Examples: small sheets, by computation.
 -- The proofs of the code go by: Columns (numbers in columns), LinesWritten (lines, piece by piece), ByStart (records
 -- by the starts of their receivers), BlockLengths (how many there are at a start), PageRecords (the records of a page,
--- found one after another), and, for the methods of `Page`, LentAgain (a slice that is lent again) and PageHeld (a
 -- page that is passed by value).
 pub mod Columns
 pub mod LinesWritten
@@ -11,8 +10,6 @@ pub mod ByStart
 pub mod BlockLengths
 pub mod PageRecords
 pub mod Filling
-pub mod LentAgain
-pub mod PageHeld
 pub mod MeaningHolds
 pub mod ReadBack
 pub mod Fronts

@@ -42,6 +42,13 @@ pub length_cell : (w gap x : ℕ) → length (cell w gap x) ≡ w + gap
 unfolding cell
 length_cell w gap x = length-append (column w x) (replicate gap 32) ∙ rw (length_column, length-replicate)
 
+-- a cell more
+pub grown_cell : {at : ℕ} {old : List ℕ} {n : ℕ} {l : List ℕ} {e : ℕ} {o : List ℕ} (g : Grown at old n l e o) (w gap x : ℕ) {e' : ℕ} {o' : List ℕ}
+    → text e' o' ≡ more (text e o) (cell w gap x)
+    → at + (n + (w + gap)) ≤ length old
+    → Grown at old (n + (w + gap)) (l ++ cell w gap x) e' o'
+grown_cell g w gap x done h = grown_more g (record { done = done; long = length_cell w gap x }) h
+
 pub length_row : (from to units start : ℕ) → length (row_line from to units start) ≡ 41
 unfolding row_line
 length_row from to units start =

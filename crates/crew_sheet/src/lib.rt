@@ -3,7 +3,7 @@
 
 ghost use Rattle.std.specs.Prelude.{◌≡◌, ◌+◌, ◌*◌, ◌≤◌, length};
 ghost use Rattle.records.specs.Records.{starting_with};
-ghost use Rattle.crew_sheet.specs.Sheet.{line_bytes, page_records, page_bytes, pages_of, page_lines, sheet_page, most_lines};
+ghost use Rattle.crew_sheet.specs.Sheet.{line_bytes, page_records, page_bytes, pages_of, page_lines, head_line, sheet_page, most_lines};
 ghost use Rattle.crew_sheet.specs.Underway.{onto, headed};
 
 mod blocks;
@@ -58,6 +58,17 @@ impl<'a> Page<'a> {
     }
 }
 
+// A page with its head. (A function of its own: the proof of a caller follows lent bytes through the call that makes a
+// page and the one that spends it, and through no third.)
+fn with_head<'a>(out: &'a mut [u8], kind: u64, page: usize) -> Page<'a>
+    requires { line_bytes ≤ length out.old }
+    ensures same_reference { result.out.ghost_name ≡ out.entry.ghost_name }
+    ensures written { result.out.now ≡ onto 0 (head_line kind page) out.old }
+    ensures at { result.at ≡ line_bytes }
+{
+    Page::begin(out).head(kind, page)
+}
+
 // Writes a page of the sheet of n flow records to the front of the lent bytes. Gives the count of pages. (`most_lines`
 // keeps every sum within a word.)
 pub fn write_page(
@@ -71,7 +82,5 @@ pub fn write_page(
     requires { (page_bytes ≤ length out.old) × (n ≤ most_lines) × (24 * n ≤ length flow.now) × (1 ≤ page) × (page ≤ most_lines) }
     ensures { (result ≡ pages_of n) × (out.new ≡ starting_with (sheet_page flow.now starts.now n kind page) out.old) }
 {
-    Page::begin(out)
-        .head(kind, page)
-        .fill(flow, n, starts, page)
+    with_head(out, kind, page).fill(flow, n, starts, page)
 }

@@ -22,7 +22,7 @@ use Rattle.flow_math.specs.Flow.{node_flow, ResourceFlow}
 use Rattle.flow_math.proofs.Pairs.{units_few}
 use Rattle.flow_math.proofs.Units.{units_spare, units_into_start, units_out_of_end, units_small, units_past as nodes-none}
 use Rattle.solver.specs.model.Network.{handed}
-use Rattle.solver.specs.model.Quote.{flow_of}
+use Rattle.solver.specs.model.Quote.{quote_of, flow_of}
 use Rattle.solver.specs.Sound.{asked}
 use Rattle.kinds.specs.Needs.{demands_for}
 use Rattle.kinds.specs.Flows.{units as nodeUnits, kind_units, Bounded, flow_bytes, pairs_from, pairs_of}
@@ -174,7 +174,8 @@ module _ (s : List ℕ) (small : AreBytes s) (o : Opens s) (k : ℕ) (hk : k < 8
 
   none_out : (v : ℕ) → coded_units s k (suc (plan_in s).count) v ≡ 0
   unfolding nodeUnits
-  none_out v = units_out_of_end (plan_in s).count (demand_for (plan_in s) k) _ 0 _ v
+  none_out v = units_out_of_end (plan_in s).count (demand_for (plan_in s) k) (handed (flow_of (plan_in s).count (plan_order s) (demands_for (plan_in s).demand k))) 0
+      (available_for (plan_in s) k - (quote_of (plan_in s).count (plan_order s) (demands_for (plan_in s).demand k)).need) v
 
   pub flow_put_lem : (out : List ℕ)
       → put_flow (k + 1) (coded_units s k) (flow_mark (plan_in s)) (plan_in s).count (lent 0 out)
