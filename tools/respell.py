@@ -41,7 +41,7 @@ def texts(pattern):
 
 
 def in_snake_case(name):
-    return re.sub(r"(?<=[a-z0-9])[A-Z]", lambda m: "_" + m[0].lower(), name).replace("-", "_")
+    return re.sub(r"(?<=[A-Za-z0-9])[A-Z]", lambda m: "_" + m[0].lower(), name).replace("-", "_")
 
 
 def library_words():

@@ -35,8 +35,8 @@ use Rattle.planner.specs.Flow.{is_kind, flow_mark, flow_fault, flow_units, recor
 use Rattle.planner.specs.declared.Cause.TheVariants.{NoKind}
 use Rattle.planner.specs.declared.Fault.{Fault}
 use Rattle.promises.specs.Ours.{ours}
-use Rattle.promises.specs.Cases.{plan_a, plan_iJob, plan_iExtra, plan_iBoth, flow_a, flow_i}
-use Rattle.promises.proofs.CasePlans.{OpenedAs, all_opened, opened_as, in_a, in_iJob, in_iExtra, in_iBoth}
+use Rattle.promises.specs.Cases.{plan_a, plan_i_job, plan_i_extra, plan_i_both, flow_a, flow_i}
+use Rattle.promises.proofs.CasePlans.{OpenedAs, all_opened, opened_as, in_a, in_i_job, in_i_extra, in_i_both}
 
 -- what is handed over in a plan of kind 1, by an order, and by its own
 abbrev handover_by : Order → Plan → List ℕ
@@ -74,9 +74,9 @@ abbrev order_i : Order
 order_i = extended (extended empty_order 1 2) 0 1
 
 record AllOrdered : Type 0 where
-  job : order_for in_iJob ≡ order_i
-  extra : order_for in_iExtra ≡ order_i
-  both : order_for in_iBoth ≡ order_i
+  job : order_for in_i_job ≡ order_i
+  extra : order_for in_i_extra ≡ order_i
+  both : order_for in_i_both ≡ order_i
 
 all_ordered : AllOrdered
 unfolding digit bit table row row_table cells grow arcs_from arcs_in extended order_of order_in joined_rows
@@ -84,28 +84,28 @@ all_ordered = record { job = refl; extra = refl; both = refl }
 
 record AllHanded : Type 0 where
   a : handover in_a ≡ handed_a
-  i : handover_by order_i in_iJob ≡ handed_i
+  i : handover_by order_i in_i_job ≡ handed_i
 
 all_handed : AllHanded
 unfolding digit bit each run upto first count members table row put_row row_table cells number_of set_of grow arcs_from arcs_in extended order_of order_in joined_rows after_rows nonzero advance giver joined shifted handing blanks blank_rows ranked started rounded solved copied outcome flow_in demands_for
 all_handed = record { a = refl; i = refl }
 
 -- all of them have the same activities
-handed_i_lem : (q : Plan) → order_for q ≡ order_i → handover_by order_i q ≡ handover_by order_i in_iJob → handover q ≡ handed_i
+handed_i_lem : (q : Plan) → order_for q ≡ order_i → handover_by order_i q ≡ handover_by order_i in_i_job → handover q ≡ handed_i
 handed_i_lem q e same = ap (λ (o : Order). handover_by o q) e ∙ same ∙ all_handed.i
 
 pub record AllFlows : Type 0 where
   pub a : (ours.flow 1).left plan_a (replicate 360 9) ≡ flow_a
-  pub i_job : (ours.flow 1).left plan_iJob (replicate 240 9) ≡ flow_i 0
-  pub i_extra : (ours.flow 1).left plan_iExtra (replicate 240 9) ≡ flow_i 1
-  pub i_both : (ours.flow 1).left plan_iBoth (replicate 240 9) ≡ flow_i 0
+  pub i_job : (ours.flow 1).left plan_i_job (replicate 240 9) ≡ flow_i 0
+  pub i_extra : (ours.flow 1).left plan_i_extra (replicate 240 9) ≡ flow_i 1
+  pub i_both : (ours.flow 1).left plan_i_both (replicate 240 9) ≡ flow_i 0
 
 pub all_flows : AllFlows
 unfolding digit bit first count members sum maximum table row put_row row_table cells number_of set_of grow arcs_from arcs_in extended order_of order_in joined_rows bytes flow_record all_of handedBy takenBy heaviest need_of demands_for pair_bytes row_bytes flow_bytes lent_after need_for over_kind is_overloaded over_cause flow_length unused
 all_flows =
     record {
       a = flow_left all_opened.a handed_a 4 (replicate 360 9) all_handed.a refl;
-      i_job = flow_left all_opened.i_job handed_i 2 (replicate 240 9) (handed_i_lem in_iJob all_ordered.job refl) refl;
-      i_extra = flow_left all_opened.i_extra handed_i 2 (replicate 240 9) (handed_i_lem in_iExtra all_ordered.extra refl) refl;
-      i_both = flow_left all_opened.i_both handed_i 2 (replicate 240 9) (handed_i_lem in_iBoth all_ordered.both refl) refl;
+      i_job = flow_left all_opened.i_job handed_i 2 (replicate 240 9) (handed_i_lem in_i_job all_ordered.job refl) refl;
+      i_extra = flow_left all_opened.i_extra handed_i 2 (replicate 240 9) (handed_i_lem in_i_extra all_ordered.extra refl) refl;
+      i_both = flow_left all_opened.i_both handed_i 2 (replicate 240 9) (handed_i_lem in_i_both all_ordered.both refl) refl;
     }

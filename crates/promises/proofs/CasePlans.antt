@@ -24,7 +24,7 @@ use Rattle.planner.specs.declared.Cause.TheVariants.{JobCircle, PlanCircle}
 use Rattle.planner.specs.declared.Fault.{Fault}
 use Rattle.planner.specs.declared.Fault.TheVariants.{Fine, Refused}
 use Rattle.planner.proofs.OpenLaws.{plan_in_lem}
-use Rattle.promises.specs.Cases.{plan_a, plan_b, plan_c, plan_d, plan_e, plan_eJob, plan_f, plan_g, plan_h, plan_aBoth, plan_aPasted, plan_aSpare, plan_ePasted, plan_cThrice, plan_aWait, plan_aJob_waits, plan_aExtra_waits, plan_aWait_pasted, plan_aWait_spare, plan_iJob, plan_iExtra, plan_iBoth}
+use Rattle.promises.specs.Cases.{plan_a, plan_b, plan_c, plan_d, plan_e, plan_e_job, plan_f, plan_g, plan_h, plan_a_both, plan_a_pasted, plan_a_spare, plan_e_pasted, plan_c_thrice, plan_a_wait, plan_a_job_waits, plan_a_extra_waits, plan_a_wait_pasted, plan_a_wait_spare, plan_i_job, plan_i_extra, plan_i_both}
 
 -- ---- the plans as tables
 
@@ -56,8 +56,8 @@ four_with job extra = plan_with (1 ∷ 2 ∷ 3 ∷ 1 ∷ []) (2 ∷ 2 ∷ 2 ∷ 
 abbrev pub in_a : Plan
 in_a = four_with [] (2 ∷ 8 ∷ [])
 
-abbrev pub in_aBoth : Plan
-in_aBoth = four_with (2 ∷ []) (2 ∷ 8 ∷ [])
+abbrev pub in_a_both : Plan
+in_a_both = four_with (2 ∷ []) (2 ∷ 8 ∷ [])
 
 abbrev pub in_b : Plan
 in_b = four_with [] (14 ∷ [])
@@ -71,8 +71,8 @@ in_d = four_with [] (12 ∷ 12 ∷ [])
 abbrev pub in_e : Plan
 in_e = four_with [] (2 ∷ 1 ∷ [])
 
-abbrev pub in_eJob : Plan
-in_eJob = four_with (2 ∷ 1 ∷ []) []
+abbrev pub in_e_job : Plan
+in_e_job = four_with (2 ∷ 1 ∷ []) []
 
 abbrev pub in_f : ℕ → Plan
 in_f demand = plan_with (1 ∷ []) (demand ∷ []) [] []
@@ -87,14 +87,14 @@ in_h = plan_with (1 ∷ 2 ∷ 0 ∷ 3 ∷ 1 ∷ []) (2 ∷ 2 ∷ 0 ∷ 2 ∷ 2 �
 abbrev three_with : List ℕ → List ℕ → Plan
 three_with job extra = plan_on 2 (1 ∷ 1 ∷ 1 ∷ []) (2 ∷ 0 ∷ 2 ∷ []) job extra
 
-abbrev pub in_iJob : Plan
-in_iJob = three_with (2 ∷ 4 ∷ []) []
+abbrev pub in_i_job : Plan
+in_i_job = three_with (2 ∷ 4 ∷ []) []
 
-abbrev pub in_iExtra : Plan
-in_iExtra = three_with (2 ∷ []) (0 ∷ 4 ∷ [])
+abbrev pub in_i_extra : Plan
+in_i_extra = three_with (2 ∷ []) (0 ∷ 4 ∷ [])
 
-abbrev pub in_iBoth : Plan
-in_iBoth = three_with (2 ∷ 4 ∷ []) (4 ∷ [])
+abbrev pub in_i_both : Plan
+in_i_both = three_with (2 ∷ 4 ∷ []) (4 ∷ [])
 
 -- ---- so they are read
 
@@ -105,22 +105,22 @@ record Reads (s : List ℕ) (q : Plan) : Type 0 where
 
 record AllRead : Type 0 where
   a : Reads plan_a in_a
-  a_both : Reads plan_aBoth in_aBoth
+  a_both : Reads plan_a_both in_a_both
   b : Reads plan_b in_b
   c : Reads plan_c in_c
   d : Reads plan_d in_d
   e : Reads plan_e in_e
-  e_job : Reads plan_eJob in_eJob
+  e_job : Reads plan_e_job in_e_job
   f4 : Reads (plan_f 4) (in_f 4)
   f5 : Reads (plan_f 5) (in_f 5)
   g : Reads (plan_g 0) in_g
   h : Reads plan_h in_h
-  w : Reads plan_aWait in_a
-  w_job : Reads plan_aJob_waits in_aBoth
-  w_extra : Reads plan_aExtra_waits in_aBoth
-  i_job : Reads plan_iJob in_iJob
-  i_extra : Reads plan_iExtra in_iExtra
-  i_both : Reads plan_iBoth in_iBoth
+  w : Reads plan_a_wait in_a
+  w_job : Reads plan_a_job_waits in_a_both
+  w_extra : Reads plan_a_extra_waits in_a_both
+  i_job : Reads plan_i_job in_i_job
+  i_extra : Reads plan_i_extra in_i_extra
+  i_both : Reads plan_i_both in_i_both
 
 all_read : AllRead
 unfolding digit bit first some table row put_row row_table cells field zeros leading activity_fields demands_some crew_fields arc_fields arc_repeats demands_of file_duration file_demand file_kinds file_available with_arc picked_up_to durations_of demand_table available_of plan_of rule activity_cause crew_cause arc_cause cause_at first_refusal records_cause is_length answer_of
@@ -148,12 +148,12 @@ all_read =
 -- and these are not
 pub record AllRefused : Type 0 where
   pub g : answer_of (plan_g 1) ≡ answer.Refused (MilestoneDemand 0)
-  pub a_pasted : answer_of plan_aPasted ≡ answer.Refused (RepeatedArc 7)
-  pub a_spare : answer_of plan_aSpare ≡ answer.Refused (Spare 7)
-  pub e_pasted : answer_of plan_ePasted ≡ answer.Refused (RepeatedArc 7)
-  pub c_thrice : answer_of plan_cThrice ≡ answer.Refused (RepeatedArc 6)
-  pub w_pasted : answer_of plan_aWait_pasted ≡ answer.Refused (RepeatedArc 7)
-  pub w_spare : answer_of plan_aWait_spare ≡ answer.Refused (Spare 7)
+  pub a_pasted : answer_of plan_a_pasted ≡ answer.Refused (RepeatedArc 7)
+  pub a_spare : answer_of plan_a_spare ≡ answer.Refused (Spare 7)
+  pub e_pasted : answer_of plan_e_pasted ≡ answer.Refused (RepeatedArc 7)
+  pub c_thrice : answer_of plan_c_thrice ≡ answer.Refused (RepeatedArc 6)
+  pub w_pasted : answer_of plan_a_wait_pasted ≡ answer.Refused (RepeatedArc 7)
+  pub w_spare : answer_of plan_a_wait_spare ≡ answer.Refused (Spare 7)
 
 pub all_refused : AllRefused
 unfolding first some table field zeros leading activity_fields demands_some crew_fields arc_fields arc_repeats demands_of rule activity_cause crew_cause arc_cause cause_at first_refusal records_cause is_length answer_of
@@ -174,22 +174,22 @@ reads_as {s} {q} r e =
 
 pub record AllOpened : Type 0 where
   pub a : OpenedAs plan_a in_a Fine
-  pub a_both : OpenedAs plan_aBoth in_aBoth Fine
+  pub a_both : OpenedAs plan_a_both in_a_both Fine
   pub b : OpenedAs plan_b in_b Fine
   pub c : OpenedAs plan_c in_c Fine
   pub d : OpenedAs plan_d in_d Fine
   pub e : OpenedAs plan_e in_e (Refused (PlanCircle 1))
-  pub e_job : OpenedAs plan_eJob in_eJob (Refused (JobCircle 1))
+  pub e_job : OpenedAs plan_e_job in_e_job (Refused (JobCircle 1))
   pub f4 : OpenedAs (plan_f 4) (in_f 4) Fine
   pub f5 : OpenedAs (plan_f 5) (in_f 5) Fine
   pub g : OpenedAs (plan_g 0) in_g Fine
   pub h : OpenedAs plan_h in_h Fine
-  pub w : OpenedAs plan_aWait in_a Fine
-  pub w_job : OpenedAs plan_aJob_waits in_aBoth Fine
-  pub w_extra : OpenedAs plan_aExtra_waits in_aBoth Fine
-  pub i_job : OpenedAs plan_iJob in_iJob Fine
-  pub i_extra : OpenedAs plan_iExtra in_iExtra Fine
-  pub i_both : OpenedAs plan_iBoth in_iBoth Fine
+  pub w : OpenedAs plan_a_wait in_a Fine
+  pub w_job : OpenedAs plan_a_job_waits in_a_both Fine
+  pub w_extra : OpenedAs plan_a_extra_waits in_a_both Fine
+  pub i_job : OpenedAs plan_i_job in_i_job Fine
+  pub i_extra : OpenedAs plan_i_extra in_i_extra Fine
+  pub i_both : OpenedAs plan_i_both in_i_both Fine
 
 pub all_opened : AllOpened
 unfolding digit bit first table row row_table cells grow arcs_from arcs_in circle_in extended circle_of order_of order_in joined_rows

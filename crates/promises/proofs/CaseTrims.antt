@@ -35,8 +35,8 @@ use Rattle.planner.specs.Verdict.{is_accepted}
 use Rattle.planner.specs.Trim.{pair_from, pair_to, may_go, trim_step, trim_up_to, trimmed_rows, trimmed_file, trim_fault, trim_out}
 use Rattle.planner.specs.declared.Fault.{Fault}
 use Rattle.promises.specs.Ours.{our_trim}
-use Rattle.promises.specs.Cases.{plan_d, plan_aBoth, plan_aJob_waits, TrimCases}
-use Rattle.promises.proofs.CasePlans.{in_aBoth, in_d, OpenedAs, all_opened}
+use Rattle.promises.specs.Cases.{plan_d, plan_a_both, plan_a_job_waits, TrimCases}
+use Rattle.promises.proofs.CasePlans.{in_a_both, in_d, OpenedAs, all_opened}
 
 module _ (s : List ℕ) (q : Plan) where
   -- the pair x is an extra arc of the plan
@@ -91,21 +91,21 @@ d_rows =
     let d : trim_up_to plan_d 68 ≡ four (8 ∷ 4 ∷ []) = next plan_d in_d e 67 c refl in
     ap (λ (x : Plan). trim_up_to plan_d (elements * x.count)) e ∙ past plan_d in_d e 68 188 refl ∙ d
 
-both_rows : trimmed_rows plan_aBoth ≡ four (0 ∷ 8 ∷ [])
+both_rows : trimmed_rows plan_a_both ≡ four (0 ∷ 8 ∷ [])
 unfolding trimmed_rows digit bit first some count table row put_row row_table cells number_of set_of grow arcs_from arcs_in circle_in extended circle_of order_of order_in joined_rows without_arc field extra_wait wait_up_to heaviest need_of demands_for need_for over_kind is_overloaded over_cause is_accepted
 both_rows =
-    let e : plan_in plan_aBoth ≡ in_aBoth = all_opened.a_both.plan in
-    let a : trim_up_to plan_aBoth 2 ≡ four (0 ∷ 8 ∷ []) = next plan_aBoth in_aBoth e 1 (past plan_aBoth in_aBoth e 0 1 refl ∙ begin plan_aBoth in_aBoth e) refl in
-    let b : trim_up_to plan_aBoth 68 ≡ four (0 ∷ 8 ∷ []) = next plan_aBoth in_aBoth e 67 (past plan_aBoth in_aBoth e 2 65 refl ∙ a) refl in
-    ap (λ (x : Plan). trim_up_to plan_aBoth (elements * x.count)) e ∙ past plan_aBoth in_aBoth e 68 188 refl ∙ b
+    let e : plan_in plan_a_both ≡ in_a_both = all_opened.a_both.plan in
+    let a : trim_up_to plan_a_both 2 ≡ four (0 ∷ 8 ∷ []) = next plan_a_both in_a_both e 1 (past plan_a_both in_a_both e 0 1 refl ∙ begin plan_a_both in_a_both e) refl in
+    let b : trim_up_to plan_a_both 68 ≡ four (0 ∷ 8 ∷ []) = next plan_a_both in_a_both e 67 (past plan_a_both in_a_both e 2 65 refl ∙ a) refl in
+    ap (λ (x : Plan). trim_up_to plan_a_both (elements * x.count)) e ∙ past plan_a_both in_a_both e 68 188 refl ∙ b
 
-wait_rows : trimmed_rows plan_aJob_waits ≡ four (2 ∷ 8 ∷ [])
+wait_rows : trimmed_rows plan_a_job_waits ≡ four (2 ∷ 8 ∷ [])
 unfolding trimmed_rows digit bit first some count table row put_row row_table cells number_of set_of grow arcs_from arcs_in circle_in extended circle_of order_of order_in joined_rows without_arc field extra_wait wait_up_to heaviest need_of demands_for need_for over_kind is_overloaded over_cause is_accepted
 wait_rows =
-    let e : plan_in plan_aJob_waits ≡ in_aBoth = all_opened.w_job.plan in
-    let a : trim_up_to plan_aJob_waits 2 ≡ four (2 ∷ 8 ∷ []) = next plan_aJob_waits in_aBoth e 1 (past plan_aJob_waits in_aBoth e 0 1 refl ∙ begin plan_aJob_waits in_aBoth e) refl in
-    let b : trim_up_to plan_aJob_waits 68 ≡ four (2 ∷ 8 ∷ []) = next plan_aJob_waits in_aBoth e 67 (past plan_aJob_waits in_aBoth e 2 65 refl ∙ a) refl in
-    ap (λ (x : Plan). trim_up_to plan_aJob_waits (elements * x.count)) e ∙ past plan_aJob_waits in_aBoth e 68 188 refl ∙ b
+    let e : plan_in plan_a_job_waits ≡ in_a_both = all_opened.w_job.plan in
+    let a : trim_up_to plan_a_job_waits 2 ≡ four (2 ∷ 8 ∷ []) = next plan_a_job_waits in_a_both e 1 (past plan_a_job_waits in_a_both e 0 1 refl ∙ begin plan_a_job_waits in_a_both e) refl in
+    let b : trim_up_to plan_a_job_waits 68 ≡ four (2 ∷ 8 ∷ []) = next plan_a_job_waits in_a_both e 67 (past plan_a_job_waits in_a_both e 2 65 refl ∙ a) refl in
+    ap (λ (x : Plan). trim_up_to plan_a_job_waits (elements * x.count)) e ∙ past plan_a_job_waits in_a_both e 68 188 refl ∙ b
 
 -- ---- what is answered and left, by the plan and the rows
 

@@ -47,7 +47,7 @@ use Rattle.planner.specs.declared.Cause.TheVariants.{Lists}
 use Rattle.planner.specs.declared.Fault.{Fault}
 use Rattle.planner.specs.declared.CrewChecked.{CrewChecked}
 use Rattle.promises.specs.Ours.{ours}
-use Rattle.promises.specs.Cases.{Cases, plan_g, plan_aPasted, plan_aSpare, plan_ePasted, plan_cThrice, plan_aWait_pasted, plan_aWait_spare}
+use Rattle.promises.specs.Cases.{Cases, plan_g, plan_a_pasted, plan_a_spare, plan_e_pasted, plan_c_thrice, plan_a_wait_pasted, plan_a_wait_spare}
 use Rattle.promises.proofs.RefusalsHold.{unreadables}
 use Rattle.promises.proofs.CasePlans.{OpenedAs, all_opened, all_refused, opened_as}
 use Rattle.promises.proofs.CaseFlows.{all_flows}
@@ -140,10 +140,10 @@ cases =
       h-worked = crew_as all_opened.h (0 ∷ 0 ∷ 2 ∷ 3 ∷ 3 ∷ []) (1 ∷ 2 ∷ 1 ∷ 3 ∷ 1 ∷ []);
       h-idle = crew_as all_opened.h (0 ∷ 0 ∷ 2 ∷ 2 ∷ 2 ∷ []) (1 ∷ 0 ∷ 0 ∷ 3 ∷ 1 ∷ []);
       a_both = verdict_as all_opened.a_both;
-      a_pasted = verdict_refused plan_aPasted all_refused.a_pasted;
-      a_spare = verdict_refused plan_aSpare all_refused.a_spare;
-      e_pasted = verdict_refused plan_ePasted all_refused.e_pasted;
-      c_thrice = verdict_refused plan_cThrice all_refused.c_thrice;
+      a_pasted = verdict_refused plan_a_pasted all_refused.a_pasted;
+      a_spare = verdict_refused plan_a_spare all_refused.a_spare;
+      e_pasted = verdict_refused plan_e_pasted all_refused.e_pasted;
+      c_thrice = verdict_refused plan_c_thrice all_refused.c_thrice;
       w_accepted = verdict_as all_opened.w;
       w_need = needs_left all_opened.w (9 ∷ []);
       w_starts = starts_left all_opened.w (9 ∷ 9 ∷ 9 ∷ 9 ∷ 9 ∷ 9 ∷ []);
@@ -152,8 +152,8 @@ cases =
       w_job_starts = starts_left all_opened.w_job (9 ∷ 9 ∷ 9 ∷ 9 ∷ 9 ∷ []);
       w_extra_starts = starts_left all_opened.w_extra (9 ∷ 9 ∷ 9 ∷ 9 ∷ 9 ∷ []);
       w-extra-breaks = crew_as all_opened.w_extra (0 ∷ 256 ∷ 0 ∷ 259 ∷ []) (1 ∷ 2 ∷ 3 ∷ 1 ∷ []);
-      w_spare = verdict_refused plan_aWait_spare all_refused.w_spare;
-      w_pasted = verdict_refused plan_aWait_pasted all_refused.w_pasted;
+      w_spare = verdict_refused plan_a_wait_spare all_refused.w_spare;
+      w_pasted = verdict_refused plan_a_wait_pasted all_refused.w_pasted;
       a_flow = all_flows.a;
       i_job = all_flows.i_job;
       i_extra = all_flows.i_extra;

@@ -42,8 +42,8 @@ abbrev pub plan_e : List ℕ
 plan_e = plan_c ++ (arc_bytes 4 1 2 ++ arc_bytes 4 2 1)
 
 -- plan E with both as job arcs
-abbrev pub plan_eJob : List ℕ
-plan_eJob = plan_c ++ (arc_bytes 3 1 2 ++ arc_bytes 3 2 1)
+abbrev pub plan_e_job : List ℕ
+plan_e_job = plan_c ++ (arc_bytes 3 1 2 ++ arc_bytes 3 2 1)
 
 -- plan F: one activity, with this demand of the 4 available
 abbrev pub plan_f : ℕ → List ℕ
@@ -61,54 +61,54 @@ plan_h =
     ++ (arc_bytes 4 1 3 ++ (arc_bytes 4 2 3 ++ (arc_bytes 4 3 4 ++ arc_bytes 4 3 5))))))))
 
 -- plan A with its first arc as a job arc too
-abbrev pub plan_aBoth : List ℕ
-plan_aBoth = plan_c ++ (arc_bytes 3 1 2 ++ (arc_bytes 4 1 2 ++ arc_bytes 4 2 4))
+abbrev pub plan_a_both : List ℕ
+plan_a_both = plan_c ++ (arc_bytes 3 1 2 ++ (arc_bytes 4 1 2 ++ arc_bytes 4 2 4))
 
 -- plan A with both arcs pasted twice, plan E with its first arc pasted twice, plan C with one arc three
 -- times, and plan A with a copy of its first arc that has a spare byte
-abbrev pub plan_aPasted : List ℕ
-plan_aPasted = plan_a ++ (arc_bytes 4 1 2 ++ arc_bytes 4 2 4)
+abbrev pub plan_a_pasted : List ℕ
+plan_a_pasted = plan_a ++ (arc_bytes 4 1 2 ++ arc_bytes 4 2 4)
 
-abbrev pub plan_ePasted : List ℕ
-plan_ePasted = plan_e ++ arc_bytes 4 1 2
+abbrev pub plan_e_pasted : List ℕ
+plan_e_pasted = plan_e ++ arc_bytes 4 1 2
 
-abbrev pub plan_cThrice : List ℕ
-plan_cThrice = plan_c ++ (arc_bytes 3 1 2 ++ (arc_bytes 3 1 2 ++ arc_bytes 3 1 2))
+abbrev pub plan_c_thrice : List ℕ
+plan_c_thrice = plan_c ++ (arc_bytes 3 1 2 ++ (arc_bytes 3 1 2 ++ arc_bytes 3 1 2))
 
-abbrev pub plan_aSpare : List ℕ
-plan_aSpare = plan_a ++ (4 ∷ 1 ∷ 2 ∷ 1 ∷ replicate 20 0)
+abbrev pub plan_a_spare : List ℕ
+plan_a_spare = plan_a ++ (4 ∷ 1 ∷ 2 ∷ 1 ∷ replicate 20 0)
 
 -- plan A with a wait of 3 on its arc 1 to 2; and with a job arc 1 to 2 of wait 256 beside an extra arc of
 -- wait 3, or the other way round
-abbrev pub plan_aWait : List ℕ
-plan_aWait = plan_c ++ (wait_bytes 4 1 2 3 0 ++ arc_bytes 4 2 4)
+abbrev pub plan_a_wait : List ℕ
+plan_a_wait = plan_c ++ (wait_bytes 4 1 2 3 0 ++ arc_bytes 4 2 4)
 
-abbrev pub plan_aJob_waits : List ℕ
-plan_aJob_waits = plan_c ++ (wait_bytes 3 1 2 0 1 ++ (wait_bytes 4 1 2 3 0 ++ arc_bytes 4 2 4))
+abbrev pub plan_a_job_waits : List ℕ
+plan_a_job_waits = plan_c ++ (wait_bytes 3 1 2 0 1 ++ (wait_bytes 4 1 2 3 0 ++ arc_bytes 4 2 4))
 
-abbrev pub plan_aExtra_waits : List ℕ
-plan_aExtra_waits = plan_c ++ (wait_bytes 3 1 2 3 0 ++ (wait_bytes 4 1 2 0 1 ++ arc_bytes 4 2 4))
+abbrev pub plan_a_extra_waits : List ℕ
+plan_a_extra_waits = plan_c ++ (wait_bytes 3 1 2 3 0 ++ (wait_bytes 4 1 2 0 1 ++ arc_bytes 4 2 4))
 
 -- with a copy of its first arc that has another wait, and with an arc whose byte 6 is not zero
-abbrev pub plan_aWait_pasted : List ℕ
-plan_aWait_pasted = plan_aWait ++ wait_bytes 4 1 2 5 0
+abbrev pub plan_a_wait_pasted : List ℕ
+plan_a_wait_pasted = plan_a_wait ++ wait_bytes 4 1 2 5 0
 
-abbrev pub plan_aWait_spare : List ℕ
-plan_aWait_spare = plan_aWait ++ (4 ∷ 1 ∷ 3 ∷ 0 ∷ 5 ∷ 0 ∷ 1 ∷ replicate 17 0)
+abbrev pub plan_a_wait_spare : List ℕ
+plan_a_wait_spare = plan_a_wait ++ (4 ∷ 1 ∷ 3 ∷ 0 ∷ 5 ∷ 0 ∷ 1 ∷ replicate 17 0)
 
 -- three activities in a row, of which the second demands nobody, with 2 available; both arcs as job arcs, the
 -- second as an extra arc, and both with an extra arc from 1 to 3
 abbrev pub plan_i : List ℕ
 plan_i = activity_bytes 1 1 2 ++ (activity_bytes 2 1 0 ++ (activity_bytes 3 1 2 ++ crew_bytes 2))
 
-abbrev pub plan_iJob : List ℕ
-plan_iJob = plan_i ++ (arc_bytes 3 1 2 ++ arc_bytes 3 2 3)
+abbrev pub plan_i_job : List ℕ
+plan_i_job = plan_i ++ (arc_bytes 3 1 2 ++ arc_bytes 3 2 3)
 
-abbrev pub plan_iExtra : List ℕ
-plan_iExtra = plan_i ++ (arc_bytes 3 1 2 ++ arc_bytes 4 2 3)
+abbrev pub plan_i_extra : List ℕ
+plan_i_extra = plan_i ++ (arc_bytes 3 1 2 ++ arc_bytes 4 2 3)
 
-abbrev pub plan_iBoth : List ℕ
-plan_iBoth = plan_iJob ++ arc_bytes 4 1 3
+abbrev pub plan_i_both : List ℕ
+plan_i_both = plan_i_job ++ arc_bytes 4 1 3
 
 -- a flow record of kind 1, as the report prints it: from, to, units, added mark
 abbrev pub handover_bytes : ℕ → ℕ → ℕ → ℕ → List ℕ
@@ -147,9 +147,9 @@ pub record Cases (P : Planner) : Type 0 where
   pub d_none : output_numbers (P.overload.answer plan_d 24) ≡ 0 ∷ 0 ∷ []
   -- "*E, A with only extra arcs 1→2, 2→1: 6, activity 1; *both as job arcs: 5."
   pub e_extra : verdict_numbers (P.verdict plan_e) ≡ 6 ∷ 1 ∷ []
-  pub e_job : verdict_numbers (P.verdict plan_eJob) ≡ 5 ∷ 1 ∷ []
+  pub e_job : verdict_numbers (P.verdict plan_e_job) ≡ 5 ∷ 1 ∷ []
   pub e_starts : output_numbers (P.starts.answer plan_e 5) ≡ 6 ∷ 1 ∷ []
-  pub e_needs : output_numbers (P.needs.answer plan_eJob 0) ≡ 5 ∷ 1 ∷ []
+  pub e_needs : output_numbers (P.needs.answer plan_e_job 0) ≡ 5 ∷ 1 ∷ []
   -- "*F, one activity, demand 4 of 4: accepted; *demand 5: 7, need 5."
   pub f_accepted : verdict_numbers (P.verdict (plan_f 4)) ≡ 0 ∷ 1 ∷ 1 ∷ []
   pub f_overloaded : verdict_numbers (P.verdict (plan_f 5)) ≡ 7 ∷ 1 ∷ 5 ∷ 1 ∷ 1 ∷ []
@@ -190,38 +190,38 @@ pub record Cases (P : Planner) : Type 0 where
       crew_check_numbers (P.crew_check plan_h (0 ∷ 0 ∷ 2 ∷ 2 ∷ 2 ∷ []) (1 ∷ 0 ∷ 0 ∷ 3 ∷ 1 ∷ [])) ≡ 10 ∷ 5 ∷ []
   -- "A pair repeated within the same type is now refused. The same pair as a job arc and an extra arc is
   -- still fine." (02, change 3)
-  pub a_both : verdict_numbers (P.verdict plan_aBoth) ≡ 0 ∷ 4 ∷ 1 ∷ []
-  pub a_pasted : verdict_numbers (P.verdict plan_aPasted) ≡ 13 ∷ 7 ∷ []
+  pub a_both : verdict_numbers (P.verdict plan_a_both) ≡ 0 ∷ 4 ∷ 1 ∷ []
+  pub a_pasted : verdict_numbers (P.verdict plan_a_pasted) ≡ 13 ∷ 7 ∷ []
   -- "with the place of the later record, in each record after 4, hence before any circle"; of three copies
   -- the second is the first that repeats
-  pub a_spare : verdict_numbers (P.verdict plan_aSpare) ≡ 4 ∷ 7 ∷ []
-  pub e_pasted : verdict_numbers (P.verdict plan_ePasted) ≡ 13 ∷ 7 ∷ []
-  pub c_thrice : verdict_numbers (P.verdict plan_cThrice) ≡ 13 ∷ 6 ∷ []
+  pub a_spare : verdict_numbers (P.verdict plan_a_spare) ≡ 4 ∷ 7 ∷ []
+  pub e_pasted : verdict_numbers (P.verdict plan_e_pasted) ≡ 13 ∷ 7 ∷ []
+  pub c_thrice : verdict_numbers (P.verdict plan_c_thrice) ≡ 13 ∷ 6 ∷ []
   -- "An arc is kept when start plus duration plus wait is at most the next start. .. the end still follows
   -- the last finish. .. Need and flow do not read waits." (02, change 5): 2 starts 3 periods after 1 is done,
   -- 4 follows it, and the need is that of A
-  pub w_accepted : verdict_numbers (P.verdict plan_aWait) ≡ 0 ∷ 4 ∷ 1 ∷ []
-  pub w_need : P.needs.left plan_aWait (9 ∷ []) ≡ 4 ∷ []
-  pub w_starts : P.starts.left plan_aWait (9 ∷ 9 ∷ 9 ∷ 9 ∷ 9 ∷ 9 ∷ []) ≡ 0 ∷ 4 ∷ 0 ∷ 6 ∷ 7 ∷ 9 ∷ []
-  pub w_fits : crew_check_numbers (P.crew_check plan_aWait (0 ∷ 4 ∷ 0 ∷ 6 ∷ []) (1 ∷ 2 ∷ 3 ∷ 1 ∷ [])) ≡ 0 ∷ []
+  pub w_accepted : verdict_numbers (P.verdict plan_a_wait) ≡ 0 ∷ 4 ∷ 1 ∷ []
+  pub w_need : P.needs.left plan_a_wait (9 ∷ []) ≡ 4 ∷ []
+  pub w_starts : P.starts.left plan_a_wait (9 ∷ 9 ∷ 9 ∷ 9 ∷ 9 ∷ 9 ∷ []) ≡ 0 ∷ 4 ∷ 0 ∷ 6 ∷ 7 ∷ 9 ∷ []
+  pub w_fits : crew_check_numbers (P.crew_check plan_a_wait (0 ∷ 4 ∷ 0 ∷ 6 ∷ []) (1 ∷ 2 ∷ 3 ∷ 1 ∷ [])) ≡ 0 ∷ []
   pub w-breaks :
-      crew_check_numbers (P.crew_check plan_aWait (0 ∷ 3 ∷ 0 ∷ 6 ∷ []) (1 ∷ 2 ∷ 3 ∷ 1 ∷ [])) ≡ 254 ∷ 1 ∷ 2 ∷ []
+      crew_check_numbers (P.crew_check plan_a_wait (0 ∷ 3 ∷ 0 ∷ 6 ∷ []) (1 ∷ 2 ∷ 3 ∷ 1 ∷ [])) ≡ 254 ∷ 1 ∷ 2 ∷ []
   -- "Where a job arc and an extra arc share a pair, both waits bind."
-  pub w_job_starts : P.starts.left plan_aJob_waits (9 ∷ 9 ∷ 9 ∷ 9 ∷ 9 ∷ []) ≡ 0 ∷ 257 ∷ 0 ∷ 259 ∷ 260 ∷ []
-  pub w_extra_starts : P.starts.left plan_aExtra_waits (9 ∷ 9 ∷ 9 ∷ 9 ∷ 9 ∷ []) ≡ 0 ∷ 257 ∷ 0 ∷ 259 ∷ 260 ∷ []
+  pub w_job_starts : P.starts.left plan_a_job_waits (9 ∷ 9 ∷ 9 ∷ 9 ∷ 9 ∷ []) ≡ 0 ∷ 257 ∷ 0 ∷ 259 ∷ 260 ∷ []
+  pub w_extra_starts : P.starts.left plan_a_extra_waits (9 ∷ 9 ∷ 9 ∷ 9 ∷ 9 ∷ []) ≡ 0 ∷ 257 ∷ 0 ∷ 259 ∷ 260 ∷ []
   pub w-extra-breaks :
-      crew_check_numbers (P.crew_check plan_aExtra_waits (0 ∷ 256 ∷ 0 ∷ 259 ∷ []) (1 ∷ 2 ∷ 3 ∷ 1 ∷ []))
+      crew_check_numbers (P.crew_check plan_a_extra_waits (0 ∷ 256 ∷ 0 ∷ 259 ∷ []) (1 ∷ 2 ∷ 3 ∷ 1 ∷ []))
       ≡ 254 ∷ 1 ∷ 2 ∷ []
   -- "so 4 covers the other spare bytes only"; and another wait makes no other pair, so that 13 is given
-  pub w_spare : verdict_numbers (P.verdict plan_aWait_spare) ≡ 4 ∷ 7 ∷ []
-  pub w_pasted : verdict_numbers (P.verdict plan_aWait_pasted) ≡ 13 ∷ 7 ∷ []
+  pub w_spare : verdict_numbers (P.verdict plan_a_wait_spare) ≡ 4 ∷ 7 ∷ []
+  pub w_pasted : verdict_numbers (P.verdict plan_a_wait_pasted) ≡ 13 ∷ 7 ∷ []
   -- "and plan A's listing keeps its marks" (02, change 6): its six flow lines, as document 01 has them
   pub a_flow : (P.flow 1).left plan_a (replicate 360 9) ≡ flow_a
   -- "a handover .. that the job order forces through a third job" is not added; one on a way that uses an
   -- extra arc is; and one that has both ways is not
-  pub i_job : (P.flow 1).left plan_iJob (replicate 240 9) ≡ flow_i 0
-  pub i_extra : (P.flow 1).left plan_iExtra (replicate 240 9) ≡ flow_i 1
-  pub i_both : (P.flow 1).left plan_iBoth (replicate 240 9) ≡ flow_i 0
+  pub i_job : (P.flow 1).left plan_i_job (replicate 240 9) ≡ flow_i 0
+  pub i_extra : (P.flow 1).left plan_i_extra (replicate 240 9) ≡ flow_i 1
+  pub i_both : (P.flow 1).left plan_i_both (replicate 240 9) ≡ flow_i 0
 
 -- "Trim the extra arcs" (02, change 7), about an operation T. Every line holds of ours:
 -- `trim_cases` of proofs/CaseTrims.antt
@@ -233,9 +233,9 @@ pub record TrimCases (T : Writing) : Type 0 where
       T.left plan_d (replicate 216 9) ≡ plan_c ++ (arc_bytes 4 1 4 ++ (arc_bytes 4 2 3 ++ replicate 48 9))
   -- A with its first arc as a job arc too: the extra arc goes
   pub both_left :
-      T.left plan_aBoth (replicate 192 9) ≡ plan_c ++ (arc_bytes 3 1 2 ++ (arc_bytes 4 2 4 ++ replicate 24 9))
+      T.left plan_a_both (replicate 192 9) ≡ plan_c ++ (arc_bytes 3 1 2 ++ (arc_bytes 4 2 4 ++ replicate 24 9))
   -- "an arc with a longer wait always remains": the same, with a wait on the extra arc
-  pub wait_left : T.left plan_aJob_waits (replicate 192 9) ≡ plan_aJob_waits
+  pub wait_left : T.left plan_a_job_waits (replicate 192 9) ≡ plan_a_job_waits
   -- "9 comes after the circles and needs the given file's length; 7 comes last.": B is overloaded, and its 7
   -- is Verdict's (`overloaded` of Trim)
   pub d_short : output_numbers (T.answer plan_d 215) ≡ 9 ∷ 216 ∷ []

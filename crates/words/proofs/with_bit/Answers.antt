@@ -5,11 +5,7 @@ use lib.Bits.{bit_or}
 use borrow.Author.Rules.{rules}
 use Rattle.words.specs.Bits.{word_bits}
 use Rattle.words.proofs.Bits.{shl_one}
-use Rattle.words.proofs.with_bit.Statement.{statement}
-use Rattle.words.proofs.with_bit.Tie as tie
+use Rattle.words.proofs.with_bit.Goals as goal
 
-returns : tie.Need-returns
+pub returns : goal.returns
 returns c = ap (λ (x : ℕ). bit_or c.args.w x) (shl_one word_bits c.args.i (search rules))
-
-pub with_bit_spec : {M : Type 1} → statement M
-with_bit_spec = tie.close (tie.spec (λ c. search rules) returns)

@@ -5,12 +5,8 @@ use borrow.Author.Rules.{rules}
 use Rattle.words.specs.Bits.{minus}
 use Rattle.words.specs.Bits.{word_bits}
 use Rattle.words.proofs.Bits.{shl_one}
-use Rattle.words.proofs.without_bit.Statement.{statement}
-use Rattle.words.proofs.without_bit.Tie as tie
+use Rattle.words.proofs.without_bit.Goals as goal
 
-returns : tie.Need-returns
-returns c = let a = c.before.args in
+pub returns : goal.returns
+returns c = let a = c.args in
     c.without.ensures ∙ ap (λ (x : ℕ). minus a.w x) (shl_one word_bits a.i (search rules))
-
-pub without_bit_spec : {M : Type 1} → statement M
-without_bit_spec = tie.close (tie.spec (λ c. search rules) (λ c κs. search rules) returns)
