@@ -1,7 +1,7 @@
 # make                   proves and builds the library for C and the command, target/yaffledesk
 # make run [PLAN=file]   proves and builds the report program, and prints the report of a plan, examples/a.plan
 #                        where none is named
-# make test              the test command: proves every crate from nothing, tries the wrong versions, runs all tests
+# make test              the test command: proves every crate, tries the wrong versions, runs all tests
 # make sanitize          tests the command once more, built under gcc's sanitizers of memory and undefined behaviour
 # make check CRATE=plan  proves one crate and what it rests on; what has not changed since is not proved again
 # make install           puts the command, its manual page, planfile (as yaffledesk-planfile), the library, the header
@@ -35,7 +35,7 @@ MAKEFLAGS += --no-print-directory
 
 all: $(COMMAND)
 
-$(LIBRARY): crates.txt $(shell find crates -type f)
+$(LIBRARY): crates.txt $(shell find crates -name out -prune -o -type f -print)
 	@tests/tools rt python3 flock
 	@mkdir -p target
 	@tests/library >target/library.log || { cat target/library.log; exit 1; }
@@ -69,7 +69,7 @@ run:
 	@test -r "$(PLAN)" || { echo "make run: cannot read the plan file $(PLAN)" >&2; exit 2; }
 	@tests/tools rt python3
 	@tools/prove report
-	@target/bin/report <"$(PLAN)"
+	@crates/report/out/report <"$(PLAN)"
 
 check:
 	@test -n "$(CRATE)" || { echo "make check CRATE=plan: which crate? crates.txt lists them" >&2; exit 2; }

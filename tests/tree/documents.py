@@ -47,8 +47,9 @@ def unlisted(root):
     """Crates and tests that docs/MAP.md does not name, and sections of decisions that docs/DECISIONS.md does not."""
     told = (root / "docs" / "MAP.md").read_text()
     for line in (root / "crates.txt").read_text().splitlines():
-        if ":" in line and f"`{line.split(':')[0]}`" not in told:
-            yield f"docs/MAP.md does not name the crate {line.split(':')[0]}"
+        # a static library is so called before the colon
+        if ":" in line and f"`{line.split(':')[0].split()[0]}`" not in told:
+            yield f"docs/MAP.md does not name the crate {line.split(':')[0].split()[0]}"
     for test in sorted(root.glob("tests/*/run")):
         if f"`tests/{test.parent.name}`" not in told:
             yield f"docs/MAP.md does not name tests/{test.parent.name}"

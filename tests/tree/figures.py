@@ -12,7 +12,7 @@ loader = importlib.machinery.SourceFileLoader("prove", PROVE)
 prove = importlib.util.module_from_spec(importlib.util.spec_from_loader("prove", loader))
 loader.exec_module(prove)
 
-USE = re.compile(r"^use Rattle·(\w+?)(?:·specs)?\.specs\.([A-Za-z_.]+?)(?:\.\{| as |\s|$)", re.M)
+USE = re.compile(r"^use Rattle\.(\w+)\.specs\.([A-Za-z_.]+?)(?:\.\{| as |\s|$)", re.M)
 # a list of names may be laid out over several lines
 IMPORT = re.compile(r"^use [^{\n]*(?:\{[^}]*\})?.*$", re.M)
 STATEMENTS = "crates/promises/specs/{}.antt"
@@ -42,7 +42,7 @@ def edits(root):
 
 
 def crates(root):
-    return sum(":" in line for line in (root / "crates.txt").read_text().splitlines())
+    return len(prove.listed(root))
 
 
 def wanted(root):

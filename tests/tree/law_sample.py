@@ -5,17 +5,17 @@ import tempfile
 import laws
 
 # a definition whose comment tells of an end, laws, a law of another crate that cites some of them, and a proof
-NOTIONS = """-- Half of a number. Two halves make the whole where it is even: `an-end` of proofs/Laws.antt.
-use Prim.Native.Nat.{ℕ, _/_, _+_}
+NOTIONS = """-- Half of a number. Two halves make the whole where it is even: `an_end` of proofs/Laws.antt.
+use Prim.Native.Nat.{ℕ, ◌/◌, ◌+◌}
 
 unfoldable pub half : ℕ → ℕ
 half n = n / 2
 """
 LAWS = """-- This comment does not cite `dead`.
-use Rattle·low·specs.specs.Notions.{half}
+use Rattle.low.specs.Notions.{half}
 
-pub an-end : (n : ℕ) → half n ≡ half n
-an-end n = private n
+pub an_end : (n : ℕ) → half n ≡ half n
+an_end n = private n
 
 private : (n : ℕ) → half n ≡ half n
 private n = refl
@@ -33,8 +33,11 @@ module _ (n : ℕ) where
   unfolding half
   cited = refl
 
-  pub by-module : half n ≡ half n
-  by-module = refl
+  pub by_module : half n ≡ half n
+  by_module = refl
+
+  pub fields : Fields n
+  fields = record {left = refl}
 
   pub dead : half n ≡ half n
   dead = refl
@@ -45,25 +48,32 @@ module _ (n : ℕ) where
   spare : half n ≡ half n
   spare = refl
 """
-CITING = """use Prim.Native.Nat.{ℕ, _+_, _*_}
-use Rattle·low.proofs.Laws.{
+CITING = """use Prim.Native.Nat.{ℕ, ◌+◌, ◌*◌, here_n}
+use Rattle.low.proofs.Laws.{
   cited as here,
   dead,
+  fields,
 }
-use Rattle·low.proofs.Laws as Low
-use Rattle·low.proofs.Others
+use Rattle.low.proofs.Laws as Low
+use Rattle.low.proofs.Others
 
 pub twice : (n : ℕ) → n + 0 ≡ n
-twice n = here n ∙ Low.by-module n
+twice n = here n ∙ Low.by_module n ∙ (fields n).left ∙ fields.left
+"""
+ANSWERS = """use Rattle.high.proofs.Citing.{twice}
+use Rattle.high.proofs.code.Goals as goal
+
+pub returns : goal.returns
+returns c = twice c.args.n
 """
 FILES = {
     "low/specs/Notions.antt": NOTIONS,
     "low/proofs/Laws.antt": LAWS,
     "high/proofs/Citing.antt": CITING,
-    "high/proofs/code/Proof.antt": "use Rattle·high·proofs.proofs.Citing.{twice}\n\nreturns = twice\n",
+    "high/proofs/code/Answers.antt": ANSWERS,
 }
 DEAD = ["recursive", "dead", "twice", "spare"]
-UNUSED = ["_+_", "_*_", "dead", "Others"]
+UNUSED = ["◌+◌", "◌*◌", "here_n", "dead", "Others"]
 
 
 def mistaken():

@@ -2,8 +2,10 @@
 import functools
 import re
 
+from versions import PROOFS
+
 # a word of code, between blanks and brackets: a name, or names that points join
-WORD = re.compile(r"\[\]|[^\s(){}\[\],;:=`⌜⌝]+")
+WORD = re.compile(r"\[\]|==|[^\s(){}\[\],;:=`⌜⌝]+")
 # a list of names may be laid out over several lines
 USE = re.compile(
     r"^(?:ghost )?use (?P<module>[^\s{;]+?)(?:\.\{(?P<names>[^}]*)\}| as (?P<alias>[^\s;]+))?;?$", re.M
@@ -14,6 +16,12 @@ LAW = re.compile(
 )
 TOLD = re.compile(r"`([^`]+)`")
 COMMENT = {".antt": "--", ".rt": "//"}
+
+
+def parts(word):
+    """A word with fields behind it, as `c.args.n`: it says the names before each point too."""
+    names = word.split(".")
+    return [".".join(names[: count + 1]) for count in range(len(names))] if names[0] else [word]
 
 
 class Law:
@@ -40,7 +48,8 @@ class File:
             comment = code.startswith(COMMENT[path.suffix])
             self.comments.append(code[2:] if comment else "")
             for word in [] if comment else WORD.findall(line):
-                self.words.setdefault(word.rstrip("."), set()).add(number)
+                for said in parts(word.rstrip(".")):
+                    self.words.setdefault(said, set()).add(number)
 
     def take(self, use):
         """Notes what a `use` line brings in: a module with its name here, or a name of a module with that name here."""
@@ -54,7 +63,7 @@ class File:
 
     def says(self, name):
         """Whether the code has a name, or, where it has places for arguments, all of its parts."""
-        return name in self.words or "_" in name and all(part in self.words for part in name.split("_") if part)
+        return name in self.words or "◌" in name and all(part in self.words for part in name.split("◌") if part)
 
     def cites(self):
         """What the code cites of other files: pairs of a module and a name of it."""
@@ -90,10 +99,9 @@ class File:
         return found
 
 
-def modules(root, path):
-    """The names of a law file in the imports of other crates, and in those of its own."""
-    _, crate, *parts = path.relative_to(root).with_suffix("").parts
-    return f"Rattle·{crate}.{'.'.join(parts)}", f"Rattle·{crate}·proofs.{'.'.join(parts)}"
+def module(root, path):
+    """The name of a law file in imports."""
+    return ".".join(["Rattle", *path.relative_to(root / "crates").with_suffix("").parts])
 
 
 def told(root):
@@ -107,14 +115,16 @@ def told(root):
 
 def uncited(root):
     """The laws that no other law, function's proof or code cites, and of which no reader is told."""
-    files = [read(path) for kind in ("antt", "rt") for path in sorted(root.glob(f"crates/**/*.{kind}"))]
+    found = [root.glob(f"crates/*/{part}") for part in ("*/**/*.antt", "src/**/*.rt")]
+    made = [path for some in found for path in sorted(some) if path.relative_to(root).parts[2] != "out"]
+    files = [read(path) for path in made]
     cited, ends = {one for file in files for one in file.cites()}, told(root)
     for file in files:
-        if "proofs" not in file.path.relative_to(root).parts or file.path.name in ("Proof.antt", "Lib.antt"):
+        if "proofs" not in file.path.relative_to(root).parts or file.path.name in (*PROOFS, "Lib.antt"):
             continue
         for law in file.laws():
             here = file.words.get(law.name, set()) - set(range(law.first, law.end))
-            there = any((module, law.name) in cited for module in modules(root, file.path))
+            there = (module(root, file.path), law.name) in cited
             if not here and not there and law.name not in ends:
                 yield f"{file.path.relative_to(root)}: {law.name}"
 

@@ -4,14 +4,18 @@ import re
 
 # an error that only follows from another one; and one of a proof that no longer fits the code or the statement,
 # whatever that says
-FOLLOWS = re.compile(r"was not admitted")
+FOLLOWS = re.compile(r"was not admitted|was not checked")
 UNFIT = re.compile(
-    r"has no `Need-|has no field|that can be named from here|is not in scope|expected type `tie\.Need-"
-    r"|but this has type `tie\.Need-|has no argument|too many arguments"
+    r"has no `Need-|has no field|that can be named from here|is not in scope|expected type `(?:tie|goal)\."
+    r"|but this has type `(?:tie|goal)\.|has no argument|too many arguments"
 )
 ERROR = re.compile(r"^(?P<file>\S+\.antt):(?P<line>\d+):\d+: error: `(?P<law>[^`]+)`: (?P<said>.*)")
-STATUS = re.compile(r"^fn (?P<name>[\w:]+): (?P<said>.*)")
+STATUS = re.compile(r"^(?:fn|struct|enum) (?P<name>[\w:+]+): (?P<said>.*)")
 CALLS = re.compile(r"it calls (?P<names>`.*`), which (?:is|are) not proved")
+# what is said before a function's state where a goal of it is false at values that the check has found
+FALSE = re.compile(r"^note: src/\S+: it is not proved that .*the facts known there allow values at which this goal is false")
+# the files of a function's proof
+PROOFS = ("Proof.antt", "Answers.antt", "Invariants.antt")
 # the field of a record that a line of a proof begins
 FIELD = re.compile(r"^\s+([\w-]+) = ")
 HEAD = re.compile(r"\bfn (\w+)")
@@ -20,7 +24,7 @@ PROVED = re.compile(r"logic=proved (?!.*axioms=)")
 
 
 def assumed(log):
-    """What the check of a library says last, where that is not that all is proved without an axiom; else None."""
+    """What the check of a library says last of it, where that is not that all is proved without an axiom; else None."""
     said = ([line for line in log.splitlines() if line.startswith("logic=")] or ["it has no log"])[-1]
     return None if PROVED.match(said) else said
 
@@ -55,6 +59,19 @@ def replacements(edit):
     return found, None if found else "it has no replacement"
 
 
+def edited(crate, edit):
+    """The texts of the files that an edit changes, by their paths in the crate, and why it cannot be applied, or None."""
+    texts = {}
+    for one in replacements(edit)[0]:
+        if one.file not in texts and not (crate / str(one.file)).is_file():
+            return {}, f"there is no file {one.file}"
+        text = texts.get(one.file) or (crate / one.file).read_text()
+        if not one.old or text.count(one.old) != 1:
+            return {}, f"'{one.old}' stands in {one.file} {text.count(one.old) if one.old else 0} times, and not once"
+        texts[one.file] = text.replace(one.old, one.new)
+    return texts, None
+
+
 def places(crate, found):
     """What is wrong with where each replacement of code stands, or None: it belongs into the function that it names."""
     texts = {}
@@ -81,28 +98,36 @@ def field_at(lines):
 
 
 class Log:
-    """What the check of a wrong version said: the errors that are a law's own, by law and by field, and the state of each
-    function."""
+    """What the check of a wrong version said: the errors that are a law's own, by law and by field, the state of each
+    function, and which have a goal that is false. `texts` are the files that the version changes."""
 
-    def __init__(self, folder):
-        self.own, self.unfit, self.states = {}, {}, {}
-        lines = (folder / ".log").read_text(errors="replace").splitlines()
+    def __init__(self, log, crate, texts):
+        self.own, self.unfit, self.states, self.false = {}, {}, {}, set()
+        self.crate, self.texts = crate, texts
+        lines, false = log.splitlines(), False
         for line, after in zip(lines, lines[1:] + [""]):
             if error := ERROR.match(line):
                 # a long name breaks the line: what is said of it stands on the next one
-                self.error(folder, error, error["said"] + (after if after.startswith("  has no ") else ""))
+                self.error(error, error["said"] + (after if after.startswith("  has no ") else ""))
+            elif FALSE.match(line):
+                false = True
             elif status := STATUS.match(line):
                 self.states[status["name"]] = status["said"]
+                if false:
+                    self.false.add(status["name"])
+                false = False
 
-    def error(self, folder, error, said):
+    def error(self, error, said):
         """An error counts for the function whose proof it stands in, or else for the law, and for the law's field."""
         if FOLLOWS.search(said):
             return
-        parts = error["file"].removeprefix(f"{folder}/").split("/")
-        if parts[-1] == "Proof.antt":
+        path = error["file"].removeprefix("./")
+        parts = path.split("/")
+        if parts[-1] in PROOFS:
             names = ["::".join(parts[1:-1])]
         else:
-            field = field_at((folder / "/".join(parts)).read_text().splitlines()[: int(error["line"])])
+            text = self.texts.get(path) or (self.crate / path).read_text()
+            field = field_at(text.splitlines()[: int(error["line"])])
             names = [error["law"], f"{error['law']}.{field}"] if field else [error["law"]]
         for name in names:
             (self.unfit if UNFIT.search(said) else self.own).setdefault(name, said)
@@ -116,10 +141,12 @@ class Log:
             return "it is still proved"
         if got := CALLS.search(said):
             return f"it hides behind {got['names']}, not proved either"
+        if name in self.false:
+            return None
         inner = name.split("::", 1)[1]
         if inner in self.unfit:
             return f"its proof only stopped fitting: {self.unfit[inner]}"
-        if inner in self.own or "`search` does not close" in said:
+        if inner in self.own or "`search` did not prove" in said:
             return None
         return f"no fact of its own fails: {said}"
 
@@ -136,14 +163,15 @@ class Log:
                 yield name, said
 
 
-def faults(crate, edit, log_folder):
+def faults(crate, edit, log_file):
     """The checks of one wrong version, each a pair of a name and what is wrong with it, or None."""
     found, bad = replacements(edit)
-    if bad:
-        return [("the file", bad)]
-    if not (log_folder / ".log").exists():
+    texts, lost = edited(crate, edit)
+    if bad or lost:
+        return [("the file", bad or lost)]
+    if not log_file.exists():
         return [("the file", "it has no log: was it tried?")]
-    log = Log(log_folder)
+    log = Log(log_file.read_text(errors="replace"), crate, texts)
     checks, named = [], {name for one in found for name in one.names}
     for one, misplaced in zip(found, places(crate, found)):
         for name in one.names:

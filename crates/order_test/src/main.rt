@@ -5,63 +5,63 @@ ghost use Rattle.std.specs.Prelude.{◌<◌};
 ghost use Rattle.order.specs.Stored.{elements};
 
 use order::{CELLS, ELEMENTS, Order, Rows, Set};
+use std::io;
 
 const LAST: usize = ELEMENTS - 1;
 
-fn print_number(x: usize) {
-    io::print_decimal(1, x as u64);
+fn print_number(rt: &impl Print, x: usize) -> io::Result<()> {
+    print!(rt; "{x}")
 }
 
 // The members of a set, ascending, numbered from 1 as activities are.
-fn print_members(s: Set) {
+fn print_members(rt: &impl Print, s: Set) -> io::Result<()> {
     let mut left = s;
     for _k in 0..ELEMENTS {
         let low = left.lowest();
         if low < ELEMENTS {
-            io::write_all(1, b" ");
-            print_number(low + 1);
+            print!(rt; " ")?;
+            print_number(rt, low + 1)?;
             left = left.without_lowest();
         }
     }
+    Ok(())
 }
 
-fn print_row(o: Order, i: usize)
+fn print_row(rt: &impl Print, o: Order, i: usize) -> io::Result<()>
     requires { i < elements }
 {
     let s = o.after(i);
-    print_number(i + 1);
-    io::write_all(1, b" is before");
-    print_members(s);
-    io::write_all(1, b", ");
-    print_number(s.size());
-    io::write_all(1, b" in all\n");
+    print_number(rt, i + 1)?;
+    print!(rt; " is before")?;
+    print_members(rt, s)?;
+    print!(rt; ", ")?;
+    print_number(rt, s.size())?;
+    println!(rt; " in all")
 }
 
-fn print_circle(o: Order) {
+fn print_circle(rt: &impl Print, o: Order) -> io::Result<()> {
     let lowest = o.circle();
     if lowest < ELEMENTS {
-        io::write_all(1, b"circle at ");
-        print_number(lowest + 1);
-        io::write_all(1, b"\n");
-        return;
+        print!(rt; "circle at ")?;
+        print_number(rt, lowest + 1)?;
+        return println!(rt; "");
     }
-    io::write_all(1, b"no circle\n");
+    println!(rt; "no circle")
 }
 
-fn print_order(o: Order) {
-    print_row(o, 0);
-    print_row(o, 1);
-    print_row(o, 2);
-    print_row(o, 3);
-    print_circle(o);
+fn print_order(rt: &impl Print, o: Order) -> io::Result<()> {
+    print_row(rt, o, 0)?;
+    print_row(rt, o, 1)?;
+    print_row(rt, o, 2)?;
+    print_row(rt, o, 3)?;
+    print_circle(rt, o)
 }
 
-fn print_test(holds: bool) {
+fn print_test(rt: &impl Print, holds: bool) -> io::Result<()> {
     if holds {
-        io::write_all(1, b"yes\n");
-        return;
+        return println!(rt; "yes");
     }
-    io::write_all(1, b"no\n");
+    println!(rt; "no")
 }
 
 // The arcs from i to i + 1, for i below LAST, as rows; the last row is `end`.
@@ -74,41 +74,39 @@ fn line(end: Set) -> Rows {
     rows
 }
 
-fn main() {
-    io::write_all(1, b"A\n");
+fn main(rt: HostRuntime) -> io::Result<()> {
+    println!(rt; "A")?;
     let a = Order::empty().with_arc(0, 1).with_arc(1, 3);
-    print_order(a);
-    io::write_all(1, b"B\n");
-    print_order(Order::empty().with_arc(0, 1).with_arc(0, 2).with_arc(0, 3));
-    io::write_all(1, b"C\n");
-    print_order(Order::empty());
-    io::write_all(1, b"D\n");
+    print_order(&rt, a)?;
+    println!(rt; "B")?;
     print_order(
+        &rt,
+        Order::empty().with_arc(0, 1).with_arc(0, 2).with_arc(0, 3),
+    )?;
+    println!(rt; "C")?;
+    print_order(&rt, Order::empty())?;
+    println!(rt; "D")?;
+    print_order(
+        &rt,
         Order::empty()
             .with_arc(0, 2)
             .with_arc(0, 3)
             .with_arc(1, 2)
             .with_arc(1, 3),
-    );
-    io::write_all(1, b"E\n");
-    print_order(Order::empty().with_arc(0, 1).with_arc(1, 0));
-    io::write_all(
-        1,
-        b"all in a line: the first before the last, the last before the first\n",
-    );
+    )?;
+    println!(rt; "E")?;
+    print_order(&rt, Order::empty().with_arc(0, 1).with_arc(1, 0))?;
+    println!(rt; "all in a line: the first before the last, the last before the first")?;
     let rows = line(Set::EMPTY);
     let o = Order::of(rows);
-    print_test(o.before(0, LAST));
-    print_test(o.before(LAST, 0));
-    print_circle(o);
-    io::write_all(1, b"with an arc from the last to 3\n");
-    print_circle(o.with_arc(LAST, 2));
-    print_circle(Order::of(line(Set::single(2))));
-    io::write_all(
-        1,
-        b"with job arcs of A and the arc from 4 to 1 as a second table\n",
-    );
+    print_test(&rt, o.before(0, LAST))?;
+    print_test(&rt, o.before(LAST, 0))?;
+    print_circle(&rt, o)?;
+    println!(rt; "with an arc from the last to 3")?;
+    print_circle(&rt, o.with_arc(LAST, 2))?;
+    print_circle(&rt, Order::of(line(Set::single(2))))?;
+    println!(rt; "with job arcs of A and the arc from 4 to 1 as a second table")?;
     let mut extra = [0; CELLS];
     order::put_row(&mut extra, 3, Set::single(0));
-    print_order(Order::of(order::joined(a.after_rows(), extra)));
+    print_order(&rt, Order::of(order::joined(a.after_rows(), extra)))
 }
