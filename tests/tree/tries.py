@@ -1,9 +1,10 @@
 #!/usr/bin/env python3
-"""tests/tree/tries.py [NAME ..]: checks each wrong version of these crates, or of all, and each library as it stands, and
-keeps what was said: target/must-fail/NAME/LABEL.log and target/log/NAME.log. (`rt ci` and `rt must-fail` try each wrong
-version too, and say of it one line; of a library that was proved before they say nothing. tests/tree reads which functions
-are refused, and at what.) The checks are made in copies of the crates outside the tree, as many at a time as there are
-processors, or RT_JOBS. What was checked is not checked again while the files that it stands on are the same."""
+"""tests/tree/tries.py [NAME ..]: checks each wrong version of these crates, or of all, and each library as it stands,
+and keeps what was said: target/must-fail/NAME/LABEL.log and target/log/NAME.log. (`rt ci` and `rt must-fail` try each
+wrong version too, and say of it one line; of a library that was proved before they say nothing. tests/tree reads which
+functions are refused, and at what.) The checks are made in copies of the crates outside the tree, as many at a time as
+there are processors, or RT_JOBS. What was checked is not checked again while the files that it stands on are the same.
+"""
 import concurrent.futures
 import hashlib
 import importlib.machinery
@@ -62,7 +63,8 @@ class Try:
 def sum_of(crate):
     """Names the files of a crate that a check reads."""
     files = [path for part in PARTS for path in sorted((ROOT / "crates" / crate / part).rglob("*")) if path.is_file()]
-    line = [line for line in (ROOT / "crates.txt").read_text().splitlines() if line.split(":")[0].split()[:1] == [crate]]
+    lines = (ROOT / "crates.txt").read_text().splitlines()
+    line = [line for line in lines if line.split(":")[0].split()[:1] == [crate]]
     texts = [(str(path.relative_to(ROOT)), path.read_bytes()) for path in files]
     return hashlib.sha256(repr((line, texts)).encode()).hexdigest()
 
@@ -98,7 +100,8 @@ def make(tries, say):
     if not tries:
         return
     jobs = min(len(tries), int(os.environ.get("RT_JOBS") or len(os.sched_getaffinity(0))))
-    with tempfile.TemporaryDirectory(prefix="yaffledesk-tries-") as room, concurrent.futures.ThreadPoolExecutor(jobs) as pool:
+    workers = concurrent.futures.ThreadPoolExecutor(jobs)
+    with tempfile.TemporaryDirectory(prefix="yaffledesk-tries-") as room, workers as pool:
         copies = queue.SimpleQueue()
         for _ in range(jobs):
             copies.put(copied(room))
