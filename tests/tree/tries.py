@@ -75,12 +75,12 @@ def sum_of(root, crate):
     return hashlib.sha256(repr((line, texts)).encode()).hexdigest()
 
 
-def copied(crate, copy):
-    """Copies what checks of the crate read, without what they keep: rt itself takes that over from the tree."""
+def copied(copy):
+    """Copies what checks read, without what they keep: rt itself takes that over from the tree."""
     for name in ("crates.txt", "HANDLES"):
         if (ROOT / name).exists():
             shutil.copy(ROOT / name, copy)
-    for name in prove.rests_on(crate):
+    for name in prove.listed():
         for part in PARTS:
             if (ROOT / "crates" / name / part).exists():
                 shutil.copytree(ROOT / "crates" / name / part, copy / "crates" / name / part)
@@ -90,7 +90,7 @@ def make(crate, tries, kit, say):
     """Makes the checks of a crate in turn, in a copy of its own: each begins with what the one before it left."""
     with tempfile.TemporaryDirectory(prefix="yaffledesk-tries-") as room:
         copy = pathlib.Path(room)
-        copied(crate, copy)
+        copied(copy)
         for one in tries:
             key = one.key(kit, copy)
             said, is_verdict = one.run(copy)
