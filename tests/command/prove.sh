@@ -13,7 +13,8 @@ esac
 END
 chmod +x stand_in/rt
 
-# proves SAYS: tools/prove with the stand-in, for which a function of records is SAYS. The seconds that each takes are left out.
+# proves SAYS: tools/prove with the stand-in, for which a function of records is SAYS. The seconds that each takes are
+# left out.
 proves() {
     : >asked
     PATH=$PWD/stand_in:$PATH ASKED=$PWD/asked SAYS=$1 "$root/tools/prove" report >"$scratch/out" 2>"$scratch/err"
@@ -27,12 +28,13 @@ def all_of(name): return {name}.union(*map(all_of, [one for one in below[name] i
 print(len(all_of("report")))' "$root/crates.txt")
 begins="proving report and what it rests on, $crates crates; what has not changed is proved already"
 proves proved
-[ $status -eq 0 ] && holds "$scratch/out" "" && [ "$(wc -l <asked)" -eq "$crates" ] && [ "$(head -n 1 asked)" = "words lib" ] &&
-    [ "$(tail -n 1 asked)" = "report run" ] &&
-    holds "$scratch/err" "$begins"$'\n'"  words proved in N s (1 of $crates)"$'\n'"  records proved in N s (3 of $crates)"
+words="  words proved in N s (1 of $crates)" records="  records proved in N s (3 of $crates)"
+[ $status -eq 0 ] && holds "$scratch/out" "" && [ "$(wc -l <asked)" -eq "$crates" ] &&
+    [ "$(head -n 1 asked)" = "words lib" ] && [ "$(tail -n 1 asked)" = "report run" ] &&
+    holds "$scratch/err" "$begins"$'\n'"$words"$'\n'"$records"
 told "each crate that is proved is named, and one that is proved already is not"
 proves "not proved"
-[ $status -ne 0 ] && [ "$(head -n 2 "$scratch/err" | tail -n 1)" = "  words proved in N s (1 of $crates)" ] &&
+[ $status -ne 0 ] && [ "$(head -n 2 "$scratch/err" | tail -n 1)" = "$words" ] &&
     [ "$(tail -n 1 asked)" = "records lib" ] && grep -qx 'records is not proved' "$scratch/err" &&
     grep -qx 'fn records::put: not proved' "$scratch/err"
 told "where a proof fails, all that rt said of the crate follows, and no crate above it is tried"

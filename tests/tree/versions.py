@@ -13,7 +13,9 @@ ERROR = re.compile(r"^(?P<file>\S+\.antt):(?P<line>\d+):\d+: error: `(?P<law>[^`
 STATUS = re.compile(r"^(?:fn|struct|enum) (?P<name>[\w:+]+): (?P<said>.*)")
 CALLS = re.compile(r"it calls (?P<names>`.*`), which (?:is|are) not proved")
 # what is said before a function's state where a goal of it is false at values that the check has found
-FALSE = re.compile(r"^note: src/\S+: it is not proved that .*the facts known there allow values at which this goal is false")
+FALSE = re.compile(
+    r"^note: src/\S+: it is not proved that .*; the facts known there allow values at which this goal is false"
+)
 # the files of a function's proof
 PROOFS = ("Proof.antt", "Answers.antt", "Invariants.antt")
 # the field of a record that a line of a proof begins
@@ -60,7 +62,8 @@ def replacements(edit):
 
 
 def edited(crate, edit):
-    """The texts of the files that an edit changes, by their paths in the crate, and why it cannot be applied, or None."""
+    """The texts of the files that an edit changes, by their paths in the crate; and why it cannot be applied, or None.
+    """
     texts = {}
     for one in replacements(edit)[0]:
         if one.file not in texts and not (crate / str(one.file)).is_file():
