@@ -3,7 +3,7 @@
 -- Examples: small sheets, by computation.
 -- The proofs of the code go by: Columns (numbers in columns), LinesWritten (lines, piece by piece), ByStart (records
 -- by the starts of their receivers), BlockLengths (how many there are at a start), PageRecords (the records of a page,
--- page that is passed by value).
+-- found one after another).
 pub mod Columns
 pub mod LinesWritten
 pub mod ByStart
