@@ -15,7 +15,7 @@ import sys
 ROOT = pathlib.Path(__file__).resolve().parents[1]
 NAME = r"[^\s(){}.;,@\"«»]+"
 SIGNATURE = re.compile(
-    rf"(?m)^ *(?:(?:pub|abbrev|unfoldable|record|data|pattern|instance) )*({NAME})(?: [({{][^:\n]*[)}}])*(?: {NAME})* : "
+    rf"(?m)^ *(?:(?:pub|abbrev|unfoldable|record|data|pattern|instance) )*({NAME})(?: [({{][^:\n]*[)}}])*(?: {NAME})* :(?: |$)"
 )
 COMMENT = re.compile(r"(?m)(?:^|(?<=\s))--.*$")
 WORD = re.compile(r"[a-z][\w'₀-₉]*(?:-[\w'₀-₉]+)*")

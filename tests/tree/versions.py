@@ -204,4 +204,6 @@ def public(crate):
             names.append(f"{crate.name}::{holder}{got[1]}")
         elif got := re.match(r"pub use ([\w:]+);", line):
             names.append(f"{crate.name}::{got[1]}")
+        elif got := re.match(r"pub use ([\w:]+)::\{([\w, ]+)\};", line):
+            names += [f"{crate.name}::{got[1]}::{name.strip()}" for name in got[2].split(",")]
     return names

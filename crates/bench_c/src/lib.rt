@@ -4,7 +4,7 @@
 
 ghost use Rattle.std.specs.Prelude.{◌≡◌, ◌*◌, ◌%◌, ◌^◌, ◌≤◌, length};
 ghost use Rattle.order.specs.Before.{Acyclic};
-ghost use Rattle.order.specs.Stored.{elements, number_of as setNumber};
+ghost use Rattle.order.specs.Stored.{elements, number_of as set_number};
 ghost use Rattle.order.specs.Orders.{after_rows, Direct, order_in, joined_rows};
 ghost use Rattle.records.specs.Records.{starting_with};
 ghost use Rattle.crew_sheet.specs.Sheet.{page_bytes, pages_of, sheet_page, most_lines};
@@ -32,7 +32,7 @@ pub extern "C" fn yaffledesk_quote(
     set: &mut u64,
 ) -> u32
     requires { (m ≤ elements) × Clean m flow.old }
-    ensures { (result ≡ (quote_of m (order_in arcs.now) demand.now).need) × (set.new ≡ setNumber (quote_of m (order_in arcs.now) demand.now).set % 2 ^ 64) × (flow.new ≡ flow_of m (order_in arcs.now) demand.now) }
+    ensures { (result ≡ (quote_of m (order_in arcs.now) demand.now).need) × (set.new ≡ set_number (quote_of m (order_in arcs.now) demand.now).set % 2 ^ 64) × (flow.new ≡ flow_of m (order_in arcs.now) demand.now) }
 {
     let rows = *arcs;
     solver::clear(flow, m);
@@ -65,7 +65,7 @@ pub extern "C" fn yaffledesk_bench_weigh(
     set: &mut u64,
 ) -> u32
     requires { (m ≤ elements) × (ranks.now ≡ ranked m rows.now) × (flow.old ≡ unused) }
-    ensures { (result ≡ (quote_in m rows.now demand.now).need) × (set.new ≡ setNumber (quote_in m rows.now demand.now).set % 2 ^ 64) × (flow.new ≡ unused) }
+    ensures { (result ≡ (quote_in m rows.now demand.now).need) × (set.new ≡ set_number (quote_in m rows.now demand.now).set % 2 ^ 64) × (flow.new ≡ unused) }
 {
     let leads = solver::leads_of(rows, ranks, m);
     let w = solver::weigh_ranked(rows, ranks, leads, m, demand, flow);

@@ -108,10 +108,10 @@ module _ (s : List ℕ) (o : Opens s) (x : ℕ → ℕ) (same : (i : ℕ) → i 
   pub starts_largest : NoWaits s → (j : ℕ) → j < (plan_in s).count → LargestOr0 (FinishOf (λ i. Before (FileArc s) i j) x (file_duration s)) (x j)
   starts_largest none j h =
       let before = before_same (plan_arcs s readable) in
-      earliest.largest-same (sym (same j h)) (λ i. before i j)
+      earliest.largest_same (sym (same j h)) (λ i. before i j)
       (λ i b. finish i (before_within (plan_in s).count (arc_ends s readable) ((before i j).0 b)).0)
       (arrays.starts_largest (rows_of s) weight (at (plan_in s).duration) (λ i k. omega (arith, none i k)) (opens_plan s o) j (omega (arith, (said_in s readable).few)))
 
   -- THE END STARTS AT THE LARGEST FINISH OF ALL, OR AT 0
   pub end_largest : (e : ℕ) → e ≡ end_start s → LargestOr0 (FinishOf (λ i. i < (plan_in s).count) x (file_duration s)) e
-  end_largest e q = earliest.largest-same (sym q) (λ i. Iff.rfl) finish (earliest.end_largest (plan_in s).count (at (first_starts s)) (at (plan_in s).duration))
+  end_largest e q = earliest.largest_same (sym q) (λ i. Iff.rfl) finish (earliest.end_largest (plan_in s).count (at (first_starts s)) (at (plan_in s).duration))

@@ -157,15 +157,15 @@ pub read_as : (s : List ℕ) {r : Reading} {f : Fault} → r ≡ read_of s → f
 unfolding read_fault
 read_as s read e = rw (e, read, answered s)
 
-pub circles-as :
+pub circles_as :
     (before : Fault) (job whole : Order) {five f : Fault} {i j : ℕ} → i ≡ circle_of job → five ≡ or_cause before (ltb i elements) (JobCircle (i + 1))
     → j ≡ circle_of whole → f ≡ or_cause five (ltb j elements) (PlanCircle (j + 1)) → f ≡ or_circles before job whole
-circles-as before job whole a b c d = rw (d, c, b, a)
+circles_as before job whole a b c d = rw (d, c, b, a)
 
-pub ordered-as :
+pub ordered_as :
     (q : Plan) (before : Fault) {rows : List ℕ} {job whole : Order} {f : Fault} → rows ≡ joined_rows q.job q.extra → job ≡ order_in q.job
     → whole ≡ extended_by job q.extra → f ≡ or_circles before job whole → record { plan = q; rows = rows; job = job; order = whole; fault = f } ≡ ordered_of q before
-ordered-as q before joined j w e = rw (e, w, j, joined, order_begun q.job q.extra)
+ordered_as q before joined j w e = rw (e, w, j, joined, order_begun q.job q.extra)
 
 -- the plan that the code holds has no more activities than there are elements
 pub opened_few : (s : List ℕ) {o : Opened} → o ≡ opened_of s → o.plan.count ≤ elements

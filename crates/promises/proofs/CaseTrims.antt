@@ -128,7 +128,7 @@ unfolding digit bit first some count table row row_table cells number_of set_of 
 trim_cases =
     record {
       d_count = count_as all_opened.d d_rows 216;
-      d-left = left_as all_opened.d d_rows (replicate 216 9);
+      d_left = left_as all_opened.d d_rows (replicate 216 9);
       both_left = left_as all_opened.a_both both_rows (replicate 192 9);
       wait_left = left_as all_opened.w_job wait_rows (replicate 192 9);
       d_short = answer_as all_opened.d 215;

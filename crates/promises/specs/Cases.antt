@@ -158,15 +158,15 @@ pub record Cases (P : Planner) : Type 0 where
   pub a_short : output_numbers (P.starts.answer plan_a 4) ≡ 9 ∷ 5 ∷ []
   -- "Crew check: *A with its durations, starts 0, 1, 0, 3 fits; *starts 0, 1, 0, 2 breaks 2→4."; and cause 10
   pub a_fits : crew_check_numbers (P.crew_check plan_a (0 ∷ 1 ∷ 0 ∷ 3 ∷ []) (1 ∷ 2 ∷ 3 ∷ 1 ∷ [])) ≡ 0 ∷ []
-  pub a-breaks :
+  pub a_breaks :
       crew_check_numbers (P.crew_check plan_a (0 ∷ 1 ∷ 0 ∷ 2 ∷ []) (1 ∷ 2 ∷ 3 ∷ 1 ∷ [])) ≡ 254 ∷ 2 ∷ 4 ∷ []
   pub a_idle : crew_check_numbers (P.crew_check plan_a (0 ∷ 1 ∷ 0 ∷ 2 ∷ []) (1 ∷ 2 ∷ 0 ∷ 1 ∷ [])) ≡ 10 ∷ 4 ∷ []
   -- "*C, all starts 0, durations 1: period 1, kind 1.
   -- *C, starts 0, 0, 1, 1: durations 1 fit; *durations 2, 2, 1, 1: period 2."
-  pub c-at-once :
+  pub c_at_once :
       crew_check_numbers (P.crew_check plan_c (0 ∷ 0 ∷ 0 ∷ 0 ∷ []) (1 ∷ 1 ∷ 1 ∷ 1 ∷ [])) ≡ 255 ∷ 1 ∷ 1 ∷ []
   pub c_two_by_two : crew_check_numbers (P.crew_check plan_c (0 ∷ 0 ∷ 1 ∷ 1 ∷ []) (1 ∷ 1 ∷ 1 ∷ 1 ∷ [])) ≡ 0 ∷ []
-  pub c-longer :
+  pub c_longer :
       crew_check_numbers (P.crew_check plan_c (0 ∷ 0 ∷ 1 ∷ 1 ∷ []) (2 ∷ 2 ∷ 1 ∷ 1 ∷ [])) ≡ 255 ∷ 2 ∷ 1 ∷ []
   -- "one timetable by list durations: C passes .. with starts 0, 0, 2, 1" (01, False turns),
   -- and its need is 8, as above
@@ -184,9 +184,9 @@ pub record Cases (P : Planner) : Type 0 where
   -- as does a worked 0 on another activity
   pub h_fits :
       crew_check_numbers (P.crew_check plan_h (0 ∷ 0 ∷ 2 ∷ 2 ∷ 2 ∷ []) (1 ∷ 2 ∷ 0 ∷ 3 ∷ 1 ∷ [])) ≡ 0 ∷ []
-  pub h-worked :
+  pub h_worked :
       crew_check_numbers (P.crew_check plan_h (0 ∷ 0 ∷ 2 ∷ 3 ∷ 3 ∷ []) (1 ∷ 2 ∷ 1 ∷ 3 ∷ 1 ∷ [])) ≡ 10 ∷ 5 ∷ []
-  pub h-idle :
+  pub h_idle :
       crew_check_numbers (P.crew_check plan_h (0 ∷ 0 ∷ 2 ∷ 2 ∷ 2 ∷ []) (1 ∷ 0 ∷ 0 ∷ 3 ∷ 1 ∷ [])) ≡ 10 ∷ 5 ∷ []
   -- "A pair repeated within the same type is now refused. The same pair as a job arc and an extra arc is
   -- still fine." (02, change 3)
@@ -204,12 +204,12 @@ pub record Cases (P : Planner) : Type 0 where
   pub w_need : P.needs.left plan_a_wait (9 ∷ []) ≡ 4 ∷ []
   pub w_starts : P.starts.left plan_a_wait (9 ∷ 9 ∷ 9 ∷ 9 ∷ 9 ∷ 9 ∷ []) ≡ 0 ∷ 4 ∷ 0 ∷ 6 ∷ 7 ∷ 9 ∷ []
   pub w_fits : crew_check_numbers (P.crew_check plan_a_wait (0 ∷ 4 ∷ 0 ∷ 6 ∷ []) (1 ∷ 2 ∷ 3 ∷ 1 ∷ [])) ≡ 0 ∷ []
-  pub w-breaks :
+  pub w_breaks :
       crew_check_numbers (P.crew_check plan_a_wait (0 ∷ 3 ∷ 0 ∷ 6 ∷ []) (1 ∷ 2 ∷ 3 ∷ 1 ∷ [])) ≡ 254 ∷ 1 ∷ 2 ∷ []
   -- "Where a job arc and an extra arc share a pair, both waits bind."
   pub w_job_starts : P.starts.left plan_a_job_waits (9 ∷ 9 ∷ 9 ∷ 9 ∷ 9 ∷ []) ≡ 0 ∷ 257 ∷ 0 ∷ 259 ∷ 260 ∷ []
   pub w_extra_starts : P.starts.left plan_a_extra_waits (9 ∷ 9 ∷ 9 ∷ 9 ∷ 9 ∷ []) ≡ 0 ∷ 257 ∷ 0 ∷ 259 ∷ 260 ∷ []
-  pub w-extra-breaks :
+  pub w_extra_breaks :
       crew_check_numbers (P.crew_check plan_a_extra_waits (0 ∷ 256 ∷ 0 ∷ 259 ∷ []) (1 ∷ 2 ∷ 3 ∷ 1 ∷ []))
       ≡ 254 ∷ 1 ∷ 2 ∷ []
   -- "so 4 covers the other spare bytes only"; and another wait makes no other pair, so that 13 is given
@@ -229,7 +229,7 @@ pub record TrimCases (T : Writing) : Type 0 where
   -- of D 1 to 3 goes, being the first; then 1 to 4 and 2 to 3 have to stay, and 2 to 4 goes too: 7 records
   -- are left, and the 48 bytes behind them are as they were
   pub d_count : output_numbers (T.answer plan_d 216) ≡ 0 ∷ 7 ∷ []
-  pub d-left :
+  pub d_left :
       T.left plan_d (replicate 216 9) ≡ plan_c ++ (arc_bytes 4 1 4 ++ (arc_bytes 4 2 3 ++ replicate 48 9))
   -- A with its first arc as a job arc too: the extra arc goes
   pub both_left :

@@ -56,9 +56,9 @@ module _ (g : Network) (s : Schedule) where
       }
 
 -- the code's test of one arc, with the finish of i at hand
-pub breaks-by :
+pub breaks_by :
     (R W S D : List ℕ) (i j f : ℕ) {b : Bool} → f ≡ at S i + at D i → b ≡ (after R i j && ltb (at S j) (f + at W (elements * j + i)))
     → breaks (crew_net R (with_waits D W) S) (at S) i j ≡ b
-breaks-by R W S D i j f e r =
+breaks_by R W S D i j f e r =
     let late : at S i + (at D i + at W (elements * j + i)) ≡ f + at W (elements * j + i) = omega arith in
     ap (λ (x : ℕ). after R i j && ltb (at S j) x) late ∙ sym r

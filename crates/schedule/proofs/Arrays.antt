@@ -15,7 +15,7 @@ use Rattle.schedule.specs.Network.{Schedule, Keeps}
 use Rattle.schedule.specs.Starts.{earliest_of}
 use Rattle.schedule.specs.Lists.{LargestOr0, FinishOf, at}
 use Rattle.schedule.specs.model.Arrays.{net_of, with_waits, starts_of, AllAtMost, FinishesFit}
-use Rattle.schedule.proofs.Starts.{earliest_least, earliest_bound, earliest_keeps, earliest-largest, largest-same}
+use Rattle.schedule.proofs.Starts.{earliest_least, earliest_bound, earliest_keeps, earliest_largest, largest_same}
 use Rattle.schedule.proofs.Ranks.{ranked}
 use Rattle.order.specs.Stored.{elements}
 
@@ -64,6 +64,6 @@ pub starts_largest :
     (rows : List ℕ) (weight : ℕ → ℕ → ℕ) (d : ℕ → ℕ) → ((i j : ℕ) → weight i j ≡ d i) → Acyclic (Direct rows) → (j : ℕ) → j < elements
     → LargestOr0 (FinishOf (λ i. Before (Direct rows) i j) (at (starts_of rows weight)) d) (at (starts_of rows weight) j)
 starts_largest rows weight d alone free j l =
-    largest-same (sym (starts_at_lem rows weight j l)) (λ i. Iff.rfl)
+    largest_same (sym (starts_at_lem rows weight j l)) (λ i. Iff.rfl)
     (λ i b. omega (arith, starts_at_lem rows weight i (before_within elements (drawn_within elements (after rows)) b).0))
-    (earliest-largest (net_of rows weight) d (ranked rows weight free) alone j l)
+    (earliest_largest (net_of rows weight) d (ranked rows weight free) alone j l)

@@ -181,11 +181,11 @@ module _ (rows : List ℕ) (weight : ℕ → ℕ → ℕ) where
         a i j,
       )
 
-  level-ready :
+  level_ready :
       (R : Ranked (net_of rows weight)) (done i : ℕ) → i < elements → bit (ready_of rows done) i ≡ true
       → at (placed (net_of rows weight) (at (starts_by (net_of rows weight) done)) (starts_by (net_of rows weight) done) (ready_of rows done)) i
       ≡ cond (bit (bit_or done (ready_of rows done)) i) (earliest_of (net_of rows weight) i) 0
-  level-ready R done i l e =
+  level_ready R done i l e =
       let g = net_of rows weight in
       let s = starts_by g done in
       let d = (ready_says rows done i l).0 e in
@@ -194,11 +194,11 @@ module _ (rows : List ℕ) (weight : ℕ → ℕ → ℕ) where
       ∙ sym (earliest_fixed g R i l)
       ∙ sym (cond_true (earliest_of g i) 0 (bit_or_lem done (ready_of rows done) i ∙ or_right (bit done i) _ e))
 
-  level-not :
+  level_not :
       (done i : ℕ) → i < elements → bit (ready_of rows done) i ≡ false
       → at (placed (net_of rows weight) (at (starts_by (net_of rows weight) done)) (starts_by (net_of rows weight) done) (ready_of rows done)) i
       ≡ cond (bit (bit_or done (ready_of rows done)) i) (earliest_of (net_of rows weight) i) 0
-  level-not done i l e =
+  level_not done i l e =
       let g = net_of rows weight in
       placed_not g (at (starts_by g done)) i (starts_by g done) (ready_of rows done) e
       ∙ by_at g done i l
@@ -214,7 +214,7 @@ module _ (rows : List ℕ) (weight : ℕ → ℕ → ℕ) where
       let s = starts_by g done in
       let w = ready_of rows done in
       is_table elements (λ i. cond (bit (bit_or done w) i) (earliest_of g i) 0) (placed g (at s) s w) 0 (placed_long g (at s) s w ∙ by_long g done)
-      λ i l. by_test (bit w i) (level-ready R done i l) (level-not done i l)
+      λ i l. by_test (bit w i) (level_ready R done i l) (level_not done i l)
 
   -- A LEVEL GIVES THE READY ELEMENTS THEIR EARLIEST STARTS
   pub by_level :

@@ -109,24 +109,24 @@ module _ (c : Work) where
       go (yes l) = none_after t l
       go (no m) = none_before t (omega arith)
 
-  by-period :
+  by_period :
       {P : Type 0} → (quiet c < last_finish c → first_period c ≡ suc (quiet c) → P) → (last_finish c ≤ quiet c → first_period c ≡ 0 → P) → P
   unfolding first_period
-  by-period some none =
+  by_period some none =
       by_test (ltb (quiet c) (last_finish c))
       (λ y. some (ltb-true (quiet c) (last_finish c) y) (cond_true (suc (quiet c)) 0 y))
       (λ n. none (ltb-false (quiet c) (last_finish c) n) (cond_false (suc (quiet c)) 0 n))
 
   -- THE LAW OF THE FIRST PERIOD: 0 where no period is overloaded, and else overloaded itself with none before it
   pub period_none : first_period c ≡ 0 → (t : ℕ) → overloaded c t ≡ false
-  period_none e = by-period (λ l p. absurd (omega arith)) (λ l z. none_at_all l)
+  period_none e = by_period (λ l p. absurd (omega arith)) (λ l z. none_at_all l)
 
   pub period_over : 0 < first_period c → overloaded c (first_period c) ≡ true
   period_over h =
-      by-period (λ l p. subst (λ (x : ℕ). overloaded c x ≡ true) (sym p) (quiet_first.found l)) (λ l z. absurd (omega arith))
+      by_period (λ l p. subst (λ (x : ℕ). overloaded c x ≡ true) (sym p) (quiet_first.found l)) (λ l z. absurd (omega arith))
 
   pub period_first : (t : ℕ) → t < first_period c → overloaded c t ≡ false
-  period_first t h = by-period (λ l p. none_before t (omega arith)) (λ l z. absurd (omega arith))
+  period_first t h = by_period (λ l p. none_before t (omega arith)) (λ l z. absurd (omega arith))
 
   -- IT FOLLOWS A START, so a bound on the starts bounds it
   pub period_follows : 0 < first_period c → (i : ℕ) × (i < c.count) × (first_period c ≡ suc (c.start i))

@@ -91,10 +91,10 @@ module _ (g : Network) where
     earliest_keeps i j a = omega (arith, asked_at (earliest_of g) i j a, earliest_fixed j a.to)
 
 -- the largest finish of the same elements, by other names of their starts and durations
-pub largest-same :
+pub largest_same :
     {P Q : ℕ → Type 0} {s t d e : ℕ → ℕ} {x y : ℕ} → x ≡ y → ((i : ℕ) → P i ↔ Q i) → ((i : ℕ) → P i → s i + d i ≡ t i + e i)
     → LargestOr0 (FinishOf P s d) x → LargestOr0 (FinishOf Q t e) y
-largest-same {P} {Q} {s} {t} {d} {e} {x} {y} q same finish L =
+largest_same {P} {Q} {s} {t} {d} {e} {x} {y} q same finish L =
     record {
       upper = λ z F.
           let p = (same F.element).1 F.picked in
@@ -103,10 +103,10 @@ largest-same {P} {Q} {s} {t} {d} {e} {x} {y} q same finish L =
     }
 
 -- THE START IS THE LARGEST FINISH OF THOSE BEFORE IT IN THE ORDER, OR 0, where each weight is the duration alone
-pub earliest-largest :
+pub earliest_largest :
     (g : Network) (d : ℕ → ℕ) → Ranked g → ((i j : ℕ) → g.weight i j ≡ d i)
     → (j : ℕ) → j < g.elements → LargestOr0 (FinishOf (λ i. Before (Arc g) i j) (earliest_of g) d) (earliest_of g j)
-earliest-largest g d R w j hj =
+earliest_largest g d R w j hj =
     record {
       upper = λ y F.
           omega (arith, kept_before (earliest_of g) d g.weight (λ i k a. omega (arith, w i k)) (earliest_keeps g R) F.element j F.picked, F.finish);

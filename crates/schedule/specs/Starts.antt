@@ -18,7 +18,7 @@ rounds (suc r) g j = asked g (rounds r g) j
 -- "Every schedule that keeps the arcs with the file's durations starts each no earlier": `earliest_least` of
 -- proofs/Starts.antt; and they keep the arcs: `earliest_keeps`. So they are "the least that keep all arcs"
 -- (02, change 5). Where no arc has a wait, "An activity starts at the largest finish (start plus duration) of
--- those before it, or at 0": `earliest-largest`.
+-- those before it, or at 0": `earliest_largest`.
 unfoldable pub earliest_of : Network → Schedule
 earliest_of g j = rounds g.elements g j
 

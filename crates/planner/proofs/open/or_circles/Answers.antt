@@ -1,7 +1,7 @@
 -- `planner::open::or_circles` meets its contract, from the two circles.
 use native.Mathlib.Omega.{arith}
 use Rattle.order.proofs.Orders.{circle_le}
-use Rattle.planner.proofs.OpenLaws.{circles-as}
+use Rattle.planner.proofs.OpenLaws.{circles_as}
 use Rattle.planner.proofs.open.or_circles.Goals as goal
 
 pub overflow_add-i : goal.overflow_add-i
@@ -13,4 +13,4 @@ overflow_add-j c = record { fits = omega (arith, c.circle-j.ensures, circle_le c
 pub returns : goal.returns
 returns c =
     let a = c.args in
-    circles-as a.fault a.job a.whole c.circle-i.ensures c.or_cause-five.ensures c.circle-j.ensures c.or_cause.ensures
+    circles_as a.fault a.job a.whole c.circle-i.ensures c.or_cause-five.ensures c.circle-j.ensures c.or_cause.ensures

@@ -13,7 +13,7 @@ use Rattle.words.proofs.Firsts.{first_stop, first_end}
 use Rattle.schedule.specs.Checks.{breaks, broken_to}
 use Rattle.schedule.specs.model.Arrays.{crew_net, with_waits}
 use Rattle.schedule.specs.Lists.{at}
-use Rattle.schedule.proofs.Arcs.{breaks-by}
+use Rattle.schedule.proofs.Arcs.{breaks_by}
 use Rattle.schedule.proofs.crew.broken_to.Goals as goal
 
 pub loop-j-init : goal.loop-j-init
@@ -28,7 +28,7 @@ returns-then-breaks_at c =
     let S = s.starts.now in
     let D = s.worked.now in
     let f = c.breaks_at.ensures ∙ ap (λ (w : ℕ). bit w c.loop-j.j && ltb (at S c.loop-j.j) (c.wide.result + c.wide-2.result + at W (elements * c.loop-j.j + s.i))) (number_of_lem _ c.row-row.ensures) in
-    let e = breaks-by R W S D s.i c.loop-j.j _ c.loop-j.invariant.1 f in
+    let e = breaks_by R W S D s.i c.loop-j.j _ c.loop-j.invariant.1 f in
     first_stop (length S) (breaks (crew_net R (with_waits D W) S) (at S) s.i) c.loop-j.j c.loop-j.invariant.2 (omega arith) (e ∙ c.if-breaks_at.true)
 
 pub loop-j-preserved : goal.loop-j-preserved
@@ -39,7 +39,7 @@ loop-j-preserved c =
     let S = s.starts.now in
     let D = s.worked.now in
     let f = c.breaks_at.ensures ∙ ap (λ (w : ℕ). bit w c.loop-j.j && ltb (at S c.loop-j.j) (c.wide.result + c.wide-2.result + at W (elements * c.loop-j.j + s.i))) (number_of_lem _ c.row-row.ensures) in
-    let e = breaks-by R W S D s.i c.loop-j.j _ c.loop-j.invariant.1 f in
+    let e = breaks_by R W S D s.i c.loop-j.j _ c.loop-j.invariant.1 f in
     (omega arith, c.loop-j.invariant.1, below_more (λ k. breaks (crew_net R (with_waits D W) S) (at S) s.i k ≡ false) c.loop-j.j c.loop-j.invariant.2 (e ∙ c.if-breaks_at.false))
 
 pub returns : goal.returns

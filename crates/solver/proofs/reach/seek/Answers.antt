@@ -11,16 +11,16 @@ use Rattle.solver.proofs.Steps.{begins}
 use Rattle.solver.proofs.reach.seek.Goals as goal
 
 -- the search begins with the roots alone
-from-roots : {begin : ℕ} (rows givers : List ℕ) (slack : ℕ) (lefts rights : List ℕ) (able roots : ℕ) → begin ≡ bit_and roots able
+from_roots : {begin : ℕ} (rows givers : List ℕ) (slack : ℕ) (lefts rights : List ℕ) (able roots : ℕ) → begin ≡ bit_and roots able
     → reach elements rows givers slack (reached (record { frontier = begin; next = number_of no_set; left = roots; right = number_of no_set; at = elements }) lefts rights)
     ≡ reach elements rows givers slack (reached (begun able roots) lefts rights)
-from-roots rows givers slack lefts rights able roots e = ap (λ (x : Look). reach elements rows givers slack (reached x lefts rights)) (begins able roots number_none e)
+from_roots rows givers slack lefts rights able roots e = ap (λ (x : Look). reach elements rows givers slack (reached x lefts rights)) (begins able roots number_none e)
 
 pub returns-then-is_empty : goal.returns-then-is_empty
 returns-then-is_empty c =
     run_stop _ _ _ _ elements _ _ c.loop-k-test.true (sym c.is_empty.ensures.0 ∙ c.if-is_empty.true) c.loop-k.invariant
     ∙ (let a = c.args in
-    from-roots a.rows.now a.givers.now (number_of a.slack) a.lefts.now a.rights.now (number_of a.able) (number_of a.roots)
+    from_roots a.rows.now a.givers.now (number_of a.slack) a.lefts.now a.rights.now (number_of a.able) (number_of a.roots)
     (number_of_lem _ c.meet-begin.ensures))
 
 pub turn-s-requires : goal.turn-s-requires
@@ -36,5 +36,5 @@ pub returns : goal.returns
 returns c =
     let a = c.args in
     run_end _ _ _ _ elements _ _ c.loop-k-test.false c.loop-k.invariant
-    ∙ from-roots a.rows.now a.givers.now (number_of a.slack) a.lefts.now a.rights.now (number_of a.able) (number_of a.roots)
+    ∙ from_roots a.rows.now a.givers.now (number_of a.slack) a.lefts.now a.rights.now (number_of a.able) (number_of a.roots)
     (number_of_lem _ c.meet-begin.ensures)
