@@ -12,10 +12,6 @@ UNFIT = re.compile(
 ERROR = re.compile(r"^(?P<file>\S+\.antt):(?P<line>\d+):\d+: error: `(?P<law>[^`]+)`: (?P<said>.*)")
 STATUS = re.compile(r"^(?:fn|struct|enum) (?P<name>[\w:+]+): (?P<said>.*)")
 CALLS = re.compile(r"it calls (?P<names>`.*`), which (?:is|are) not proved")
-# what is said before a function's state where a goal of it is false at values that the check has found
-FALSE = re.compile(
-    r"^note: src/\S+: it is not proved that .*; the facts known there allow values at which this goal is false"
-)
 # the files of a function's proof
 PROOFS = ("Proof.antt", "Answers.antt", "Invariants.antt")
 # the field of a record that a line of a proof begins
@@ -101,24 +97,19 @@ def field_at(lines):
 
 
 class Log:
-    """What the check of a wrong version said: the errors that are a law's own, by law and by field, the state of each
-    function, and which have a goal that is false. `texts` are the files that the version changes."""
+    """What the check of a wrong version said: the errors that are a law's own, by law and by field, and the state of each
+    function. `texts` are the files that the version changes."""
 
     def __init__(self, log, crate, texts):
-        self.own, self.unfit, self.states, self.false = {}, {}, {}, set()
+        self.own, self.unfit, self.states = {}, {}, {}
         self.crate, self.texts = crate, texts
-        lines, false = log.splitlines(), False
+        lines = log.splitlines()
         for line, after in zip(lines, lines[1:] + [""]):
             if error := ERROR.match(line):
                 # a long name breaks the line: what is said of it stands on the next one
                 self.error(error, error["said"] + (after if after.startswith("  has no ") else ""))
-            elif FALSE.match(line):
-                false = True
             elif status := STATUS.match(line):
                 self.states[status["name"]] = status["said"]
-                if false:
-                    self.false.add(status["name"])
-                false = False
 
     def error(self, error, said):
         """An error counts for the function whose proof it stands in, or else for the law, and for the law's field."""
@@ -144,8 +135,6 @@ class Log:
             return "it is still proved"
         if got := CALLS.search(said):
             return f"it hides behind {got['names']}, not proved either"
-        if name in self.false:
-            return None
         inner = name.split("::", 1)[1]
         if inner in self.unfit:
             return f"its proof only stopped fitting: {self.unfit[inner]}"
