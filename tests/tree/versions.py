@@ -97,8 +97,8 @@ def field_at(lines):
 
 
 class Log:
-    """What the check of a wrong version said: the errors that are a law's own, by law and by field, and the state of each
-    function. `texts` are the files that the version changes."""
+    """What the check of a wrong version said: the errors that are a law's own, by law and by field, and the state of
+    each function. `texts` are the files that the version changes."""
 
     def __init__(self, log, crate, texts):
         self.own, self.unfit, self.states = {}, {}, {}
