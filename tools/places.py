@@ -107,7 +107,7 @@ def pairs(name, head):
 
 
 def travellers(heads):
-    """Point 5: facts in the contracts of three or more functions of a crate, and parameters that go together in them."""
+    """Point 5: facts in the contracts of three or more functions of a crate, and parameters that go together there."""
     facts, triples, together = defaultdict(list), defaultdict(list), defaultdict(set)
     for crate, name, head in heads:
         flat = re.sub(r"\s+", " ", head)

@@ -10,6 +10,8 @@ WORD = re.compile(r"\[\]|==|[^\s(){}\[\],;:=`⌜⌝]+")
 USE = re.compile(
     r"^(?:ghost )?use (?P<module>[^\s{;]+?)(?:\.\{(?P<names>[^}]*)\}| as (?P<alias>[^\s;]+))?;?$", re.M
 )
+# the lemmas that an attribute of a function names, `crate` for those of its own crate
+USING = re.compile(r"\busing\(([\w:, ]+)\)")
 LAW = re.compile(
     r"(?:(?:abbrev|unfoldable) )?(?:pub )?"
     r"(?:(?:record|data) (?P<type>[^\s(){}]+)|(?P<name>[^\s(){}]+)(?: \{[^}]*\})* :(?: |$))"
@@ -68,6 +70,11 @@ class File:
     def cites(self):
         """What the code cites of other files: pairs of a module and a name of it."""
         found = {(module, name) for module, name, here in self.names if self.says(here)}
+        for lemma in ",".join(USING.findall("\n".join(self.lines))).split(","):
+            crate, _, rest = lemma.strip().partition("::")
+            crate = self.path.parts[self.path.parts.index("crates") + 1] if crate == "crate" else crate
+            *names, law = rest.split("::")
+            found.add((".".join(["Rattle", crate, *names]), law))
         known = {here: module for module, here in self.modules}
         for word in self.words:
             here, _, name = word.rpartition(".")

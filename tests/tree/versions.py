@@ -11,6 +11,8 @@ UNFIT = re.compile(
 )
 ERROR = re.compile(r"^(?P<file>\S+\.antt):(?P<line>\d+):\d+: error: `(?P<law>[^`]+)`: (?P<said>.*)")
 STATUS = re.compile(r"^(?:fn|struct|enum) (?P<name>[\w:+]+): (?P<said>.*)")
+# what is said of a proved method that calls a closure
+CALLERS = "proved where its callers give what it asks"
 CALLS = re.compile(r"it calls (?P<names>`.*`), which (?:is|are) not proved")
 # the files of a function's proof
 PROOFS = ("Proof.antt", "Answers.antt", "Invariants.antt")
@@ -109,7 +111,8 @@ class Log:
                 # a long name breaks the line: what is said of it stands on the next one
                 self.error(error, error["said"] + (after if after.startswith("  has no ") else ""))
             elif status := STATUS.match(line):
-                self.states[status["name"]] = status["said"]
+                said = status["said"]
+                self.states[status["name"]] = "proved" if said == CALLERS else said
 
     def error(self, error, said):
         """An error counts for the function whose proof it stands in, or else for the law, and for the law's field."""

@@ -18,7 +18,9 @@ ghost use Rattle.solver.specs.model.Solve.{ranked};
 ghost use Rattle.solver.specs.model.Quote.{unused, Clean, quote_in, quote_of, flow_of};
 
 use order::{ELEMENTS, Order, Rows};
+use plan::Plan;
 use schedule::Checked;
+use solver::Ranking;
 
 // The need of the order of arcs, from i to each member of row i, with a demand for each of the m first
 // elements; the set that has it, and the handover. The rows of `flow` from m on come in at 0; what stands in
@@ -34,13 +36,10 @@ pub extern "C" fn yaffledesk_quote(
     requires { (m ≤ elements) × Clean m flow.old }
     ensures { (result ≡ (quote_of m (order_in arcs.now) demand.now).need) × (set.new ≡ set_number (quote_of m (order_in arcs.now) demand.now).set % 2 ^ 64) × (flow.new ≡ flow_of m (order_in arcs.now) demand.now) }
 {
-    let rows = *arcs;
     solver::clear(flow, m);
-    let q = solver::quote(Order::of(rows), m, demand, flow);
-    let shown = q.set;
-    let word = shown.first_word();
-    *set = word;
-    q.need
+    let quoted = solver::quote(Order::of(*arcs), m, demand, flow);
+    *set = quoted.set.first_word();
+    quoted.need
 }
 
 // The ranking of an order, which is closed: for all kinds of a plan the same.
@@ -49,8 +48,7 @@ pub extern "C" fn yaffledesk_bench_ranks(rows: &Rows, m: usize, ranks: &mut Rows
     requires { m ≤ elements }
     ensures { ranks.new ≡ ranked m rows.now }
 {
-    let r = solver::ranks(rows, m);
-    *ranks = r;
+    *ranks = solver::ranks(rows, m);
 }
 
 // The need of one kind, by the closed order and its ranking, and the set that has it. `flow`
@@ -67,12 +65,9 @@ pub extern "C" fn yaffledesk_bench_weigh(
     requires { (m ≤ elements) × (ranks.now ≡ ranked m rows.now) × (flow.old ≡ unused) }
     ensures { (result ≡ (quote_in m rows.now demand.now).need) × (set.new ≡ set_number (quote_in m rows.now demand.now).set % 2 ^ 64) × (flow.new ≡ unused) }
 {
-    let leads = solver::leads_of(rows, ranks, m);
-    let w = solver::weigh_ranked(rows, ranks, leads, m, demand, flow);
-    let heaviest = w.set;
-    let bits = heaviest.first_word();
-    *set = bits;
-    w.need
+    let weighed = Ranking::of(rows, ranks, m).weigh(demand, flow);
+    *set = weighed.set.first_word();
+    weighed.need
 }
 
 // Reads a plan file: how many activities it has, with their durations, demands and arcs.
@@ -86,17 +81,15 @@ pub extern "C" fn yaffledesk_bench_read(
 ) -> usize
     ensures { (result ≡ (read_of s.now).plan.count) × (duration.new ≡ (read_of s.now).plan.duration) × (demand.new ≡ (read_of s.now).plan.demand) × (job.new ≡ (read_of s.now).plan.job) × (extra.new ≡ (read_of s.now).plan.extra) }
 {
-    let r = plan::read(s);
-    let q = r.plan;
-    let durations = q.duration;
-    *duration = durations;
-    let demands = q.demand;
-    *demand = demands;
-    let jobs = q.job;
-    *job = jobs;
-    let extras = q.extra;
-    *extra = extras;
-    q.count
+    let plan = match plan::read(s) {
+        Ok(plan) => plan,
+        Err(_) => Plan::empty(),
+    };
+    duration.copy_from_slice(&plan.duration);
+    demand.copy_from_slice(&plan.demand);
+    job.copy_from_slice(&plan.job);
+    extra.copy_from_slice(&plan.extra);
+    plan.count
 }
 
 // The waits of a readable file's arcs: that of the arc from i to j stands at ELEMENTS * j + i.
@@ -105,8 +98,7 @@ pub extern "C" fn yaffledesk_bench_waits(s: &[u8], waits: &mut [u32; ELEMENTS * 
     requires { Readable s.now }
     ensures { waits.new ≡ wait_table s.now }
 {
-    let blank = [0u32; ELEMENTS * ELEMENTS];
-    *waits = blank;
+    *waits = [0; ELEMENTS * ELEMENTS];
     plan::store_waits(s, waits);
 }
 
@@ -115,13 +107,9 @@ pub extern "C" fn yaffledesk_bench_waits(s: &[u8], waits: &mut [u32; ELEMENTS * 
 pub extern "C" fn yaffledesk_bench_orders(job: &Rows, extra: &Rows, jobs: &mut Rows, all: &mut Rows)
     ensures { (jobs.new ≡ after_rows (order_in job.now)) × (all.new ≡ after_rows (order_in (joined_rows job.now extra.now))) }
 {
-    let a = *job;
-    let b = *extra;
-    let first = Order::of(a);
-    let j = first.after_rows();
-    *jobs = j;
-    let p = first.with_arcs(b).after_rows();
-    *all = p;
+    let first = Order::of(*job);
+    *jobs = first.after_rows();
+    *all = first.with_arcs(*extra).after_rows();
 }
 
 // The earliest starts over arcs without a circle, with durations and waits of at most 65,535. The wait on the arc from
@@ -136,8 +124,7 @@ pub extern "C" fn yaffledesk_bench_earliest(
     requires { Acyclic (Direct arcs.now) × AllAtMost 65535 duration.now × AllAtMost 65535 waits.now }
     ensures { starts.new ≡ starts_of arcs.now (with_waits duration.now waits.now) }
 {
-    let s = schedule::earliest(arcs, duration, waits);
-    *starts = s;
+    *starts = schedule::earliest(arcs, duration, waits);
 }
 
 // The crew check of at most ELEMENTS starts and as many durations: 0 fits, 1 a broken arc, 2 an overload.
@@ -156,13 +143,14 @@ pub extern "C" fn yaffledesk_bench_crew_check(
     number(schedule::crew_check(arcs, waits, demand, available, starts, worked))
 }
 
+// The number of an answer. (No `From`: neither type is of this crate.)
 fn number(c: Checked) -> u64
     ensures { result ≡ number_of c }
 {
     match c {
         Checked::Fits => 0,
-        Checked::Broken { from: _, to: _ } => 1,
-        Checked::Overload { period: _, kind: _ } => 2,
+        Checked::Broken { .. } => 1,
+        Checked::Overload { .. } => 2,
     }
 }
 

@@ -6,7 +6,7 @@ use native.Mathlib.Omega.{arith}
 use native.Mathlib.Nat.{add-zero, add-suc, sub_self, div-one, pow-le-pow_right, div-lt_iff_lt-mul, le-div_iff_mul-le}
 use lib.Dec.{ltb}
 use lib.ListN.{length, get_or, set, take, drop, replicate, length-append, length-drop, length-replicate, get_or-replicate, get_or-append, take-append-drop}
-use lib.Seq.{length-take-le, get_or-drop, get_or-append-add, drop-length}
+use lib.Seq.{get_or-drop, get_or-append-add, drop-length}
 use borrow.Author.Tests.{ltb-true, ltb-false, eq-eqb, ne_eqb}
 use Rattle.words.proofs.Tests.{by_test}
 use Rattle.lines.specs.Text.{text, more, places, decimal}
@@ -117,12 +117,6 @@ module _ {at w x : ℕ} {old : List ℕ} where
       }
 
   module _ {i rest : ℕ} {out : List ℕ} (s : Aligning at w x old i rest out) (fits : at + w ≤ length old) where
-    pub aligning_length : length out ≡ length old
-    aligning_length =
-        ap length s.done
-        ∙ rw (length-append, length-append, length-take-le (at + i) old (omega (arith, s.some)))
-        (omega (arith, s.some, length-drop i (column w x), length-drop (at + w) old, length_column w x))
-
     pub aligning_next : x < 10 ^ 20 → 0 < i → {f : ℕ} → f ≡ figure_of rest (w - i)
         → Aligning at w x old (i - 1) (rest / 10) (set out (at + (i - 1)) f)
     aligning_next small h {f} q =

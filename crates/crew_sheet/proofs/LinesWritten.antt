@@ -1,11 +1,11 @@
 -- Lines that are written piece by piece, and how long they are.
 use mathlib.Core.Path.{◌≡◌, refl, ap, ◌∙◌}
-use mathlib.Core.List.{List, [], ◌∷◌, ◌++◌}
+use mathlib.Core.List.{List, ◌++◌}
 use Prim.Native.Nat.{ℕ, ◌+◌, ◌≤◌}
 use native.Mathlib.Omega.{arith}
-use lib.ListN.{length, set, replicate, length-append, length-replicate}
+use lib.ListN.{length, replicate, length-append, length-replicate}
 use Rattle.lines.specs.Text.{Text, text, more}
-use Rattle.lines.proofs.Texts.{more_more, more_one, grown, grown_by}
+use Rattle.lines.proofs.Texts.{more_more, grown, grown_by}
 use Rattle.crew_sheet.specs.Sheet.{column, cell, row_line, blank_line, head_line}
 use Rattle.crew_sheet.proofs.Columns.{length_column}
 
@@ -31,10 +31,6 @@ module _ {at : ℕ} {old : List ℕ} {n : ℕ} {l : List ℕ} {e : ℕ} {o : Lis
   -- there is room for k more
   pub grown_room : (k : ℕ) → at + (n + k) ≤ length old → e + k ≤ length o
   grown_room k h = omega (arith, grown_end, grown_length (omega arith))
-
-  -- one byte more
-  pub grown_one : (b : ℕ) → at + (n + 1) ≤ length old → Grown at old (n + 1) (l ++ (b ∷ [])) (e + 1) (set o e b)
-  grown_one b h = grown_more (record { done = more_one e b o (omega (arith, grown_end, grown_length (omega arith))); long = refl }) h
 
 -- ---- cells and lines
 

@@ -5,23 +5,27 @@ ghost use Rattle.crew_sheet.specs.Sheet.{line_bytes, page_records, record_line, 
 ghost use Rattle.crew_sheet.specs.Underway.{onto};
 
 use crate::RECORDS;
-use crate::field::{four, wide};
-use crate::order::{page_rows, start_of};
+use crate::handovers::Handovers;
+use crate::order::page_rows;
 use crate::text::{put_blank, put_row};
+use lines::Draft;
 
-// Writes the line of record i of n, a blank one where there is no such record.
-fn put_record(out: &mut [u8], at: usize, flow: &[u8], n: usize, starts: &[u32], i: usize) -> usize
-    requires { (n ≤ most_lines) × (24 * n ≤ length flow.now) × (at + line_bytes ≤ length out.old) }
-    ensures { text result out.new ≡ more (text at out.old) (record_line flow.now starts.now n i) }
+// Writes the line of record i, a blank one where there is no such record.
+fn put_record(page: &mut Draft, flow: &Handovers, i: usize)
+    requires { page.old.at + line_bytes ≤ length page.old.out.now }
+    ensures same_reference { page.new.out.ghost_name ≡ page.old.out.ghost_name }
+    ensures written { text page.new.at page.new.out.now
+        ≡ more (text page.old.at page.old.out.now) (record_line flow.now.records.now flow.now.starts.now flow.now.n i) }
 {
-    if i < n {
-        let from = wide(flow[24 * i + 2]);
-        let to = wide(flow[24 * i + 3]);
-        let units = four(flow, 24 * i + 4);
-        let start = start_of(flow, starts, i);
-        return put_row(out, at, from, to, units, start);
+    if i < flow.n {
+        let from = u64::from(flow.sender(i));
+        let to = u64::from(flow.receiver(i));
+        let units = u64::from(flow.units(i));
+        let start = u64::from(flow.start_of(i));
+        put_row(page, from, to, units, start);
+        return;
     }
-    put_blank(out, at)
+    put_blank(page);
 }
 
 // How many pages n records fill.
@@ -35,21 +39,15 @@ pub fn pages(n: usize) -> usize
 }
 
 // Writes the lines behind the head of a page. Gives the count of pages.
-pub fn put_lines(
-    out: &mut [u8],
-    at: usize,
-    flow: &[u8],
-    n: usize,
-    starts: &[u32],
-    page: usize,
-) -> usize
-    requires { (n ≤ most_lines) × (24 * n ≤ length flow.now) × (1 ≤ page) × (page ≤ most_lines) × (at + line_bytes * page_records ≤ length out.old) }
-    ensures { (result ≡ pages_of n) × (out.new ≡ onto at (page_lines flow.now starts.now n page) out.old) }
+pub fn put_lines(out: &mut [u8], at: usize, flow: &Handovers, page: usize) -> usize
+    requires { (1 ≤ page) × (page ≤ most_lines) × (at + line_bytes * page_records ≤ length out.old) }
+    ensures { (result ≡ pages_of flow.now.n)
+        × (out.new ≡ onto at (page_lines flow.now.records.now flow.now.starts.now flow.now.n page) out.old) }
 {
-    let rows = page_rows(flow, n, starts, RECORDS * (page - 1));
-    let mut end = at;
-    for l in 0..RECORDS {
-        end = put_record(out, end, flow, n, starts, rows[l]);
+    let rows = page_rows(flow, RECORDS * (page - 1));
+    let mut draft = Draft { out, at };
+    for i in &rows {
+        put_record(&mut draft, flow, *i);
     }
-    pages(n)
+    pages(flow.n)
 }

@@ -7,12 +7,13 @@ ghost use Rattle.crew_sheet.specs.Sheet.{line_bytes, page_records, page_bytes, p
 ghost use Rattle.crew_sheet.specs.Underway.{onto, headed};
 
 mod blocks;
-mod field;
 mod fill;
+mod handovers;
 mod order;
 mod text;
 
 pub use fill::pages;
+use handovers::Handovers;
 
 // The bytes of a page.
 pub const BYTES: usize = 2460;
@@ -48,13 +49,19 @@ impl<'a> Page<'a> {
         }
     }
 
-    // The lines behind the head, and with them the page is full. Gives the count of pages.
+    // The lines behind the head, and with them the page is full. Gives the count of pages. (n stands beside the
+    // records, as in `write_page`.)
     pub fn fill(self, flow: &[u8], n: usize, starts: &[u32], page: usize) -> usize
         requires { (n ≤ most_lines) × (24 * n ≤ length flow.now) × (1 ≤ page) × (page ≤ most_lines) × (self.at + line_bytes * page_records ≤ length self.out.now) }
         ensures { (result ≡ pages_of n) × (self.exit.0.now ≡ onto self.entry.at (page_lines flow.now starts.now n page) self.entry.out.now) }
     {
         let at = self.at;
-        fill::put_lines(&mut *self.out, at, flow, n, starts, page)
+        let handovers = Handovers {
+            records: flow,
+            n,
+            starts,
+        };
+        fill::put_lines(&mut *self.out, at, &handovers, page)
     }
 }
 
@@ -70,7 +77,8 @@ fn with_head<'a>(out: &'a mut [u8], kind: u64, page: usize) -> Page<'a>
 }
 
 // Writes a page of the sheet of n flow records to the front of the lent bytes. Gives the count of pages. (`most_lines`
-// keeps every sum within a word.)
+// keeps every sum within a word. The records are bytes with n beside them, as its contract has them,
+// and as C passes them.)
 pub fn write_page(
     out: &mut [u8],
     flow: &[u8],

@@ -4,6 +4,8 @@ ghost use Rattle.lines.specs.Text.{text, more};
 ghost use Rattle.crew_sheet.specs.Sheet.{line_bytes, column, cell, row_line, blank_line, head_line};
 ghost use Rattle.crew_sheet.specs.model.Figures.{figure_of};
 
+use lines::Draft;
+
 // The character at a place of a right-aligned number, of what is left of the number there and how
 // many digits are to the right.
 fn figure(rest: u64, tail: usize) -> u8
@@ -11,80 +13,87 @@ fn figure(rest: u64, tail: usize) -> u8
 {
     if rest == 0 {
         if tail == 0 {
-            return 48;
+            return b'0';
         }
-        return 32;
+        return b' ';
     }
-    48 + (rest % 10) as u8
+    b'0' + (rest % 10) as u8
 }
 
-// Writes a number, right-aligned in w columns.
-fn put_column(out: &mut [u8], at: usize, w: usize, x: u64) -> usize
-    requires { at + w ≤ length out.old }
-    ensures { text result out.new ≡ more (text at out.old) (column w x) }
+// Writes a number, right-aligned in w columns. (By places from the last: see `put_decimal` of lines.)
+fn put_column(draft: &mut Draft, w: usize, x: u64)
+    requires { draft.old.at + w ≤ length draft.old.out.now }
+    ensures same_reference { draft.new.out.ghost_name ≡ draft.old.out.ghost_name }
+    ensures written { text draft.new.at draft.new.out.now
+        ≡ more (text draft.old.at draft.old.out.now) (column w x) }
 {
-    let mut i = w;
+    let end = draft.at + w;
     let mut rest = x;
-    while i > 0 {
-        let c = figure(rest, w - i);
-        i -= 1;
-        out[at + i] = c;
-        rest = rest / 10;
+    for i in (draft.at..end).rev() {
+        draft.out[i] = figure(rest, end - 1 - i);
+        rest /= 10;
     }
-    at + w
+    draft.at = end;
 }
 
 // Writes n blanks.
-fn put_blanks(out: &mut [u8], at: usize, n: usize) -> usize
-    requires { at + n ≤ length out.old }
-    ensures { text result out.new ≡ more (text at out.old) (replicate n 32) }
+fn put_blanks(draft: &mut Draft, n: usize)
+    requires { draft.old.at + n ≤ length draft.old.out.now }
+    ensures same_reference { draft.new.out.ghost_name ≡ draft.old.out.ghost_name }
+    ensures written { text draft.new.at draft.new.out.now
+        ≡ more (text draft.old.at draft.old.out.now) (replicate n 32) }
 {
-    for i in 0..n {
-        out[at + i] = 32;
-    }
-    at + n
+    let end = draft.at + n;
+    draft.out[draft.at..end].fill(b' ');
+    draft.at = end;
 }
 
 // Writes a number, right-aligned in w columns, and blanks behind it.
-fn put_cell(out: &mut [u8], at: usize, w: usize, gap: usize, x: u64) -> usize
-    requires { at + (w + gap) ≤ length out.old }
-    ensures { text result out.new ≡ more (text at out.old) (cell w gap x) }
+fn put_cell(draft: &mut Draft, w: usize, gap: usize, x: u64)
+    requires { draft.old.at + (w + gap) ≤ length draft.old.out.now }
+    ensures same_reference { draft.new.out.ghost_name ≡ draft.old.out.ghost_name }
+    ensures written { text draft.new.at draft.new.out.now
+        ≡ more (text draft.old.at draft.old.out.now) (cell w gap x) }
 {
-    let end = put_column(out, at, w, x);
-    put_blanks(out, end, gap)
+    put_column(draft, w, x);
+    put_blanks(draft, gap);
 }
 
 // Writes the line of a record.
-pub fn put_row(out: &mut [u8], at: usize, from: u64, to: u64, units: u64, start: u64) -> usize
-    requires { at + line_bytes ≤ length out.old }
-    ensures { text result out.new ≡ more (text at out.old) (row_line from to units start) }
+pub fn put_row(row: &mut Draft, from: u64, to: u64, units: u64, start: u64)
+    requires { row.old.at + line_bytes ≤ length row.old.out.now }
+    ensures same_reference { row.new.out.ghost_name ≡ row.old.out.ghost_name }
+    ensures written { text row.new.at row.new.out.now
+        ≡ more (text row.old.at row.old.out.now) (row_line from to units start) }
 {
-    let a = put_cell(out, at, 3, 1, from);
-    let b = put_cell(out, a, 3, 1, to);
-    let c = put_cell(out, b, 8, 1, units);
-    let d = put_cell(out, c, 10, 13, start);
-    out[d] = 10;
-    d + 1
+    put_cell(row, 3, 1, from);
+    put_cell(row, 3, 1, to);
+    put_cell(row, 8, 1, units);
+    put_cell(row, 10, 13, start);
+    row.put_bytes(b"\n");
 }
 
 // Writes a blank line.
-pub fn put_blank(out: &mut [u8], at: usize) -> usize
-    requires { at + line_bytes ≤ length out.old }
-    ensures { text result out.new ≡ more (text at out.old) blank_line }
+pub fn put_blank(blank: &mut Draft)
+    requires { blank.old.at + line_bytes ≤ length blank.old.out.now }
+    ensures same_reference { blank.new.out.ghost_name ≡ blank.old.out.ghost_name }
+    ensures written { text blank.new.at blank.new.out.now
+        ≡ more (text blank.old.at blank.old.out.now) blank_line }
 {
-    let a = put_blanks(out, at, 40);
-    out[a] = 10;
-    a + 1
+    put_blanks(blank, 40);
+    blank.put_bytes(b"\n");
 }
 
-// Writes the head line of a page.
+// Writes the head line of a page. Gives the number of bytes then. (`Page` is no `Draft`: its methods take it by value,
+// and `headed`, `onto` of the specs are equalities of it.)
 pub fn put_head(out: &mut [u8], at: usize, kind: u64, page: usize) -> usize
     requires { at + line_bytes ≤ length out.old }
     ensures { text result out.new ≡ more (text at out.old) (head_line kind page) }
 {
-    let a = lines::put_bytes(out, at, b"KIND ");
-    let b = put_cell(out, a, 1, 1, kind);
-    let c = put_cell(out, b, 3, 30, page as u64);
-    out[c] = 10;
-    c + 1
+    let mut head = Draft { out, at };
+    head.put_bytes(b"KIND ");
+    put_cell(&mut head, 1, 1, kind);
+    put_cell(&mut head, 3, 30, page as u64);
+    head.put_bytes(b"\n");
+    head.at
 }

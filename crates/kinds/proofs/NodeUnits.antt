@@ -1,13 +1,22 @@
 -- What passes from node to node: the units of each pair, its mark, and what the solver says.
-use mathlib.Core.Path.{◌≡◌, refl, sym, ap, ◌∙◌, subst, fun_ext}
-use mathlib.Core.Bool.{Bool, true, false, cond, ◌&&◌}
-use mathlib.Core.List.{List}
+use mathlib.Core.Path.{◌≡◌, refl, sym, ap, ◌∙◌, fun_ext}
+use mathlib.Core.Bool.{Bool, true, false, not, cond, ◌&&◌}
+use mathlib.Core.List.{List, []}
 use mathlib.Core.Logic.{⊎_elim, ◌↔◌}
-use Prim.Native.Nat.{ℕ, zero, suc, ◌-◌, ◌≤◌, ◌<◌}
+use Prim.Native.Nat.{ℕ, zero, suc, ◌+◌, ◌-◌, ◌*◌, ◌≤◌, ◌<◌}
+use lib.ListN.{length, get_or, take, drop}
+use lib.Seq.{drop-drop}
+use Rattle.std.specs.Simd.{first_chunks}
+use Rattle.std.specs.Prelude.{sum}
+use Rattle.words.specs.Sums
+use Rattle.words.proofs.Sums.{sum_cong, sum_listed}
+use Rattle.std.proofs.lemmas.List.{length-take, length-take-le, length-drop, get_or-take, get_or-drop}
 use native.Mathlib.Omega.{arith}
 use lib.Dec.{ltb}
+use Rattle.std.specs.Int.{from_bool}
 use borrow.Author.Tests.{lt-ltb, le-ltb, eq-eqb, ltb-true}
 use Rattle.words.proofs.Tests.{holds, fails, and_left, and_right, cond_true, cond_false, cond_has, cond_least, cond_reached}
+use Rattle.order.specs.Stored.{elements}
 use Rattle.order.specs.Orders.{is_before, after_rows}
 use Rattle.order.specs.Rows.{after}
 use Rattle.order.specs.declared.Order.{Order}
@@ -18,7 +27,7 @@ use Rattle.solver.specs.model.Quote.{quote_of, flow_of}
 use Rattle.solver.specs.Sound.{asked}
 use Rattle.solver.specs.declared.Quoted.{Quoted}
 use Rattle.kinds.specs.Needs.{demands_for}
-use Rattle.kinds.specs.Flows.{Bounded, units, mark_of, kind_units}
+use Rattle.kinds.specs.Flows.{units, mark_of, kind_units}
 
 -- ---- the units of each pair
 
@@ -39,22 +48,52 @@ module _ (m : ℕ) (demand flow : List ℕ) (spare : ℕ) where
   unfolding units
   element_to i j l k = rw (lt-ltb i m l, lt-ltb j m k)
 
+-- ---- where the table has what i hands over to j: in row i as a slice, and in the list of its rows
+
+row_place : (flow : List ℕ) (i j n : ℕ) → j < n → get_or (take n (drop (i * elements) flow)) j 0 ≡ handed flow i j
+row_place flow i j n l = get_or-take n (drop (i * elements) flow) j 0 l ∙ get_or-drop (i * elements) flow j 0
+
+pub row_sum : (flow : List ℕ) (i m n : ℕ) → m ≡ n → i * elements + m ≤ length flow
+    → sum (take n (drop (i * elements) flow)) ≡ row m (handed flow) i
+unfolding row
+row_sum flow i m n e l =
+    let from = drop (i * elements) flow in
+    let long : length (take n from) ≡ m =
+    length-take-le n from (omega (arith, length-drop (i * elements) flow)) ∙ sym e in
+    sum_listed (take n from)
+    ∙ ap (λ (k : ℕ). Sums.sum k (λ j. get_or (take n from) j 0)) long
+    ∙ sum_cong m (λ j. get_or (take n from) j 0) (λ j. handed flow i j) (λ j h. row_place flow i j n (omega arith))
+
+row_at : (n i : ℕ) (xs : List ℕ) → i < n
+    → get_or (first_chunks elements n xs) i [] ≡ take elements (drop (i * elements) xs)
+row_at zero i xs l = absurd (omega arith)
+row_at (suc n) zero xs l = refl
+row_at (suc n) (suc i) xs l =
+    let e : elements + i * elements ≡ suc i * elements = omega arith in
+    row_at n i (drop elements xs) (omega arith)
+    ∙ ap (take elements) (drop-drop (i * elements) elements xs ∙ ap (λ (x : ℕ). drop x xs) e)
+
+pub col_place : (flow : List ℕ) (i j m n : ℕ) {rows : List (List ℕ)}
+    → rows ≡ first_chunks elements n flow → length rows ≡ n
+    → i < length (take m rows) → j < elements → (get_or (get_or (take m rows) i []) j 0 ≡ handed flow i j) × (i < m)
+col_place flow i j m n {rows} e s l h =
+    let long = length-take m rows in
+    let at =
+    get_or-take m rows i [] (omega arith)
+    ∙ ap (λ (x : List (List ℕ)). get_or x i []) e
+    ∙ row_at n i flow (omega arith) in
+    (ap (λ (x : List ℕ). get_or x j 0) at ∙ row_place flow i j elements h, omega arith)
+
 -- ---- the mark of a pair
 
 module _ (b : ℕ → ℕ → Bool) (m : ℕ) where
-  pub mark_end : (from j : ℕ) → j ≡ m → 0 ≡ mark_of b m from (suc j)
-  mark_end zero j e = refl
-  mark_end (suc i) j e = rw (le-ltb j m (omega arith)) (sym (none (ltb i m) (cond (b i j) 0 1)))
+  pub mark_told : (i from j : ℕ) {t : Bool} → suc i ≡ from → from ≤ m → j < m → t ≡ b i j
+      → from_bool (not t) ≡ mark_of b m from (suc j)
+  mark_told i from j {t} e h l w = rw (← e, lt-ltb i m (omega arith), lt-ltb j m l, ← w) (go t)
     where
-      none : (t : Bool) (x : ℕ) → cond (t && false) x 0 ≡ 0
-      none true x = refl
-      none false x = refl
-
-  pub mark_held : (i from j : ℕ) → suc i ≡ from → from ≤ m → j < m → true ≡ b i j → 0 ≡ mark_of b m from (suc j)
-  mark_held i from j e h l t = rw (← e, lt-ltb i m (omega arith), lt-ltb j m l, ← t)
-
-  pub mark_other : (i from j : ℕ) → suc i ≡ from → from ≤ m → j < m → false ≡ b i j → 1 ≡ mark_of b m from (suc j)
-  mark_other i from j e h l t = rw (← e, lt-ltb i m (omega arith), lt-ltb j m l, ← t)
+      go : (t : Bool) → from_bool (not t) ≡ cond t 0 1
+      go true = refl
+      go false = refl
 
   pub mark_most : (u v : ℕ) → mark_of b m u v ≤ 1
   mark_most zero v = omega arith
@@ -94,11 +133,6 @@ module _ (m : ℕ) (o : Order) (demand : List ℕ) (k : ℕ) (own flow : List �
 
   solved_flow : flow ≡ flow_of m o (demands_for demand k)
   solved_flow = w ∙ ap (flow_of m o) e
-
-  pub solved_bounded : Bounded m (asked (demands_for demand k)) (handed (flow_of m o (demands_for demand k))) → Bounded m (asked own) (handed flow)
-  solved_bounded h =
-      subst (λ (x : List ℕ). Bounded m (asked own) (handed x)) (sym solved_flow)
-      (subst (λ (x : List ℕ). Bounded m (asked x) (handed (flow_of m o (demands_for demand k)))) (sym e) h)
 
   pub solved_units : (available : ℕ) → units m own flow (available - q.need) ≡ kind_units o demand k available m
   solved_units available =

@@ -137,12 +137,6 @@ module _ (kind : ℕ) (g mark : ℕ → ℕ → ℕ) (m u : ℕ) where
       (loop_room (pair_step kind g mark u) at (m + 1) (lent n out) takes (fewer (lent n out) r) j h) in
       room_le (count + 1) (count + at j) now (omega (arith, one_some (g u (suc j)) (omega arith))) a
 
-  pub pairs_length : (n j count : ℕ) (out now : List ℕ) → Room (n + pairs_from g (m + 2) u) out → j ≤ m + 1
-      → lent count now ≡ upto (pair_step kind g mark u) j (lent n out) → length now ≡ length out
-  pairs_length n j count out now r h e =
-      ap (λ (s : Lent). length s.out) e
-      ∙ (loop_more (pair_step kind g mark u) at (m + 1) (lent n out) takes (fewer (lent n out) r) j h).long
-
   -- one pair more
   pub pair_next : (n j count to x k c : ℕ) (out now then : List ℕ) → j < m + 1
       → (lent count now ≡ upto (pair_step kind g mark u) j (lent n out)) × (j ≤ m + 1) → to ≡ suc j → x ≡ g u (suc j) → k ≡ mark u (suc j)
@@ -169,26 +163,21 @@ module _ (kind : ℕ) (g mark : ℕ → ℕ → ℕ) (m : ℕ) where
   rows_take : (u : ℕ) (s : Lent) → u < m + 1 → Room (s.count + of u) s.out → More (of u) s (put_row kind g mark m u s)
   rows_take u s h r = row_more kind g mark m u s r
 
-  fewer_rows : (out : List ℕ) → Room (pairs_of g (m + 2)) out → Room (0 + sum (m + 1) of) out
-  fewer_rows out r = room_le (0 + sum (m + 1) of) (pairs_of g (m + 2)) out (omega (arith, rows_le)) r
+  fewer_rows : (n : ℕ) (out : List ℕ) → Room (n + pairs_of g (m + 2)) out → Room (n + sum (m + 1) of) out
+  fewer_rows n out r = room_le (n + sum (m + 1) of) (n + pairs_of g (m + 2)) out (omega (arith, rows_le)) r
 
   -- after the rows below u: room for the next, and as many bytes as before
-  pub row_room : (u count : ℕ) (out now : List ℕ) → Room (pairs_of g (m + 2)) out → u < m + 1
-      → lent count now ≡ upto (put_row kind g mark m) u (lent 0 out) → Room (count + pairs_from g (m + 2) u) now
-  row_room u count out now r h e =
+  pub row_room : (n u count : ℕ) (out now : List ℕ) → Room (n + pairs_of g (m + 2)) out → u < m + 1
+      → lent count now ≡ upto (put_row kind g mark m) u (lent n out) → Room (count + pairs_from g (m + 2) u) now
+  row_room n u count out now r h e =
       subst (λ (s : Lent). Room (s.count + of u) s.out) (sym e)
-      (loop_room (put_row kind g mark m) of (m + 1) (lent 0 out) rows_take (fewer_rows out r) u h)
+      (loop_room (put_row kind g mark m) of (m + 1) (lent n out) rows_take (fewer_rows n out r) u h)
 
-  pub rows_length : (u count : ℕ) (out now : List ℕ) → Room (pairs_of g (m + 2)) out → u ≤ m + 1
-      → lent count now ≡ upto (put_row kind g mark m) u (lent 0 out) → length now ≡ length out
-  rows_length u count out now r h e =
-      ap (λ (s : Lent). length s.out) e
-      ∙ (loop_more (put_row kind g mark m) of (m + 1) (lent 0 out) rows_take (fewer_rows out r) u h).long
-
-  pub rows_end : (u count : ℕ) (out now : List ℕ) → m + 1 ≤ u
-      → (lent count now ≡ upto (put_row kind g mark m) u (lent 0 out)) × (u ≤ m + 1) → lent count now ≡ put_flow kind g mark m (lent 0 out)
+  pub rows_end : (n u count : ℕ) (out now : List ℕ) → m + 1 ≤ u
+      → (lent count now ≡ upto (put_row kind g mark m) u (lent n out)) × (u ≤ m + 1)
+      → lent count now ≡ put_flow kind g mark m (lent n out)
   unfolding put_flow
-  rows_end u count out now h i = up_end (put_row kind g mark m) (m + 1) u (lent 0 out) h i
+  rows_end n u count out now h i = up_end (put_row kind g mark m) (m + 1) u (lent n out) h i
 
 -- what is written goes by the kind, the units and the marks alone
 pub units_written : {kind k : ℕ} {g h mark tag : ℕ → ℕ → ℕ} (m : ℕ) (l : Lent) → kind ≡ k → g ≡ h → mark ≡ tag

@@ -1,5 +1,5 @@
 -- What the kinds need, as the solver quotes it, and the lowest kind that needs more than there is.
-use Rattle.std.specs.Prelude.{Bool, cond, List, [], ℕ, ◌+◌, ◌*◌, ltb, get_or}
+use Rattle.std.specs.Prelude.{Bool, cond, List, [], Option, Some, None, ℕ, ◌+◌, ◌*◌, ltb, get_or}
 use Rattle.words.specs.Members.{first}
 use Rattle.words.specs.Tables.{table}
 use Rattle.order.specs.Stored.{elements, no_set, number_of}
@@ -47,6 +47,10 @@ lowest_overload m o demand available n =
     (quote_for m o demand (lowest_kind m o demand available n)) in
     cond (ltb (lowest_kind m o demand available n) n) shown (no_overload n)
 
+-- the same as the code has it: an overload of one of the first n kinds, or none
+unfoldable pub some_overload : ℕ → Overload → Option Overload
+some_overload n v = cond (ltb v.kind n) (Some v) None
+
 -- ---- how it is shown
 
 -- so many records, and their bytes: one for a kind of the first n, else none. "its size is the count of ones"
@@ -58,3 +62,13 @@ shown_bytes v n =
     cond (ltb v.kind n)
     (overload_record (v.kind + 1) (size_of v.set) v.need (number_of v.set))
     []
+
+-- of an overload, or none, as the code has it: a file has at most 8 kinds. (Of `some_overload n v` that is
+-- what is shown of v among the first n: `count_given` and `bytes_given` of proofs/KindLoops.antt.)
+unfoldable pub given_count : Option Overload → ℕ
+given_count None = 0
+given_count (Some v) = shown_count v 8
+
+unfoldable pub given_bytes : Option Overload → List ℕ
+given_bytes None = []
+given_bytes (Some v) = shown_bytes v 8

@@ -1,5 +1,6 @@
 // The flow of one kind, as records: one for each pair of nodes with positive units, ascending by from, then to.
 ghost use Rattle.std.specs.Prelude.{◌≡◌, suc, ◌+◌, ◌≤◌, ◌<◌};
+ghost use Rattle.std.specs.Int.{from_bool};
 ghost use Rattle.order.specs.Orders.{is_before};
 ghost use Rattle.order.specs.Rows.{after};
 ghost use Rattle.order.specs.Stored.{elements};
@@ -7,104 +8,85 @@ ghost use Rattle.solver.specs.model.Network.{handed};
 ghost use Rattle.solver.specs.model.Quote.{quote_of, flow_of};
 ghost use Rattle.solver.specs.Sound.{asked};
 ghost use Rattle.kinds.specs.Needs.{demands_for};
-ghost use Rattle.kinds.specs.Flows.{Bounded, units, mark_of, pairs_from, pairs_of, kind_units};
+ghost use Rattle.kinds.specs.Flows.{Bounded, mark_of, pairs_from, pairs_of, kind_units};
+ghost use Rattle.kinds.specs.model.Passing.{passing};
 ghost use Rattle.kinds.specs.model.Writing.{Room, lent, put_pair, put_row, put_flow};
 
 use crate::needs::demands_for;
-use crate::units::units;
+use crate::units::Units;
 use order::{ELEMENTS, Order, Rows, row};
 
-// A number, as a byte.
-pub fn byte(x: usize) -> u8
-    requires { x < 256 }
-    ensures { result ≡ x }
-{
-    x as u8
-}
-
-// The added mark of the pair from a node to node j + 1, by the rows of the job order.
-fn mark(job: &Rows, m: usize, from: usize, j: usize) -> u8
+// Whether the pair from a node to node j + 1 has the added mark, by the rows of the job order.
+fn is_added(job: &Rows, m: usize, from: usize, j: usize) -> bool
     requires { (m ≤ elements) × (from ≤ m) × (j ≤ m) }
-    ensures { result ≡ mark_of (after job.now) m from (suc j) }
+    ensures { from_bool result ≡ mark_of (after job.now) m from (suc j) }
 {
-    if from == 0 {
-        return 0;
+    if from == 0 || j == m {
+        return false;
     }
-    if j == m {
-        return 0;
-    }
-    if row(job, from - 1).has(j) {
-        return 0;
-    }
-    1
+    !row(job, from - 1).has(j)
 }
 
-// Writes the record of one pair, where its units are positive, behind the n records that are written. Gives
-// the number of records then.
-fn put_pair(
-    out: &mut [u8],
+// The records of a flow under way: lent bytes, how many records are written to them, and the kind that they tell of.
+#[derive(Drop)]
+struct Run<'a> {
+    out: &'a mut [u8],
     n: usize,
     kind: u8,
-    from: usize,
-    to: usize,
-    units: u32,
-    mark: u8,
-) -> usize
-    requires { (from < 256) × (to < 256) × (0 < units → Room (n + 1) out.old) }
-    ensures { lent result out.new ≡ put_pair kind from to units mark (lent n out.old) }
-{
-    if units == 0 {
-        return n;
-    }
-    records::append_flow(out, n, kind, byte(from), byte(to), units, mark);
-    n + 1
 }
 
-// Writes the records of the pairs from one node, by what the elements hand over.
-fn put_row(
-    out: &mut [u8],
-    n: usize,
-    kind: u8,
-    from: usize,
-    m: usize,
-    demand: &[u32; ELEMENTS],
-    flow: &[u32; ELEMENTS * ELEMENTS],
-    spare: u32,
-    job: &Rows,
-) -> usize
-    requires { (m ≤ elements) × (from ≤ m) × Bounded m (asked demand.now) (handed flow.now)
-        × Room (n + pairs_from (units m demand.now flow.now spare) (m + 2) from) out.old }
-    ensures { lent result out.new
-        ≡ put_row kind (units m demand.now flow.now spare) (mark_of (after job.now) m) m from (lent n out.old) }
-{
-    let mut count = n;
-    for j in 0..m + 1 {
-        let x = units(from, j, m, demand, flow, spare);
-        count = put_pair(out, count, kind, from, j + 1, x, mark(job, m, from, j));
+impl Run<'_> {
+    // Writes the record of one pair, where its units are positive, behind those that are written.
+    fn put_pair(&mut self, from: usize, to: usize, units: u32, added: bool)
+        requires { (from < 256) × (to < 256) × (0 < units → Room (self.old.n + 1) self.old.out.now) }
+        ensures same_reference { self.new.out.ghost_name ≡ self.old.out.ghost_name }
+        ensures same_kind { self.new.kind ≡ self.old.kind }
+        ensures written { lent self.new.n self.new.out.now
+            ≡ put_pair self.old.kind from to units (from_bool added) (lent self.old.n self.old.out.now) }
+    {
+        if units == 0 {
+            return;
+        }
+        records::append_flow(
+            self.out,
+            self.n,
+            self.kind,
+            from as u8,
+            to as u8,
+            units,
+            u8::from(added),
+        );
+        self.n += 1;
     }
-    count
-}
 
-// Writes the records of all pairs.
-fn put_flow(
-    out: &mut [u8],
-    kind: u8,
-    m: usize,
-    demand: &[u32; ELEMENTS],
-    flow: &[u32; ELEMENTS * ELEMENTS],
-    spare: u32,
-    job: &Rows,
-) -> usize
-    requires { (m ≤ elements) × Bounded m (asked demand.now) (handed flow.now)
-        × Room (pairs_of (units m demand.now flow.now spare) (m + 2)) out.old }
-    ensures { lent result out.new
-        ≡ put_flow kind (units m demand.now flow.now spare) (mark_of (after job.now) m) m (lent 0 out.old) }
-{
-    let mut count: usize = 0;
-    for from in 0..m + 1 {
-        count = put_row(out, count, kind, from, m, demand, flow, spare, job);
+    // Writes the records of the pairs from one node, by what the elements hand over. (A turn is about the node j + 1.)
+    fn put_row(&mut self, from: usize, units: &Units, job: &Rows)
+        requires { (from ≤ units.now.m)
+            × Room (self.old.n + pairs_from (passing units.now) (units.now.m + 2) from) self.old.out.now }
+        ensures same_reference { self.new.out.ghost_name ≡ self.old.out.ghost_name }
+        ensures same_kind { self.new.kind ≡ self.old.kind }
+        ensures written { lent self.new.n self.new.out.now
+            ≡ put_row self.old.kind (passing units.now) (mark_of (after job.now) units.now.m) units.now.m from
+            (lent self.old.n self.old.out.now) }
+    {
+        for j in 0..units.m + 1 {
+            let x = units.between(from, j);
+            self.put_pair(from, j + 1, x, is_added(job, units.m, from, j));
+        }
     }
-    count
+
+    // Writes the records of all pairs. (A turn is about the node `from`.)
+    fn put_flow(&mut self, units: &Units, job: &Rows)
+        requires { Room (self.old.n + pairs_of (passing units.now) (units.now.m + 2)) self.old.out.now }
+        ensures same_reference { self.new.out.ghost_name ≡ self.old.out.ghost_name }
+        ensures written { lent self.new.n self.new.out.now
+            ≡ put_flow self.old.kind (passing units.now) (mark_of (after job.now) units.now.m) units.now.m
+            (lent self.old.n self.old.out.now) }
+    {
+        for from in 0..units.m + 1 {
+            self.put_row(from, units, job);
+        }
+    }
 }
 
 // Writes the flow of kind k, of which `available` are available, to the front of the lent bytes, with the added marks
@@ -131,5 +113,14 @@ pub fn write_flow(
     let need = quoted.need;
     let spare = available - need;
     let before = job.after_rows();
-    put_flow(out, byte(k + 1), m, &own, &flow, spare, &before)
+    let units = Units {
+        m,
+        demand: &own,
+        flow: &flow,
+        spare,
+    };
+    let kind = (k + 1) as u8;
+    let mut run = Run { out, n: 0, kind };
+    run.put_flow(&units, &before);
+    run.n
 }

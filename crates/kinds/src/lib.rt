@@ -12,8 +12,7 @@ pub use flows::write_flow;
 pub use needs::{lowest_overload, put_needs};
 pub use shown::put_overload;
 
-// The lowest kind that needs more than there is, with its need and a set of pairwise unrelated elements that has it.
-// Where no kind does: the number of kinds, no need and no elements.
+// A kind that needs more than there is, with its need and a set of pairwise unrelated elements that has it.
 #[derive(Clone, Copy)]
 pub struct Overload {
     pub kind: usize,

@@ -1,12 +1,11 @@
 -- The decimal digits of a number: how many there are, which they are, and that they are read back as the number.
-use mathlib.Core.Path.{◌≡◌, refl, sym, ap, subst, ◌∙◌}
+use mathlib.Core.Path.{◌≡◌, sym, ap, subst, ◌∙◌}
 use mathlib.Core.Bool.{Bool}
 use mathlib.Core.Logic.{◌≢◌}
-use Prim.Native.Nat.{ℕ, zero, suc, ◌+◌, ◌*◌, ◌-◌, ◌/◌, ◌%◌, ◌^◌, ◌≤◌, ◌<◌}
+use Prim.Native.Nat.{ℕ, zero, suc, ◌+◌, ◌*◌, ◌-◌, ◌/◌, ◌%◌, ◌^◌, ◌≤◌, ◌<◌, max}
 use native.Mathlib.Omega.{arith}
 use native.Mathlib.Nat.{pow-suc, pow-succ', pow-le-pow_right, one-le-pow, suc-sub-suc}
 use native.Mathlib.Nat.{div-one, div-div-eq-div-mul, div-lt_iff_lt-mul, le-div_iff_mul-le}
-use native.Mathlib.Numerals.{add-one}
 use lib.Dec.{ltb}
 use lib.ListN.{length, get_or}
 use borrow.Author.Tests.{ltb-true, ltb-false, lt-ltb, le-ltb}
@@ -18,6 +17,9 @@ use Rattle.words.proofs.Tests.{by_test}
 use Rattle.lines.specs.Text.{places, decimal, value_by, value_of}
 
 -- ---- how many
+
+pub positive : (k : ℕ) → 0 < 10 ^ k
+positive k = one-le-pow k 10 (omega arith)
 
 -- whether k + 1 digits hold n
 abbrev enough : ℕ → ℕ → Bool
@@ -55,49 +57,18 @@ unfolding places
 places_is n k most before h =
     ap suc (first_is 19 (enough n) k (omega arith) (λ i l. le-ltb n (10 ^ suc i) (before i l)) (λ l. lt-ltb n (10 ^ suc k) h))
 
--- ---- the loop that counts them
+-- one more than the logarithm, where 0 counts as 1
+pub places_log : (x r : ℕ) → 10 ^ r ≤ max x 1 → max x 1 < 10 * 10 ^ r → r < 20 → r + 1 ≡ places x
+places_log x r low high few =
+    let passed : (i : ℕ) → i < r → 10 ^ suc i ≤ x =
+    λ i l. omega (arith, positive i, pow-suc 10 i, pow-le-pow_right {n = 10} (omega arith) {i = suc i} {j = r} (omega arith)) in
+    omega (arith, places_is x r (omega arith) passed (omega (arith, pow-suc 10 r)))
 
-pub positive : (k : ℕ) → 0 < 10 ^ k
-positive k = one-le-pow k 10 (omega arith)
+-- ---- which they are
 
 -- a further digit is divided off
 pub divided : (n k : ℕ) → n / 10 ^ k / 10 ≡ n / 10 ^ suc k
 divided n k = div-div-eq-div-mul n (10 ^ k) 10 ∙ ap (λ m. n / m) (sym (pow-suc 10 k))
-
--- k digits of x are divided off, `rest` is what is left, and fewer than k do not hold x
-pub record Dividing (x k rest : ℕ) : Type 0 where
-  pub some : 1 ≤ k
-  pub few : k ≤ 20
-  pub left : rest ≡ x / 10 ^ k
-  pub passed : (i : ℕ) → suc i < k → 10 ^ suc i ≤ x
-
-module _ (x : ℕ) where
-  pub dividing_one : Dividing x 1 (x / 10)
-  dividing_one = record { some = omega arith; few = omega arith; left = refl; passed = λ i h. absurd (omega arith) }
-
-  module _ (k rest : ℕ) (d : Dividing x k rest) where
-    some_left : 0 < rest → 10 ^ k ≤ x
-    some_left h = omega (arith, (le-div_iff_mul-le {k = 10 ^ k} {x = 1} {y = x} (positive k)).0 (omega (arith, d.left)))
-
-    pub dividing_next : x < 10 ^ 20 → 0 < rest → Dividing x (k + 1) (rest / 10)
-    dividing_next fits h =
-        let big : 10 ^ k ≤ x = some_left h in
-        record {
-          some = omega arith;
-          few =
-              by_test (ltb k 20) (λ t. omega (arith, ltb-true k 20 t))
-              (λ t. absurd (omega (arith, pow-le-pow_right {n = 10} (omega arith) {i = 20} {j = k} (ltb-false k 20 t))));
-          left = rw (add-one, d.left) (divided x k);
-          passed = λ i l. omega (arith, pow-le-pow_right {n = 10} (omega arith) {i = suc i} {j = k} (omega arith));
-        }
-
-    pub dividing_end : rest ≡ 0 → k ≡ places x
-    dividing_end e =
-        let s : suc (k - 1) ≡ k = omega (arith, d.some) in
-        let h : x < 1 * 10 ^ k = (div-lt_iff_lt-mul {k = 10 ^ k} {x = x} {y = 1} (positive k)).0 (omega (arith, d.left)) in
-        sym (places_is x (k - 1) (omega (arith, d.few)) (λ i l. d.passed i (omega arith)) (rw s (omega arith)) ∙ s)
-
--- ---- which they are
 
 pub length_decimal : (n : ℕ) → length (decimal n) ≡ places n
 unfolding decimal

@@ -1,4 +1,4 @@
--- Lines that are written one after another: what a loop that writes them keeps.
+-- What is written one after another, each of at most some bytes: pieces, and what a loop keeps that writes lines.
 use mathlib.Core.Path.{◌≡◌, sym, ap, ◌∙◌}
 use mathlib.Core.List.{List, ◌++◌}
 use Prim.Native.Nat.{ℕ, zero, suc, ◌+◌, ◌*◌, ◌≤◌, ◌<◌}
@@ -8,7 +8,31 @@ use native.Mathlib.Numerals.{add-one}
 use lib.ListN.{length, length-append}
 use Rattle.records.specs.Records.{joined}
 use Rattle.lines.specs.Text.{Text, text, more}
-use Rattle.lines.proofs.Texts.{more_more, more_none, grown, grown_by}
+use Rattle.lines.proofs.Texts.{more_length, more_more, more_none, grown, grown_by}
+
+-- ---- pieces
+
+-- l, of at most `most` bytes, is written behind t
+pub record Short (t : Text) (most : ℕ) (l : List ℕ) (u : Text) : Type 0 where
+  pub done : u ≡ more t l
+  pub few : length l ≤ most
+
+module _ {t : Text} {most : ℕ} {l : List ℕ} {u : Text} (p : Short t most l u) where
+  -- there is room for k more
+  pub short_room : (k : ℕ) → t.at + (most + k) ≤ length t.out → u.at + k ≤ length u.out
+  short_room k h =
+      let at : u.at ≡ t.at + length l = ap (λ (x : Text). x.at) p.done in
+      let long : length u.out ≡ length t.out =
+      ap (λ (x : Text). length x.out) p.done ∙ more_length t l (omega (arith, p.few)) in
+      omega (arith, p.few)
+
+  pub short_more : {w : Text} (k : ℕ) (b : List ℕ) → w ≡ more u b → length b ≤ k → t.at + (most + k) ≤ length t.out
+      → Short t (most + k) (l ++ b) w
+  short_more k b done few h =
+      record {
+        done = done ∙ ap (λ (x : Text). more x b) p.done ∙ more_more t l b (omega (arith, p.few));
+        few = omega (arith, p.few, length-append l b);
+      }
 
 -- ---- lines f 0, f 1, .., f (n - 1), each of at most `most` bytes
 

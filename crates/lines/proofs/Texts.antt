@@ -5,9 +5,8 @@ use Prim.Native.Nat.{ℕ, suc, ◌+◌, ◌*◌, ◌-◌, ◌/◌, ◌%◌, ◌^
 use native.Mathlib.Omega.{arith}
 use native.Mathlib.Nat.{add-zero, add-suc, add_assoc, sub_self, div-one}
 use native.Mathlib.Numerals.{add-one}
-use lib.ListN.{length, get_or, set, take, drop, length-append, length-drop, take-append-drop}
+use lib.ListN.{length, get_or, set, take, drop, length-append, take-append-drop}
 use lib.Seq.{length-take-le, take_at, drop_at, drop-drop, set_split, set_at, append_snoc, take-suc, drop-cons, drop-length, take-length}
-use lib.Seq.{paste, paste-zero, paste-suc, length-paste}
 use Rattle.records.proofs.Steps.{length_written_at}
 use Rattle.lines.specs.Text.{Text, places, decimal, spaced, line_of, text, more}
 use Rattle.lines.proofs.Decimals.{places_most, length_decimal, decimal_at, divided}
@@ -45,29 +44,6 @@ grown_by at e a old out w = ap (λ (t : Text). t.at) w
 pub grown : (at e : ℕ) (a old out : List ℕ) → at + length a ≤ length old → text e out ≡ more (text at old) a
     → (e ≡ at + length a) × (length out ≡ length old)
 grown at e a old out h w = (grown_by at e a old out w, ap (λ (t : Text). length t.out) w ∙ more_length (text at old) a h)
-
--- ---- the loop that copies bytes
-
--- i of the bytes are written behind the `at` that were
-pub record Copying (at : ℕ) (bytes old : List ℕ) (i : ℕ) (out : List ℕ) : Type 0 where
-  pub some : i ≤ length bytes
-  pub done : out ≡ paste old at bytes i
-
-module _ (at : ℕ) (bytes old : List ℕ) where
-  pub copying_none : Copying at bytes old 0 old
-  copying_none = record { some = omega arith; done = paste-zero old at bytes }
-
-  module _ (i : ℕ) (out : List ℕ) (c : Copying at bytes old i out) (fits : at + length bytes ≤ length old) where
-    pub copying_length : length out ≡ length old
-    copying_length = ap length c.done ∙ length-paste old at bytes i (omega (arith, c.some)) c.some
-
-    pub copying_next : i < length bytes → Copying at bytes old (i + 1) (set out (at + i) (get_or bytes i 0))
-    copying_next h = record { some = omega arith; done = rw (c.done, add-one) (paste-suc old at bytes i 0 (omega arith) h) }
-
-    pub copying_end : length bytes ≤ i → text (at + length bytes) out ≡ more (text at old) bytes
-    copying_end h =
-        let e : i ≡ length bytes = omega (arith, c.some) in
-        ap (text (at + length bytes)) (c.done ∙ rw (e, take-length))
 
 -- ---- the loop that writes digits, from the last to the first
 
@@ -107,12 +83,6 @@ module _ (at x : ℕ) (old : List ℕ) where
       record { some = omega arith; left = rw (sub_self) (sym (div-one x)); done = rw (none, append-nil, take-append-drop) }
 
   module _ (i rest : ℕ) (out : List ℕ) (s : Spelling at x old i rest out) (fits : at + 20 ≤ length old) where
-    pub spelling_length : length out ≡ length old
-    spelling_length =
-        ap length s.done
-        ∙ rw (length-append, length-append, length-take-le (at + i) old (omega (arith, s.some, places_most x)))
-        (omega (arith, s.some, places_most x, length-drop i (decimal x), length-drop (at + places x) old, length_decimal x))
-
     pub spelling_next : 0 < i → Spelling at x old (i - 1) (rest / 10) (set out (at + (i - 1)) (48 + rest % 10))
     spelling_next h =
         let e : i ≡ suc (i - 1) = omega arith in
@@ -158,9 +128,6 @@ module _ (at : ℕ) (ns old : List ℕ) where
     so_long : (end ≡ at + length (spaced (take i ns))) × (length out ≡ length old)
     so_long = grown at end (spaced (take i ns)) old out (omega (arith, so_far, l.some)) l.done
 
-    pub listing_length : length out ≡ length old
-    listing_length = so_long.1
-
     pub listing_room : i < length ns → end + 21 ≤ length out
     listing_room h = omega (arith, so_far, so_long)
 
@@ -195,20 +162,20 @@ module _ (at named : ℕ) (word ns old one : List ℕ) (fits : at + length word 
   room_numbers = omega (arith, grown at named word old one (omega arith) v)
 
   module _ (end : ℕ) (two : List ℕ) (w : text end two ≡ more (text named one) (spaced ns)) where
-    pub line_end : (end < length two) × (length two ≡ length old)
+    pub line_end : end + 1 ≤ length two
     line_end =
         let a = grown at named word old one (omega arith) v in
         let l = length_spaced ns in
         let b = grown named end (spaced ns) one two (omega arith) w in
-        (omega arith, omega arith)
+        omega arith
 
-    pub line_more : text (end + 1) (set two end 10) ≡ more (text at old) (line_of word ns)
+    pub line_more : {e : ℕ} {o : List ℕ} → text e o ≡ more (text end two) (10 ∷ []) → text e o ≡ more (text at old) (line_of word ns)
     unfolding line_of
-    line_more =
+    line_more u =
         let t : Text = text at old in
         let l = length_spaced ns in
         let long = length-append word (spaced ns) in
-        more_one end 10 two line_end.0
+        u
         ∙ ap (λ (t : Text). more t (10 ∷ [])) (w ∙ ap (λ (t : Text). more t (spaced ns)) v ∙ more_more t word (spaced ns) (omega arith))
         ∙ more_more t (word ++ spaced ns) (10 ∷ []) (omega arith)
 

@@ -1,22 +1,24 @@
 -- Arcs without one of them: fewer arcs, and the same order where that arc's pair follows from the others.
-use Rattle.std.proofs.Common.{◌≡◌, ℕ, ◌-◌, ◌^◌, ◌<◌, Bool, true, false, not, ◌&&◌, eqb, ◌⊎◌, ◌↔◌, List, length, sym, ap, ◌∙◌, inl, inr, ⊎_elim, arith, eq-eqb, ne_eqb}
+use Rattle.std.proofs.Common.{◌≡◌, ℕ, ◌-◌, ◌^◌, ◌<◌, Bool, true, false, not, ◌&&◌, eqb, ◌⊎◌, ◌↔◌, List, [], ◌∷◌, length, sym, ap, ◌∙◌, inl, inr, ⊎_elim, arith, eq-eqb, ne_eqb}
 use mathlib.Core.Bool.{and-true, and-false}
 use native.Mathlib.Decide.{ℕ_discrete}
 use lib.Bits.{bit_and}
 use Rattle.words.specs.Bits.{bit, minus}
 use Rattle.words.proofs.Bits.{bit_minus, bit_single, bit_zero}
+use Rattle.words.proofs.Members.{low_member}
 use Rattle.words.proofs.Firsts.{some_found, some_here, some_none, some_cong}
 use Rattle.words.proofs.Tests.{clash, fails, and_says, and_left, and_right, and_both, or_cases, not_of_false, false_of_not, eqb_says}
 use Rattle.order.specs.Before.{Before, last, Acyclic}
 use Rattle.order.specs.Arcs.{With}
-use Rattle.order.specs.Stored.{elements, set_of, cells, row, RowsFit}
-use Rattle.order.specs.Sets.{member, without_element, union_of, lowest_of, without_lowest}
+use Rattle.order.specs.Stored.{elements, number_of, set_of, cells, row, RowsFit}
+use Rattle.order.specs.Sets.{member, without_element, union_of, lowest_of, listed}
 use Rattle.order.specs.Rows.{after}
 use Rattle.order.specs.Orders.{after_rows, some_before, Direct, order_in, without_arc, joined_rows}
 use Rattle.order.specs.declared.Set.{Set}
-use Rattle.order.proofs.Stored.{row_put_same, row_put_other, length_put, row_fit, fit_put}
-use Rattle.order.proofs.Sets.{member_set, member_union, member_without, lowest_member, member_without_lowest}
-use Rattle.order.proofs.Listing.{Empty, listed_below, is_none}
+use Rattle.order.proofs.Stored.{in_bound, row_put_same, row_put_other, length_put, row_fit, fit_put}
+use Rattle.order.proofs.Sets.{member_set, member_union, member_without}
+use Rattle.order.proofs.Listing.{Empty, listed_below, is_none, is_some}
+use Rattle.order.proofs.Turns.{member_below, member_first, member_others, member_none}
 use Rattle.order.proofs.Before.{before_map, before_least, before_trans, before_lacking}
 use Rattle.order.proofs.Orders.{after_rows_lem, order_means, order_same, direct_order, direct_joined}
 
@@ -135,26 +137,46 @@ module _ (a b : List ℕ) (x y : ℕ) (long : length b ≡ cells elements) (hx :
       lacks x k (λ u. clash ((eqb_says k y).1 u.1) (false_of_not (eqb k y) q.1))
       ((direct_joined a b x k).1 (inr (record { from = hx; to = h; drawn = sym (member_set (row b x) k) ∙ q.0 }))))
 
--- ---- whether a member of a set is before j: what a loop over the members goes by. Each law takes what those of Listing take.
+-- ---- whether a member of a set is before j: what a loop over the members goes by. Each law takes what those of Turns
+-- take.
 
-module _ (rows : List ℕ) (j : ℕ) (w : Set) (t : Bool) (empty : Empty w t) where
+module _ (rows : List ℕ) (j : ℕ) (w v : Set) {k : ℕ} (e : listed w ≡ k ∷ listed v) where
   -- the lowest is
+  pub some_before_first : after rows k j ≡ true → some_before rows w j ≡ true
+  unfolding some_before
+  some_before_first here =
+      some_here elements (λ i. member w i && after rows i j) k (member_below w v e)
+      (and_both (member w k) (after rows k j) (member_first w v e) here)
+
+  -- the lowest is not: the others tell
+  pub some_before_rest : after rows k j ≡ false → some_before rows v j ≡ some_before rows w j
+  unfolding some_before
+  some_before_rest none =
+      some_cong elements (λ i. member v i && after rows i j) (λ i. member w i && after rows i j)
+      (λ i h. ap (λ (b : Bool). b && after rows i j) (member_others w v e i h) ∙ at i (ℕ_discrete i k))
+    where
+      at : (i : ℕ) → Dec (i ≡ k) → (member w i && not (eqb i k)) && after rows i j ≡ member w i && after rows i j
+      at i (yes p) = rw (p, none, and-false (member w k), and-false (member w k && not (eqb k k)))
+      at i (no d) = rw (ne_eqb i k d, and-true (member w i))
+
+-- none is left
+pub some_before_end : (rows : List ℕ) (j : ℕ) (w : Set) → listed w ≡ [] → some_before rows w j ≡ false
+unfolding some_before
+some_before_end rows j w e =
+    some_none elements (λ i. member w i && after rows i j)
+    (λ k l. ap (λ (b : Bool). b && after rows k j) (member_none w e k l))
+
+-- by hand. Each law takes what those of Listing take.
+module _ (rows : List ℕ) (j : ℕ) (w : Set) (t : Bool) (empty : Empty w t) where
+  -- the lowest is before j
   pub some_before_here : (k : ℕ) → t ≡ false → k ≡ lowest_of w → after rows k j ≡ true → some_before rows w j ≡ true
   unfolding some_before
   some_before_here k h q e =
       let l = listed_below w t empty h q in
-      some_here elements (λ i. member w i && after rows i j) k l (and_both (member w k) (after rows k j) (ap (member w) q ∙ lowest_member w (omega arith)) e)
-
-  -- the lowest is not: the others tell
-  pub some_before_rest : (k : ℕ) (v : Set) → k ≡ lowest_of w → after rows k j ≡ false → v ≡ without_lowest w → some_before rows v j ≡ some_before rows w j
-  unfolding some_before
-  some_before_rest k v q none e =
-      some_cong elements (λ i. member v i && after rows i j) (λ i. member w i && after rows i j)
-      (λ i h. ap (λ (s : Set). member s i && after rows i j) e ∙ ap (λ (b : Bool). b && after rows i j) (member_without_lowest w empty.1 i) ∙ at i (ℕ_discrete i k))
-    where
-      at : (i : ℕ) → Dec (i ≡ k) → (member w i && not (eqb i (lowest_of w))) && after rows i j ≡ member w i && after rows i j
-      at i (yes p) = rw (p, none, and-false (member w k), and-false (member w k && not (eqb k (lowest_of w))))
-      at i (no d) = rw (ne_eqb i (lowest_of w) (λ p. d (p ∙ sym q)), and-true (member w i))
+      let n = is_some w t empty h in
+      let lowest = low_member elements (number_of w) (omega arith) (in_bound empty.1) in
+      some_here elements (λ i. member w i && after rows i j) k l
+      (and_both (member w k) (after rows k j) (ap (member w) q ∙ lowest) e)
 
   -- none is left
   pub some_before_none : t ≡ true → some_before rows w j ≡ false

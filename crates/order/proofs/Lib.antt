@@ -4,6 +4,7 @@ pub mod Nodes
 pub mod Stored
 pub mod Sets
 pub mod Listing
+pub mod Turns
 pub mod Represents
 pub mod Closure
 pub mod Arcs

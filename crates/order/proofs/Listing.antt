@@ -1,6 +1,7 @@
--- What a loop over the members of a set goes by, `while !w.is_empty() { let b = w.lowest(); ..; w = w.without_lowest();
--- }`: its invariant is `each elements f s (number_of w) ≡ r`, with r the run from the start, and its measure `number_of
--- w`. Each law takes what `is_empty` ensures, the loop's test, and what `lowest` and `without_lowest` ensure.
+-- What a test `if w.is_empty()` says, and what a loop over the members of a set goes by that is made by hand, `while
+-- !w.is_empty() { let b = w.lowest(); ..; w = w.without_lowest(); }`: its invariant is `each elements f s (number_of w)
+-- ≡ r`, with r the run from the start, and its measure `number_of w`. Each law takes what `is_empty` ensures, the test
+-- of the loop, and what `lowest` and `without_lowest` ensure.
 use Rattle.std.proofs.Common.{◌≡◌, ℕ, ◌<◌, Bool, true, false, eqb, sym, ◌∙◌, eqb-true}
 use borrow.Author.Tests.{eqb-false}
 use Rattle.words.specs.model.Loops.{each}
@@ -31,8 +32,10 @@ module _ (w : Set) (t : Bool) (e : Empty w t) where
   listing_less v h q = rest_less (number_of w) (is_some h) (number_of_lem v q)
 
   module _ {S : Type 0} (f : S → ℕ → S) (s : S) {r : S} (run : each elements f s (number_of w) ≡ r) where
-    pub listing_again : (b : ℕ) (v : Set) {s' : S} → t ≡ false → b ≡ lowest_of w → s' ≡ f s b → v ≡ without_lowest w → each elements f s' (number_of v) ≡ r
-    listing_again b v h q p x = (each_again elements f s (number_of w) b (is_some h) (run, in_bound e.1) q p (number_of_lem v x)).0
+    pub listing_again : (b : ℕ) (v : Set) {s' : S} → t ≡ false → b ≡ lowest_of w → s' ≡ f s b → v ≡ without_lowest w
+        → each elements f s' (number_of v) ≡ r
+    listing_again b v h q p x =
+        (each_again elements f s (number_of w) b (is_some h) (run, in_bound e.1) q p (number_of_lem v x)).0
 
     pub listing_end : t ≡ true → s ≡ r
     listing_end h = each_end elements f s (number_of w) (is_none h) (run, in_bound e.1)

@@ -1,5 +1,5 @@
 -- The places at which a function is not 0, and those of a list: those of its two halves together.
-use Rattle.std.proofs.Common.{◌≡◌, ℕ, zero, suc, ◌+◌, ◌-◌, ◌*◌, ◌%◌, ◌^◌, ◌<◌, ◌≤◌, Bool, true, false, cond, eqb, List, get_or, drop, sym, refl, ap, ◌∙◌, ⊎_elim, add-zero, add-suc, mul_comm, zero-add, zero-mul, add-one, arith, get_or-drop, pow_pos, pow-add, eq-eqb, ne_eqb}
+use Rattle.std.proofs.Common.{◌≡◌, ℕ, zero, suc, ◌+◌, ◌-◌, ◌*◌, ◌%◌, ◌^◌, ◌<◌, ◌≤◌, Bool, true, false, cond, eqb, List, get_or, take, drop, sym, refl, ap, ◌∙◌, ⊎_elim, add-zero, add-suc, mul_comm, zero-add, zero-mul, add-one, arith, get_or-take, get_or-drop, pow_pos, pow-add, eq-eqb, ne_eqb}
 use lib.Bits.{bit_or, or_zero_r, or_block}
 use lib.Pow.{low}
 use Rattle.words.specs.Bits.{digit, with_bit}
@@ -79,6 +79,12 @@ pub positive_more : (a : List ℕ) (i w d x : ℕ) → w ≡ positive i a → d 
 positive_more a i w d x e q p = nonzero_more (λ j. get_or a j 0) i w (bit_or w d) e (ap (bit_or w) q ∙ picked (eqb x 0) w (2 ^ i) ∙ ap (λ (y : ℕ). noted w i y) p)
 
 -- ---- halves
+
+-- the places of a list are those of its front
+pub positive_front : (n : ℕ) (a : List ℕ) (k : ℕ) → k ≤ n → positive k (take n a) ≡ positive k a
+unfolding nonzero
+positive_front n a zero h = refl
+positive_front n a (suc k) h = rw (get_or-take n a k 0 (omega arith), positive_front n a k (omega arith)) refl
 
 pub positive_fits : (n : ℕ) (a : List ℕ) → positive n a < 2 ^ n
 unfolding nonzero

@@ -1,5 +1,5 @@
 -- What is known of sets as they are stored, and of tables of them: all that any other file goes by.
-use Rattle.std.proofs.Common.{◌≡◌, ℕ, ◌-◌, ◌^◌, ◌<◌, ◌≤◌, true, List, length, get_or, replicate, sym, refl, ap, ◌∙◌, arith, length-set, get_or-set_other, get_or-set_same, ext_get_or, pow_pos}
+use Rattle.std.proofs.Common.{◌≡◌, ℕ, ◌-◌, ◌^◌, ◌<◌, ◌≤◌, Bool, true, List, length, get_or, replicate, sym, refl, ap, ◌∙◌, arith, length-set, get_or-set_other, get_or-set_same, ext_get_or, pow_pos}
 use native.Mathlib.Decide.{dec_lt, ℕ_discrete}
 use lib.Pow.{ones_lt}
 use lib.ListN.{length-replicate, get_or-eq_default}
@@ -55,6 +55,10 @@ everyone_bit i h = all_ones elements i h
 -- the same of a set that code has in hand
 pub number_of_lem : (s : Set) {w : ℕ} → s ≡ set_of w → number_of s ≡ w
 number_of_lem s {w} e = ap number_of e ∙ number_set w
+
+-- what `has` says of a row that code read
+pub row_asked : (s : Set) (w j : ℕ) {t r : Bool} → s ≡ set_of w → r ≡ bit (number_of s) j → r ≡ t → bit w j ≡ t
+row_asked s w j e q p = sym (ap (λ (v : ℕ). bit v j) (number_of_lem s e)) ∙ sym q ∙ p
 
 -- ---- a table of sets
 

@@ -1,7 +1,9 @@
 -- Sets of elements, as the numbers that they mean.
-use Rattle.std.specs.Prelude.{ℕ, ◌^◌, Bool, bit_and, bit_or}
+use Rattle.std.specs.Prelude.{ℕ, ◌^◌, Bool, nat_lt, bit_and, bit_or, List, Option}
+use Rattle.std.specs.Bool.{then_some}
 use Rattle.words.specs.Bits.{bit, with_bit, minus, rest}
 use Rattle.words.specs.Members.{count, first}
+use Rattle.words.specs.Listing.{members}
 use Rattle.order.specs.declared.Set.{Set}
 use Rattle.order.specs.Stored.{elements, number_of, set_of}
 
@@ -37,6 +39,15 @@ size_of s = count elements (member s)
 abbrev pub lowest_of : Set → ℕ
 lowest_of s = first elements (member s)
 
+-- a number below the number of elements, or none: how code hands out a first element, where the number of
+-- elements stands for none
+unfoldable pub found : ℕ → Option ℕ
+found i = then_some (nat_lt i elements) i
+
 -- the set without its lowest member: with what a listing goes on
 abbrev pub without_lowest : Set → Set
 without_lowest s = set_of (rest (number_of s))
+
+-- the members, ascending: what a loop over a set goes through
+unfoldable pub listed : Set → List ℕ
+listed s = members elements (number_of s)

@@ -6,6 +6,7 @@ ghost use Rattle.order.specs.Orders.{without_arc, some_before};
 use crate::{Rows, Set, put_row, row};
 
 // The arcs without that from one element to another.
+#[tactic(auto, using(crate::proofs::Stored::number_of_lem), unfolding(crate::specs::Orders::without_arc))]
 pub fn without_arc(arcs: &mut Rows, from: usize, to: usize)
     requires { (from < elements) × (to < elements) }
     ensures { arcs.new ≡ without_arc arcs.old from to }
@@ -15,17 +16,15 @@ pub fn without_arc(arcs: &mut Rows, from: usize, to: usize)
 }
 
 // Whether a member of a set is before j, by the sets of what each element is before.
+#[tactic(auto, using(crate::proofs::Turns::member_below))]
 pub fn some_before(rows: &Rows, w: Set, j: usize) -> bool
     requires { j < elements }
     ensures { result ≡ some_before rows.now w j }
 {
-    let mut left = w;
-    while !left.is_empty() {
-        let k = left.lowest();
+    for k in w {
         if row(rows, k).has(j) {
             return true;
         }
-        left = left.without_lowest();
     }
     false
 }

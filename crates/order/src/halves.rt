@@ -36,13 +36,12 @@ pub fn places_word(a: &[u32; ELEMENTS], m: usize) -> words::Word
 {
     let mut low: u32 = 0;
     let mut high: u32 = 0;
-    let mut i: usize = 0;
-    while i < HALF {
-        low = low | half_bit(a[i], i);
-        high = high | half_bit(a[HALF + i], i);
-        i += 1;
+    let (first, second) = a.split_at(HALF);
+    for (i, x) in first.iter().enumerate() {
+        low |= half_bit(*x, i);
+        // by the index: of a `zip` of the halves the proof did not close
+        high |= half_bit(second[i], i);
     }
-    let upper = words::wide(high);
-    let word = (upper << 32) | words::wide(low);
+    let word = (u64::from(high) << HALF) | u64::from(low);
     lowest_bits(word, m)
 }

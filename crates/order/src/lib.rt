@@ -4,7 +4,7 @@
 ghost use Rattle.std.specs.Prelude.{◌≡◌, ◌%◌, ◌^◌, ◌<◌, ◌≤◌, length, ◌==◌};
 ghost use Rattle.order.specs.Stored.{elements, bound, cells, row, put_row, set_of, number_of, RowsFit};
 ghost use Rattle.order.specs.Sets.{member, empty_set, with_element, without_element, union_of, meet_of, minus_of};
-ghost use Rattle.order.specs.Sets.{size_of, lowest_of, without_lowest};
+ghost use Rattle.order.specs.Sets.{size_of, lowest_of, found, without_lowest};
 ghost use Rattle.order.specs.model.Warshall.{passed};
 ghost use Rattle.order.specs.model.Places.{positive};
 ghost use Rattle.order.specs.Orders.{empty_order, extended, extended_by, is_before, after_of, after_rows, circle_of};
@@ -16,31 +16,34 @@ use transitive::{add_row, close, gain_all};
 
 mod fewer;
 mod halves;
+mod members;
 mod transitive;
 
-// How many elements there are.
+// How many elements there are. (That an index is below this stands in each contract: a type for it would ask more of
+// callers, and be taken apart at each use. Tables are arrays of this width, with a count beside them: there is no
+// heap.)
 pub const ELEMENTS: usize = 64;
 
 // How many words a table of ELEMENTS sets takes.
 pub const CELLS: usize = ELEMENTS;
 
-// A table of sets, one for each element; `row` and `put_row` read and write it.
+// A table of sets, one for each element; `row` and `put_row` read and write it. (Of words, not of sets: C lends such
+// tables, and the definitions and theorems that go by `row` speak of lists of words. So loops go by the index.)
 pub type Rows = [words::Word; CELLS];
 
 // A set of elements: bit i of the word stands for the element i.
-#[derive(Clone, Copy)]
+#[derive(Clone, Copy, PartialEq, Eq)]
 pub struct Set {
     word: words::Word,
 }
 
+#[tactic(auto, unfolding(crate::specs::Stored::number_of, crate::specs::Stored::set_of, crate::specs::Stored::bound))]
 impl Set {
     // The set without elements.
     pub const EMPTY: Set = Set { word: 0 };
 
     // The set of all elements.
-    pub const ALL: Set = Set {
-        word: 18446744073709551615,
-    };
+    pub const ALL: Set = Set { word: u64::MAX };
 
     // Whether i is a member.
     pub fn has(self, i: usize) -> bool
@@ -119,7 +122,7 @@ impl Set {
         requires { k < elements }
         ensures { number_of result ≡ passed k (number_of gain) (number_of self) }
     {
-        let all = std::num::wrapping_sub_u64(0, (self.word >> k) % 2);
+        let all = ((self.word >> k) % 2).wrapping_neg();
         Set {
             word: self.word | (gain.word & all),
         }
@@ -139,11 +142,12 @@ impl Set {
         words::size(self.word)
     }
 
-    // The lowest member, and ELEMENTS where there is none.
-    pub fn lowest(self) -> usize
-        ensures { result ≡ lowest_of self }
+    // The lowest member. (A loop learns by this, too, that the number of the set has a digit for each element.)
+    pub fn lowest(self) -> Option<usize>
+        ensures { (result ≡ found (lowest_of self)) × (number_of self < bound) }
     {
-        words::lowest(self.word)
+        let word = self.word;
+        (word != 0).then_some(words::lowest(word))
     }
 
     // The set without its lowest member; where there is none, the same set.
@@ -161,6 +165,7 @@ impl Set {
 }
 
 // Those of the m first places of a list at which it is not 0.
+#[tactic(auto, unfolding(crate::specs::Stored::number_of))]
 pub fn places(a: &[u32; ELEMENTS], m: usize) -> Set
     requires { m ≤ elements }
     ensures { number_of result ≡ positive m a.now }
@@ -171,6 +176,7 @@ pub fn places(a: &[u32; ELEMENTS], m: usize) -> Set
 }
 
 // The set in row i.
+#[tactic(auto, unfolding(crate::specs::Stored::row, crate::specs::Stored::set_of))]
 pub fn row(rows: &Rows, i: usize) -> Set
     requires { i < elements }
     ensures { result ≡ set_of (row rows.now i) }
@@ -179,6 +185,7 @@ pub fn row(rows: &Rows, i: usize) -> Set
 }
 
 // The set in row i becomes s.
+#[tactic(auto, unfolding(crate::specs::Stored::put_row, crate::specs::Stored::number_of))]
 pub fn put_row(rows: &mut Rows, i: usize, s: Set)
     requires { i < elements }
     ensures { rows.new ≡ put_row rows.old i (number_of s) }
@@ -192,6 +199,7 @@ pub struct Order {
     rows: Rows,
 }
 
+#[tactic(auto, unfolding(crate::specs::Stored::cells, crate::specs::Orders::after_rows))]
 impl Order {
     // The order without arcs.
     pub fn empty() -> Self
@@ -214,20 +222,19 @@ impl Order {
 
     // The order with further arcs, given as rows: each arc that it does not hold yet is added. (From the last row
     // down: in a plan that is numbered along its order the row of an arc's end is then complete, and most of the arcs
-    // after it are held already.)
+    // after it are held already. By the index: see `Rows`.)
     pub fn with_arcs(self, arcs: Rows) -> Self
         ensures { result ≡ extended_by self arcs }
     {
         let mut rows = self.rows;
-        let mut i = ELEMENTS;
-        while i > 0 {
-            i -= 1;
+        for i in (0..ELEMENTS).rev() {
             add_row(&mut rows, i, row(&arcs, i));
         }
         Order { rows }
     }
 
     // Whether i is before j.
+    #[tactic(auto, using(crate::proofs::Stored::number_of_lem))]
     pub fn before(self, i: usize, j: usize) -> bool
         requires { (i < elements) × (j < elements) }
         ensures { result ≡ is_before self i j }
@@ -250,16 +257,11 @@ impl Order {
         self.rows
     }
 
-    // The lowest element that is before itself, and ELEMENTS where there is none.
-    pub fn circle(self) -> usize
-        ensures { result ≡ circle_of self }
+    // The lowest element that is before itself. (By the index: see `Rows`.)
+    pub fn circle(self) -> Option<usize>
+        ensures { result ≡ found (circle_of self) }
     {
-        for i in 0..ELEMENTS {
-            if row(&self.rows, i).has(i) {
-                return i;
-            }
-        }
-        ELEMENTS
+        (0..ELEMENTS).find(|&i| row(&self.rows, i).has(i))
     }
 
     // The order of arcs that are given as rows: from i to each member of row i.
@@ -283,7 +285,7 @@ impl Order {
     }
 }
 
-// Two tables of arcs together.
+// Two tables of arcs together. (By the index: see `Rows`.)
 pub fn joined(a: Rows, b: Rows) -> Rows
     ensures { result ≡ joined_rows a b }
 {

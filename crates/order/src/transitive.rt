@@ -8,7 +8,7 @@ ghost use Rattle.order.specs.Orders.{after_rows, order_in};
 
 use crate::{ELEMENTS, Rows, Set, put_row, row};
 
-// What is before k becomes before all of `gain`.
+// What is before k becomes before all of `gain`. (By the index: a row is read and put as a set; see `Rows`.)
 fn pass_by(rows: &mut Rows, k: usize, gain: Set)
     requires { k < elements }
     ensures { rows.new ≡ passing_by elements k (number_of gain) rows.old }
@@ -20,6 +20,7 @@ fn pass_by(rows: &mut Rows, k: usize, gain: Set)
 }
 
 // x and what is before x become before all of `gain`.
+#[tactic(auto, using(crate::proofs::Stored::number_of_lem))]
 pub fn gain_all(rows: &mut Rows, x: usize, gain: Set)
     requires { x < elements }
     ensures { rows.new ≡ gaining elements x (number_of gain) rows.old }
@@ -30,6 +31,7 @@ pub fn gain_all(rows: &mut Rows, x: usize, gain: Set)
 }
 
 // Whatever is before k becomes before all that k is before.
+#[tactic(auto, using(crate::proofs::Stored::number_of_lem))]
 fn pass(rows: &mut Rows, k: usize)
     requires { k < elements }
     ensures { rows.new ≡ passing elements k rows.old }
@@ -38,7 +40,7 @@ fn pass(rows: &mut Rows, k: usize)
     pass_by(rows, k, gain);
 }
 
-// The elements at which an arc ends.
+// The elements at which an arc ends. (By the index: see `Rows`.)
 fn ends_of(rows: &Rows) -> Set
     ensures { number_of result ≡ ends_in elements rows.now }
 {
@@ -50,6 +52,7 @@ fn ends_of(rows: &Rows) -> Set
 }
 
 // The same as `pass`, where an arc ends at k and k leads somewhere; else there is nothing to do.
+#[tactic(auto, using(crate::proofs::Stored::number_of_lem))]
 fn pass_over(rows: &mut Rows, ends: Set, k: usize)
     requires { k < elements }
     ensures { rows.new ≡ passing_over elements (number_of ends) k rows.old }
@@ -64,7 +67,7 @@ fn pass_over(rows: &mut Rows, ends: Set, k: usize)
 
 // The rows of arcs become those of their order. (Warshall's closure: one element after the other becomes a way
 // through. Most elements of a sparse plan lead nowhere, or nothing leads to them: those are passed over. In place,
-// so that no rows are copied.)
+// so that no rows are copied. By the index: see `Rows`.)
 pub fn close(rows: &mut Rows)
     requires { (length rows.old ≡ cells elements) × RowsFit elements rows.old }
     ensures { rows.new ≡ after_rows (order_in rows.old) }
@@ -87,8 +90,7 @@ pub fn add_row(rows: &mut Rows, i: usize, to: Set)
         return;
     }
     let mut gain = Set::EMPTY;
-    while !w.is_empty() {
-        let j = w.lowest();
+    while let Some(j) = w.lowest() {
         gain = gain.union(row(rows, j).with(j));
         w = w.minus(gain);
     }

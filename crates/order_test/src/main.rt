@@ -9,20 +9,11 @@ use std::io;
 
 const LAST: usize = ELEMENTS - 1;
 
-fn print_number(rt: &impl Print, x: usize) -> io::Result<()> {
-    print!(rt; "{x}")
-}
-
 // The members of a set, ascending, numbered from 1 as activities are.
+#[tactic(auto, using(order::proofs::Turns::member_below))]
 fn print_members(rt: &impl Print, s: Set) -> io::Result<()> {
-    let mut left = s;
-    for _k in 0..ELEMENTS {
-        let low = left.lowest();
-        if low < ELEMENTS {
-            print!(rt; " ")?;
-            print_number(rt, low + 1)?;
-            left = left.without_lowest();
-        }
+    for i in s {
+        print!(rt; " {}", i + 1)?;
     }
     Ok(())
 }
@@ -31,22 +22,17 @@ fn print_row(rt: &impl Print, o: Order, i: usize) -> io::Result<()>
     requires { i < elements }
 {
     let s = o.after(i);
-    print_number(rt, i + 1)?;
-    print!(rt; " is before")?;
+    print!(rt; "{} is before", i + 1)?;
     print_members(rt, s)?;
-    print!(rt; ", ")?;
-    print_number(rt, s.size())?;
-    println!(rt; " in all")
+    println!(rt; ", {} in all", s.size())
 }
 
+#[tactic(auto, using(order::proofs::Sets::some_found))]
 fn print_circle(rt: &impl Print, o: Order) -> io::Result<()> {
-    let lowest = o.circle();
-    if lowest < ELEMENTS {
-        print!(rt; "circle at ")?;
-        print_number(rt, lowest + 1)?;
-        return println!(rt; "");
+    match o.circle() {
+        Some(i) => println!(rt; "circle at {}", i + 1),
+        None => println!(rt; "no circle"),
     }
-    println!(rt; "no circle")
 }
 
 fn print_order(rt: &impl Print, o: Order) -> io::Result<()> {
@@ -64,7 +50,7 @@ fn print_test(rt: &impl Print, holds: bool) -> io::Result<()> {
     println!(rt; "no")
 }
 
-// The arcs from i to i + 1, for i below LAST, as rows; the last row is `end`.
+// The arcs from i to i + 1, for i below LAST, as rows; the last row is `end`. (By the index: see order's `Rows`.)
 fn line(end: Set) -> Rows {
     let mut rows = [0; CELLS];
     for i in 0..LAST {

@@ -6,18 +6,18 @@ use Prim.Native.Nat.{ℕ, ◌≤◌, ◌<◌}
 use native.Mathlib.Omega.{arith}
 use lib.ListN.{length}
 use Rattle.words.proofs.Tests.{by_test}
-use Rattle.plan.specs.declared.Answer.TheVariants.{Refused}
+use Rattle.std.specs.Prelude.{Err}
 use Rattle.plan.specs.declared.Cause.{Cause}
 use Rattle.plan.specs.declared.Cause.TheVariants.{Length}
 use Rattle.plan.specs.Causes.{cause_at, is_length, answer_of}
-use Rattle.plan.specs.Numbers.{told_by}
+use Rattle.plan.specs.Numbers.{told_by, place_of}
 use Rattle.plan.proofs.RecordRules.{Holds, cause_holds}
 use Rattle.plan.proofs.Refused.{length_says, refused_length, refused_means}
 
 -- the number has 8 bits, and the place is at most p
 pub record Within (p : ℕ) (c : Cause) : Type 0 where
   pub number : (told_by c).number < 256
-  pub place : (told_by c).place ≤ p
+  pub place : place_of (told_by c) ≤ p
 
 -- the same of a cause that is said otherwise
 within_of : {p : ℕ} {c d : Cause} → c ≡ d → Within p d → Within p c
@@ -25,7 +25,7 @@ within_of {p} e w = subst (Within p) (sym e) w
 
 -- ---- a refusal at a record tells that record's place
 
-cause_within : (s : List ℕ) (p : ℕ) (c : Cause) → cause_at s p ≡ Refused c → Within p c
+cause_within : (s : List ℕ) (p : ℕ) (c : Cause) → cause_at s p ≡ Err c → Within p c
 cause_within s p c e =
     subst (Holds (Within p)) e
     (cause_holds (Within p) s p
@@ -37,7 +37,7 @@ cause_within s p c e =
 
 -- ---- a file that is refused for its length tells no place, and others have at most 2,048 records
 
-pub told_small : (s : List ℕ) (c : Cause) → answer_of s ≡ Refused c → Within 2048 c
+pub told_small : (s : List ℕ) (c : Cause) → answer_of s ≡ Err c → Within 2048 c
 told_small s c e =
     by_test (is_length (length s))
     (λ legal.

@@ -15,11 +15,10 @@ use Rattle.words.proofs.Tables.{table_same}
 use Rattle.records.specs.Bytes.{byte, field, zeros}
 use Rattle.records.proofs.Fields.{field_same}
 use Rattle.order.specs.Stored.{elements}
-use Rattle.plan.specs.declared.Answer.{Answer}
-use Rattle.plan.specs.declared.Answer.TheVariants.{Readable}
+use Rattle.std.specs.Prelude.{Ok}
 use Rattle.plan.specs.declared.Cause.TheVariants.{RecordType, Field, Spare, RepeatedArc}
 use Rattle.plan.specs.Records.{record_at, record_count, type_at, leading, activity_count, job_count, due_type, activity_fields, demand_in, demands_some, demands_of, crew_fields, crew_spare, arc_fields, arc_spare, same_pair, arc_repeats}
-use Rattle.plan.specs.Causes.{rule, is_readable, activity_cause, crew_cause, arc_cause, cause_at, first_refusal, records_cause, answer_of}
+use Rattle.plan.specs.Causes.{Answer, rule, is_readable, activity_cause, crew_cause, arc_cause, cause_at, first_refusal, records_cause, answer_of}
 use Rattle.plan.specs.Meaning.{Names, file_duration, file_demand, file_kinds, file_available, JobArc, ExtraArc}
 use Rattle.plan.specs.Differing.{OnlyInWaits}
 use Rattle.plan.specs.model.Plans.{plan_of}
@@ -28,7 +27,7 @@ use Rattle.plan.proofs.Refusals.{refusal_cong}
 use Rattle.plan.proofs.Places.{record_on, leading_same}
 use Rattle.plan.proofs.RecordRules.{zeros_same, rule_kept, rule_before, rule_same, at_activity, at_crew, at_arc}
 use Rattle.plan.proofs.Parts.{activity_typed, crew_fine}
-use Rattle.plan.proofs.Phases.{outcome, outcome_cong}
+use Rattle.plan.proofs.Phases.{reading, reading_cong}
 use Rattle.plan.proofs.Said.{readable_faultless, plan_same}
 
 -- ---- RECORDS WITH THE SAME BYTES keep the same rules
@@ -64,10 +63,11 @@ pub crew_same : (place : ℕ) (demand q r : List ℕ) → byte q 0 ≡ byte r 0 
 unfolding crew_cause
 crew_same place demand q r typed same =
     rule_same (Spare place)
-    (rule_same (Field place) (ap (λ (b : ℕ). rule Readable (eqb b 2) (RecordType place)) typed) (λ e. crew_fields_lem q r (crewed e) demand))
+    (rule_same (Field place) (ap (λ (b : ℕ). rule (Ok tt) (eqb b 2) (RecordType place)) typed)
+    (λ e. crew_fields_lem q r (crewed e) demand))
     (λ e. crew_spare_lem q r (crewed (rule_before _ _ _ e)))
   where
-    crewed : is_readable (rule Readable (eqb (byte q 0) 2) (RecordType place)) ≡ true → SameBytes q r
+    crewed : is_readable (rule (Ok tt) (eqb (byte q 0) 2) (RecordType place)) ≡ true → SameBytes q r
     crewed e = same (eqb-true (byte q 0) 2 (rule_kept _ _ _ e))
 
 -- ---- RECORDS WITH THE SAME BYTES BUT FOR THE WAIT keep the same rules of arcs, and name the same arcs
@@ -219,4 +219,5 @@ module _ (s t : List ℕ) (W : OnlyInWaits s t) where
 -- FILES THAT DIFFER ONLY IN WAITS ARE READ ALIKE, whether they are readable or not
 pub only_in_waits : (s t : List ℕ) → OnlyInWaits s t → read_of s ≡ read_of t
 unfolding read_of
-only_in_waits s t W = ap (λ (a : Answer). outcome a (plan_of s)) (answers s t W) ∙ outcome_cong (answer_of t) (plans s t W)
+only_in_waits s t W = ap (λ (a : Answer). reading a (plan_of s)) (answers s t W)
+    ∙ reading_cong (answer_of t) (plans s t W)

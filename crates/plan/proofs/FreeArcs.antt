@@ -1,21 +1,21 @@
 -- The extra arcs with wait 0, as rows: what is read record by record, and what the rows hold of a readable file.
 use mathlib.Core.Path.{◌≡◌, refl, sym, ap, ◌∙◌}
-use mathlib.Core.Bool.{true, cond}
+use mathlib.Core.Bool.{true}
 use mathlib.Core.List.{List}
-use mathlib.Core.Logic.{◌↔◌, ◌≢◌}
+use mathlib.Core.Logic.{◌↔◌}
 use Prim.Native.Nat.{ℕ, ◌+◌, ◌-◌}
 use native.Mathlib.Omega.{arith}
 use lib.Dec.{eqb}
 use lib.ListN.{replicate}
 use borrow.Author.Tests.{eqb-true, eq-eqb}
 use Rattle.words.specs.model.Loops.{upto}
-use Rattle.words.proofs.Tests.{fails, and_both, and_left, and_right, cond_true, cond_false}
+use Rattle.words.proofs.Tests.{fails, and_both, and_left, and_right}
 use Rattle.records.specs.Bytes.{byte}
 use Rattle.order.specs.Rows.{after}
 use Rattle.order.specs.Stored.{elements, cells}
 use Rattle.plan.specs.Records.{record_at, record_count, activity_count, wait_in}
 use Rattle.plan.specs.Meaning.{Readable, ExtraArc, extra_wait}
-use Rattle.plan.specs.model.ArcRows.{with_arc, picked_up_to, is_free, put_free, free_rows}
+use Rattle.plan.specs.model.ArcRows.{picked_up_to, is_free, put_free, free_rows}
 use Rattle.plan.proofs.RecordRules.{arc_of}
 use Rattle.plan.proofs.Arcs.{picked_none_before, picked_run}
 use Rattle.plan.proofs.Parts.{crew_fine, no_arc}
@@ -34,17 +34,6 @@ module _ (r : List ℕ) where
 
   free_wait : is_free r ≡ true → wait_in r ≡ 0
   free_wait t = eqb-true (wait_in r) 0 (and_right (eqb (byte r 0) 4) (eqb (wait_in r) 0) t)
-
-  -- what it makes of the rows: of another type, with a wait, and with none
-  module _ (rows : List ℕ) where
-    pub free_other : byte r 0 ≢ 4 → rows ≡ cond (is_free r) (with_arc r rows) rows
-    free_other ne = sym (cond_false (with_arc r rows) rows (fails (is_free r) (λ t. ne (free_typed t))))
-
-    pub free_waits : wait_in r ≢ 0 → rows ≡ cond (is_free r) (with_arc r rows) rows
-    free_waits ne = sym (cond_false (with_arc r rows) rows (fails (is_free r) (λ t. ne (free_wait t))))
-
-    pub free_here : byte r 0 ≡ 4 → wait_in r ≡ 0 → with_arc r rows ≡ cond (is_free r) (with_arc r rows) rows
-    free_here e w = sym (cond_true (with_arc r rows) rows (is_free_lem e w))
 
 -- ---- the records of a file
 

@@ -9,13 +9,13 @@ use lib.Dec.{ltb}
 use borrow.Author.Tests.{lt-ltb, le-ltb, ltb-true, ltb-false}
 use Rattle.words.proofs.Tests.{by_test, clash}
 use Rattle.words.proofs.Firsts.{some_found, some_here}
-use Rattle.plan.specs.declared.Answer.TheVariants.{Refused}
+use Rattle.std.specs.Prelude.{Err}
 use Rattle.plan.specs.declared.Cause.{Cause}
 use Rattle.plan.specs.declared.Cause.TheVariants.{MilestoneDemand}
 use Rattle.plan.specs.Records.{record_at, activity_count, activity_fields, activity_timed, demand_in, demands_some, duration_in}
 use Rattle.plan.specs.Causes.{rule, activity_cause, is_length, answer_of}
-use Rattle.plan.specs.Numbers.{told_by}
-use Rattle.plan.specs.Meaning.{Readable as IsReadable, Milestone, file_duration, file_demand}
+use Rattle.plan.specs.Numbers.{told_by, place_of}
+use Rattle.plan.specs.Meaning.{Readable, Milestone, file_duration, file_demand}
 use Rattle.plan.specs.Refused.{FirstFault, DemandingMilestone}
 use Rattle.plan.proofs.RecordRules.{rule_kept, rule_before, at_activity, cause_holds}
 use Rattle.plan.proofs.Parts.{activities_within, activity_fine}
@@ -42,7 +42,8 @@ timed_not r e =
     go false false e = clash refl e
 
 -- A READABLE FILE'S MILESTONES DEMAND NOBODY
-pub milestone_idle : (s : List ℕ) → IsReadable s → (i k : ℕ) → i < activity_count s → k < 8 → Milestone s i → file_demand s k i ≡ 0
+pub milestone_idle : (s : List ℕ) → Readable s → (i k : ℕ) → i < activity_count s → k < 8 → Milestone s i
+    → file_demand s k i ≡ 0
 unfolding file_duration file_demand activity_cause
 milestone_idle s e i k h l z =
     let r = record_at s i in
@@ -52,7 +53,7 @@ milestone_idle s e i k h l z =
 
 -- ---- 12 OF A FILE, both ways
 
-pub demanding_refused : (s : List ℕ) (p : ℕ) → DemandingMilestone s p → answer_of s ≡ Refused (MilestoneDemand p)
+pub demanding_refused : (s : List ℕ) (p : ℕ) → DemandingMilestone s p → answer_of s ≡ Err (MilestoneDemand p)
 unfolding file_duration file_demand activity_cause rule
 demanding_refused s p D =
     fault_refused s p (MilestoneDemand p) D.legal
@@ -63,16 +64,17 @@ demanding_refused s p D =
       before = D.before;
     })
 
-pub refused_demanding : (s : List ℕ) (p : ℕ) → answer_of s ≡ Refused (MilestoneDemand p) → DemandingMilestone s p
+pub refused_demanding : (s : List ℕ) (p : ℕ) → answer_of s ≡ Err (MilestoneDemand p) → DemandingMilestone s p
 unfolding file_duration file_demand
 refused_demanding s p e =
     refused_holds Means s (MilestoneDemand p) (λ q. omega arith) (λ q. omega arith) e
     (λ legal q F. cause_holds Means s q (λ x. absurd (omega arith)) (λ x. absurd (omega arith)) (at_record legal q F) (λ x. absurd (omega arith)) (λ _ _ _ x. absurd (omega arith))) refl refl
   where
     Means : Cause → Type 0
-    Means c = (told_by c).number ≡ 12 → (told_by c).place ≡ p → DemandingMilestone s p
+    Means c = (told_by c).number ≡ 12 → place_of (told_by c) ≡ p → DemandingMilestone s p
 
-    at_record : is_length (length s) ≡ true → (q : ℕ) → FirstFault s q (Refused (MilestoneDemand p)) → q < activity_count s → activity_fields q (record_at s q) ≡ true
+    at_record : is_length (length s) ≡ true → (q : ℕ) → FirstFault s q (Err (MilestoneDemand p)) → q < activity_count s
+        → activity_fields q (record_at s q) ≡ true
         → activity_timed (record_at s q) ≡ false → Means (MilestoneDemand q)
     at_record legal q F activity fields broken _ here =
         let d = timed_not (record_at s q) broken in

@@ -13,12 +13,11 @@ use Rattle.words.specs.model.Loops.{upto}
 use Rattle.words.proofs.Tests.{cond_true, cond_false, false_of_not}
 use Rattle.records.specs.Bytes.{byte}
 use Rattle.order.specs.Stored.{elements, cells}
-use Rattle.plan.specs.declared.Answer.{Answer}
-use Rattle.plan.specs.declared.Answer.TheVariants.{Readable, Refused}
+use Rattle.std.specs.Prelude.{Ok, Err}
 use Rattle.plan.specs.declared.Cause.TheVariants.{RecordType}
 use Rattle.plan.specs.Records.{record_at, record_count, type_at, activity_count, job_count, due_type, activities, arc_repeats, demands_of}
 use Rattle.plan.specs.model.ArcRows.{arcs_up_to, arc_rows}
-use Rattle.plan.specs.Causes.{is_readable, activity_cause, cause_at, first_refusal, followed_by, crew_there, records_cause}
+use Rattle.plan.specs.Causes.{Answer, is_readable, activity_cause, cause_at, first_refusal, followed_by, crew_there, records_cause}
 use Rattle.plan.specs.model.Phases.{put_arc}
 use Rattle.plan.proofs.Refusals.{followed_left, followed_right, all_readable, none_refused}
 use Rattle.plan.proofs.Places.{record_on, leading_le, leading_typed}
@@ -34,11 +33,12 @@ pub activities_within : (s : List ℕ) → activity_count s ≤ record_count s
 activities_within s = leading_le 1 (record_count s) s
 
 -- the missing crew record
-pub crew_missing : (s : List ℕ) → activity_count s ≡ record_count s → crew_there s ≡ Refused (RecordType (record_count s))
-crew_missing s e = cond_true (Refused (RecordType (record_count s))) Readable (eq-eqb (activity_count s) (record_count s) e)
+pub crew_missing : (s : List ℕ) → activity_count s ≡ record_count s → crew_there s ≡ Err (RecordType (record_count s))
+crew_missing s e = cond_true (Err (RecordType (record_count s))) (Ok tt) (eq-eqb (activity_count s) (record_count s) e)
 
-pub crew_there_lem : (s : List ℕ) → activity_count s < record_count s → crew_there s ≡ Readable
-crew_there_lem s h = cond_false (Refused (RecordType (record_count s))) Readable (ne_eqb (activity_count s) (record_count s) (λ e. omega arith))
+pub crew_there_lem : (s : List ℕ) → activity_count s < record_count s → crew_there s ≡ Ok tt
+crew_there_lem s h = cond_false (Err (RecordType (record_count s))) (Ok tt)
+    (ne_eqb (activity_count s) (record_count s) (λ e. omega arith))
 
 pub crew_or_missing : (s : List ℕ) → (activity_count s ≡ record_count s) ⊎ (activity_count s < record_count s)
 crew_or_missing s = eq-or-lt_of_le (activities_within s)
@@ -54,7 +54,7 @@ faultless s e =
       crewed = ⊎_elim (λ q. absurd (false≢true (sym (ap is_readable (crew_missing s q)) ∙ c))) (λ l. l) (crew_or_missing s);
     }
 
-pub faultless_says : (s : List ℕ) → Faultless s → records_cause s ≡ Readable
+pub faultless_says : (s : List ℕ) → Faultless s → records_cause s ≡ Ok tt
 unfolding records_cause
 faultless_says s F = ap (λ (a : Answer). followed_by a (crew_there s)) (none_refused (record_count s) (cause_at s) F.fine) ∙ crew_there_lem s F.crewed
 

@@ -11,16 +11,15 @@ use Rattle.words.specs.model.Loops.{upto}
 use Rattle.words.specs.Tables.{table}
 use Rattle.records.specs.Bytes.{byte}
 use Rattle.order.specs.Stored.{elements, cells}
-use Rattle.plan.specs.declared.Answer.{Answer}
-use Rattle.plan.specs.declared.Answer.TheVariants.{Readable, Refused}
+use Rattle.std.specs.Prelude.{Ok, Err}
+use Rattle.plan.specs.declared.Cause.{Cause}
 use Rattle.plan.specs.declared.Cause.TheVariants.{Length, RecordType, RepeatedArc}
 use Rattle.plan.specs.declared.Plan.{Plan}
-use Rattle.plan.specs.declared.Reading.{Reading}
 use Rattle.plan.specs.Records.{record_at, record_count, type_at, activity_count, job_count, leading, available_in, due_type, arc_repeats, demands_of}
 use Rattle.plan.specs.Meaning.{file_kinds, file_available}
 use Rattle.plan.specs.model.Plans.{plan_of, empty_plan, durations_of, available_of}
-use Rattle.plan.specs.Causes.{rule, is_readable, activity_cause, crew_cause, arc_cause, cause_at, first_refusal, followed_by, records_cause, is_length, answer_of}
-use Rattle.plan.specs.model.Reads.{read_of}
+use Rattle.plan.specs.Causes.{Answer, rule, is_readable, activity_cause, crew_cause, arc_cause, cause_at, first_refusal, followed_by, records_cause, is_length, answer_of}
+use Rattle.plan.specs.model.Reads.{Reading, read_of, given, outcome}
 use Rattle.plan.specs.model.Phases.{put_duration, put_demands, put_arc, arc_in, arcs_cause, refusal_of, unless_refused, rest_of, file_of}
 use Rattle.plan.proofs.Refusals.{followed_assoc, followed_none, followed_cong, refusal_cong, refusal_split, refusal_one, all_readable}
 use Rattle.plan.proofs.Places.{record_on, record_next, leading_le}
@@ -31,20 +30,40 @@ use Rattle.plan.proofs.Parts.{Faultless, faultless, crew_missing, crew_there_lem
 
 -- ---- an answer, and the plan that stands beside it
 
-abbrev pub outcome : Answer → Plan → Reading
-outcome a q = record { plan = cond (is_readable a) q empty_plan; answer = a }
+abbrev pub reading : Answer → Plan → Reading
+reading a q = record { plan = cond (is_readable a) q empty_plan; answer = a }
 
-unless_outcome : (a b : Answer) (q : Plan) → unless_refused a (outcome b q) ≡ outcome (followed_by a b) q
-unless_outcome Readable b q = refl
-unless_outcome (Refused c) b q = refl
+unless_reading : (a b : Answer) (q : Plan) → unless_refused a (reading b q) ≡ reading (followed_by a b) q
+unless_reading (Ok _) b q = refl
+unless_reading (Err c) b q = refl
 
 unless_cong : (a : Answer) {x y : Reading} → (is_readable a ≡ true → x ≡ y) → unless_refused a x ≡ unless_refused a y
-unless_cong Readable h = h refl
-unless_cong (Refused c) h = refl
+unless_cong (Ok _) h = h refl
+unless_cong (Err c) h = refl
 
-pub outcome_cong : (a : Answer) {p q : Plan} → (is_readable a ≡ true → p ≡ q) → outcome a p ≡ outcome a q
-outcome_cong Readable h = ap (outcome Readable) (h refl)
-outcome_cong (Refused c) h = refl
+pub reading_cong : (a : Answer) {p q : Plan} → (is_readable a ≡ true → p ≡ q) → reading a p ≡ reading a q
+reading_cong (Ok _) h = ap (reading (Ok tt)) (h refl)
+reading_cong (Err c) h = refl
+
+-- what the code gives tells the plan of the reading
+
+pub plan_given : (s : List ℕ) (q : Plan) → outcome (read_of s) ≡ Ok q → (read_of s).plan ≡ q
+unfolding read_of
+plan_given s q e = go (answer_of s) e
+  where
+    go : (a : Answer) → given a (cond (is_readable a) (plan_of s) empty_plan) ≡ Ok q
+        → cond (is_readable a) (plan_of s) empty_plan ≡ q
+    go (Ok _) e = cc e
+    go (Err c) e = absurd (cc e)
+
+pub none_given : (s : List ℕ) {c : Cause} → outcome (read_of s) ≡ Err c → (read_of s).plan ≡ empty_plan
+unfolding read_of
+none_given s {c} e = go (answer_of s) e
+  where
+    go : (a : Answer) → given a (cond (is_readable a) (plan_of s) empty_plan) ≡ Err c
+        → cond (is_readable a) (plan_of s) empty_plan ≡ empty_plan
+    go (Ok _) e = absurd (cc e)
+    go (Err d) e = refl
 
 -- ---- the rest of a file, as one answer and one plan
 
@@ -67,7 +86,7 @@ rest_plan m duration demand j x t arcs more =
 abbrev rest_from : ℕ → List ℕ → List ℕ → ℕ → List ℕ → List ℕ → List ℕ → Reading
 rest_from m duration demand n t arcs more =
     let j = leading 3 n arcs in
-    outcome (rest_cause m demand j (n - j) t arcs more) (rest_plan m duration demand j (n - j) t arcs more)
+    reading (rest_cause m demand j (n - j) t arcs more) (rest_plan m duration demand j (n - j) t arcs more)
 
 rest_is : (m : ℕ) (duration demand : List ℕ) (n : ℕ) (t : List ℕ)
     → rest_of m duration demand (suc n) t ≡ rest_from m duration demand n t (drop 24 t) (drop (24 * leading 3 n (drop 24 t)) (drop 24 t))
@@ -79,11 +98,12 @@ rest_is m duration demand n t =
     go (crew_cause m demand t) (arcs_cause 3 (m + 1) m arcs j) (arcs_cause 4 (m + 1 + j) m more (n - j)) (rest_plan m duration demand j (n - j) t arcs more)
   where
     go : (a b c : Answer) (q : Plan)
-        → unless_refused a (unless_refused b (unless_refused c (record { plan = q; answer = Readable }))) ≡ outcome (followed_by a (followed_by b c)) q
-    go Readable Readable Readable q = refl
-    go Readable Readable (Refused z) q = refl
-    go Readable (Refused y) c q = refl
-    go (Refused x) b c q = refl
+        → unless_refused a (unless_refused b (unless_refused c (record { plan = q; answer = Ok tt }))) ≡ reading
+        (followed_by a (followed_by b c)) q
+    go (Ok _) (Ok _) (Ok _) q = refl
+    go (Ok _) (Ok _) (Err z) q = refl
+    go (Ok _) (Err y) c q = refl
+    go (Err x) b c q = refl
 
 -- the same of the file s, whose crew record is at the place m
 rest_at : (s : List ℕ) (m : ℕ) (duration demand : List ℕ) → m < record_count s
@@ -199,9 +219,9 @@ module _ (s : List ℕ) where
 
   -- ---- the reading
 
-  read_is : is_length (length s) ≡ true → read_of s ≡ outcome (records_cause s) (plan_of s)
+  read_is : is_length (length s) ≡ true → read_of s ≡ reading (records_cause s) (plan_of s)
   unfolding read_of answer_of
-  read_is e = ap (λ (b : Bool). outcome (cond b (records_cause s) (Refused Length)) (plan_of s)) e
+  read_is e = ap (λ (b : Bool). reading (cond b (records_cause s) (Err Length)) (plan_of s)) e
 
   file_is : file_of (record_count s) s ≡ unless_refused activities_cause (rest_of (activity_count s) (upto (put_duration s) (activity_count s) (replicate elements 0))
       (upto (put_demands s) (activity_count s) (replicate (8 * elements) 0)) (record_count s - activity_count s) (record_at s (activity_count s)))
@@ -209,33 +229,33 @@ module _ (s : List ℕ) where
   file_is = refl
 
   -- no crew record
-  no_crew : activity_count s ≡ record_count s → file_of (record_count s) s ≡ outcome (records_cause s) (plan_of s)
+  no_crew : activity_count s ≡ record_count s → file_of (record_count s) s ≡ reading (records_cause s) (plan_of s)
   unfolding records_cause rest_of
   no_crew e =
       let m : ℕ = activity_count s in
       let D : List ℕ = upto (put_duration s) m (replicate elements 0) in
       let E : List ℕ = upto (put_demands s) m (replicate (8 * elements) 0) in
       let z : record_count s - m ≡ 0 = omega arith in
-      let missing : Answer = Refused (RecordType (record_count s)) in
+      let missing : Answer = Err (RecordType (record_count s)) in
       let all : Answer = first_refusal (record_count s) (cause_at s) in
       let R : all ≡ activities_cause = ap (λ (n : ℕ). first_refusal n (cause_at s)) (sym e) ∙ activities_phase in
       let answers = ap (λ (a : Answer). followed_by a missing) (sym R) ∙ ap (followed_by all) (sym (crew_missing s e)) in
       file_is
       ∙ ap (λ (n : ℕ). unless_refused activities_cause (rest_of m D E n (record_at s m))) z
-      ∙ ap (λ (n : ℕ). unless_refused activities_cause (refusal_of (Refused (RecordType n)))) e
-      ∙ unless_outcome activities_cause missing (plan_of s)
-      ∙ ap (λ (a : Answer). outcome a (plan_of s)) answers
+      ∙ ap (λ (n : ℕ). unless_refused activities_cause (refusal_of (Err (RecordType n)))) e
+      ∙ unless_reading activities_cause missing (plan_of s)
+      ∙ ap (λ (a : Answer). reading a (plan_of s)) answers
 
-  with_crew : activity_count s < record_count s → file_of (record_count s) s ≡ outcome (records_cause s) (plan_of s)
+  with_crew : activity_count s < record_count s → file_of (record_count s) s ≡ reading (records_cause s) (plan_of s)
   with_crew h =
       let m : ℕ = activity_count s in
       let few : is_readable activities_cause ≡ true → m ≤ elements = λ e. omega (arith, few_activities m s (all_readable m (λ i. activity_cause i (record_at s i)) e)) in
       let on : List ℕ → List ℕ → Reading = λ d q. rest_of m d q (record_count s - m) (record_at s m) in
       file_is
       ∙ unless_cong activities_cause (λ e. ap₂ on (durations_stored s (few e)) (demands_stored s (few e)) ∙ rest_at s m (durations_of s) (demands_of s) h)
-      ∙ unless_outcome activities_cause last_cause last_plan
-      ∙ ap (λ (a : Answer). outcome a last_plan) (sym (all_phases h))
-      ∙ outcome_cong (records_cause s) (λ e. last_plan_lem (faultless s e))
+      ∙ unless_reading activities_cause last_cause last_plan
+      ∙ ap (λ (a : Answer). reading a last_plan) (sym (all_phases h))
+      ∙ reading_cong (records_cause s) (λ e. last_plan_lem (faultless s e))
 
 -- THE PHASES OF THE CODE COME TO THE READING
 pub file_read : (s : List ℕ) → is_length (length s) ≡ true → file_of (record_count s) s ≡ read_of s

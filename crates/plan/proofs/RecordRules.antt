@@ -12,12 +12,11 @@ use Rattle.words.proofs.Tests.{by_test, test_same, and_left, and_right, cond_tru
 use Rattle.records.proofs.Zeros.{all_zero, zeros_of}
 use Rattle.records.specs.Bytes.{byte, zeros}
 use Rattle.order.specs.Stored.{elements}
-use Rattle.plan.specs.declared.Answer.{Answer}
-use Rattle.plan.specs.declared.Answer.TheVariants.{Readable, Refused}
+use Rattle.std.specs.Prelude.{Ok, Err}
 use Rattle.plan.specs.declared.Cause.{Cause}
 use Rattle.plan.specs.declared.Cause.TheVariants.{RecordType, Field, MilestoneDemand, Spare, RepeatedArc}
 use Rattle.plan.specs.Records.{record_at, activity_count, job_count, due_type, activity_fields, activity_timed, crew_fields, is_end, arc_fields, arc_repeats, activities, demands_of}
-use Rattle.plan.specs.Causes.{rule, is_readable, activity_cause, crew_cause, arc_cause, cause_at}
+use Rattle.plan.specs.Causes.{Answer, rule, is_readable, activity_cause, crew_cause, arc_cause, cause_at}
 
 -- ---- bytes that are zero
 
@@ -51,38 +50,35 @@ zeros_same q r a b same =
 
 pub rule_kept : (answer : Answer) (kept : Bool) (cause : Cause) → is_readable (rule answer kept cause) ≡ true → kept ≡ true
 unfolding rule
-rule_kept Readable true cause e = refl
-rule_kept Readable false cause e = absurd (false≢true e)
-rule_kept (Refused c) kept cause e = absurd (false≢true e)
+rule_kept (Ok _) true cause e = refl
+rule_kept (Ok _) false cause e = absurd (false≢true e)
+rule_kept (Err c) kept cause e = absurd (false≢true e)
 
 pub rule_before : (answer : Answer) (kept : Bool) (cause : Cause) → is_readable (rule answer kept cause) ≡ true → is_readable answer ≡ true
 unfolding rule
-rule_before Readable kept cause e = refl
-rule_before (Refused c) kept cause e = e
+rule_before (Ok _) kept cause e = refl
+rule_before (Err c) kept cause e = e
 
--- and the other way round: a rule that is kept after it gives none, and one that is broken its cause; after a cause no rule matters
-pub rule_keeps : (answer : Answer) (kept : Bool) (cause : Cause) → is_readable answer ≡ true → kept ≡ true → rule answer kept cause ≡ Readable
+-- and the other way round: a rule that is kept after it gives none, and one that is broken its cause
+pub rule_keeps : (answer : Answer) (kept : Bool) (cause : Cause) → is_readable answer ≡ true → kept ≡ true
+    → rule answer kept cause ≡ Ok tt
 unfolding rule
-rule_keeps Readable true cause r e = refl
-rule_keeps Readable false cause r e = absurd (false≢true e)
-rule_keeps (Refused c) kept cause r e = absurd (false≢true r)
+rule_keeps (Ok _) true cause r e = refl
+rule_keeps (Ok _) false cause r e = absurd (false≢true e)
+rule_keeps (Err c) kept cause r e = absurd (false≢true r)
 
-pub rule_breaks : (answer : Answer) (kept : Bool) (cause : Cause) → is_readable answer ≡ true → kept ≡ false → rule answer kept cause ≡ Refused cause
+pub rule_breaks : (answer : Answer) (kept : Bool) (cause : Cause) → is_readable answer ≡ true → kept ≡ false
+    → rule answer kept cause ≡ Err cause
 unfolding rule
-rule_breaks Readable true cause r e = absurd (true≢false e)
-rule_breaks Readable false cause r e = refl
-rule_breaks (Refused c) kept cause r e = absurd (false≢true r)
-
-pub rule_stops : (answer : Answer) (kept : Bool) (cause : Cause) → is_readable answer ≡ false → rule answer kept cause ≡ answer
-unfolding rule
-rule_stops Readable kept cause e = absurd (true≢false e)
-rule_stops (Refused c) kept cause e = refl
+rule_breaks (Ok _) true cause r e = absurd (true≢false e)
+rule_breaks (Ok _) false cause r e = refl
+rule_breaks (Err c) kept cause r e = absurd (false≢true r)
 
 -- the next rule matters only where none before it was broken
 pub rule_cong : (answer : Answer) {a b : Bool} (cause : Cause) → (is_readable answer ≡ true → a ≡ b) → rule answer a cause ≡ rule answer b cause
 unfolding rule
-rule_cong Readable cause h = ap (λ (x : Bool). rule Readable x cause) (h refl)
-rule_cong (Refused c) cause h = refl
+rule_cong (Ok _) cause h = ap (λ (x : Bool). rule (Ok tt) x cause) (h refl)
+rule_cong (Err c) cause h = refl
 
 -- and so in a chain, where those before it say the same
 pub rule_same : {answer other : Answer} {a b : Bool} (cause : Cause) → answer ≡ other → (is_readable answer ≡ true → a ≡ b) → rule answer a cause ≡ rule other b cause
@@ -90,22 +86,27 @@ rule_same {answer} {other} {a} {b} cause e h = rule_cong answer cause h ∙ ap (
 
 -- what holds of the cause of an answer, if it has one, and of the cause of the next rule, where that is the one broken, holds after it
 abbrev pub Holds : (Cause → Type 0) → Answer → Type 0
-Holds P Readable = Unit {0}
-Holds P (Refused c) = P c
+Holds P (Ok tt) = Unit {0}
+Holds P (Err c) = P c
 
 rule_holds : (P : Cause → Type 0) (answer : Answer) (kept : Bool) (cause : Cause) → Holds P answer → (is_readable answer ≡ true → kept ≡ false → P cause) → Holds P (rule answer kept cause)
 unfolding rule
-rule_holds P Readable true cause h k = tt
-rule_holds P Readable false cause h k = k refl refl
-rule_holds P (Refused c) kept cause h k = h
+rule_holds P (Ok _) true cause h k = tt
+rule_holds P (Ok _) false cause h k = k refl refl
+rule_holds P (Err c) kept cause h k = h
 
--- m activities with no cause: each stands at one of the places that a file has for activities
-pub few_activities : (m : ℕ) (s : List ℕ) → ((p : ℕ) → p < m → is_readable (activity_cause p (record_at s p)) ≡ true) → m ≤ activities
+-- an activity with no cause stands at one of the places that a file has for activities, and so do m of them
+pub activity_placed : (p : ℕ) (r : List ℕ) → is_readable (activity_cause p r) ≡ true → p + 1 ≤ activities
 unfolding activity_cause activity_fields
+activity_placed p r e =
+    let h = ltb-true p activities
+    (and_left (ltb p activities) (eqb (byte r 1) (p + 1))
+    (rule_kept _ _ _ (rule_before _ _ _ (rule_before _ _ _ e)))) in
+    omega (arith, h)
+
+pub few_activities : (m : ℕ) (s : List ℕ) → ((p : ℕ) → p < m → is_readable (activity_cause p (record_at s p)) ≡ true) → m ≤ activities
 few_activities zero s h = omega arith
-few_activities (suc m) s h =
-    let r = record_at s m in
-    ltb-true m activities (and_left (ltb m activities) (eqb (byte r 1) (m + 1)) (rule_kept _ _ _ (rule_before _ _ _ (rule_before _ _ _ (h m (omega arith))))))
+few_activities (suc m) s h = omega (arith, activity_placed m (record_at s m) (h m (omega arith)))
 
 -- the crew record with no cause
 pub record CrewKept (demand r : List ℕ) : Type 0 where
@@ -195,12 +196,15 @@ cause_holds P s p typed fields timed spare repeated =
     cond_has (Holds P) (ltb p m) (activity_cause p r) (cond (eqb p m) crew arc)
     (λ t.
     rule_holds P _ _ (Spare p)
-    (rule_holds P _ _ (MilestoneDemand p) (rule_holds P Readable _ (Field p) tt (λ _ _. fields)) (λ a b. timed (ltb-true p m t) (rule_kept _ _ _ a) b))
+    (rule_holds P _ _ (MilestoneDemand p) (rule_holds P (Ok tt) _ (Field p) tt (λ _ _. fields))
+    (λ a b. timed (ltb-true p m t) (rule_kept _ _ _ a) b))
     (λ _ _. spare))
     (λ t.
     cond_has (Holds P) (eqb p m) crew arc (λ _. three _ _ _)
     (λ u. rule_holds P _ _ (RepeatedArc p) (three _ _ _) (λ a b. repeated (omega (arith, ltb-false p m t, eqb-false p m u)) a (not-false (arc_repeats s p) b))))
   where
-    three : (a b c : Bool) → Holds P (rule (rule (rule Readable a (RecordType p)) b (Field p)) c (Spare p))
+    three : (a b c : Bool) → Holds P (rule (rule (rule (Ok tt) a (RecordType p)) b (Field p)) c (Spare p))
     three a b c =
-        rule_holds P _ c (Spare p) (rule_holds P _ b (Field p) (rule_holds P Readable a (RecordType p) tt (λ _ _. typed)) (λ _ _. fields)) (λ _ _. spare)
+        rule_holds P _ c (Spare p)
+        (rule_holds P _ b (Field p) (rule_holds P (Ok tt) a (RecordType p) tt (λ _ _. typed)) (λ _ _. fields))
+        (λ _ _. spare)

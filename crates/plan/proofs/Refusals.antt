@@ -9,40 +9,39 @@ use borrow.Author.Tests.{lt-ltb, ltb-true, not-false}
 use Rattle.words.specs.Members.{first}
 use Rattle.words.proofs.Tests.{by_test, clash, holds, cond_true, cond_false}
 use Rattle.words.proofs.Firsts.{before_first}
-use Rattle.plan.specs.declared.Answer.{Answer}
-use Rattle.plan.specs.declared.Answer.TheVariants.{Readable, Refused}
-use Rattle.plan.specs.Causes.{is_readable, first_refusal, followed_by}
+use Rattle.std.specs.Prelude.{Ok, Err}
+use Rattle.plan.specs.Causes.{Answer, is_readable, first_refusal, followed_by}
 
 -- ---- one answer after another
 
-pub readable_is : (a : Answer) → is_readable a ≡ true → a ≡ Readable
-readable_is Readable e = refl
-readable_is (Refused c) e = absurd (false≢true e)
+pub readable_is : (a : Answer) → is_readable a ≡ true → a ≡ Ok tt
+readable_is (Ok _) e = refl
+readable_is (Err c) e = absurd (false≢true e)
 
 pub followed_left : (a b : Answer) → is_readable (followed_by a b) ≡ true → is_readable a ≡ true
-followed_left Readable b e = refl
-followed_left (Refused c) b e = e
+followed_left (Ok _) b e = refl
+followed_left (Err c) b e = e
 
 pub followed_right : (a b : Answer) → is_readable (followed_by a b) ≡ true → is_readable b ≡ true
-followed_right Readable b e = e
-followed_right (Refused c) b e = absurd (false≢true e)
+followed_right (Ok _) b e = e
+followed_right (Err c) b e = absurd (false≢true e)
 
 pub followed_assoc : (a b c : Answer) → followed_by (followed_by a b) c ≡ followed_by a (followed_by b c)
-followed_assoc Readable b c = refl
-followed_assoc (Refused x) b c = refl
+followed_assoc (Ok _) b c = refl
+followed_assoc (Err x) b c = refl
 
-pub followed_none : (a : Answer) → followed_by a Readable ≡ a
-followed_none Readable = refl
-followed_none (Refused x) = refl
+pub followed_none : (a : Answer) → followed_by a (Ok tt) ≡ a
+followed_none (Ok _) = refl
+followed_none (Err x) = refl
 
 -- it matters only where nothing was refused before
 pub followed_cong : (a : Answer) {b c : Answer} → (is_readable a ≡ true → b ≡ c) → followed_by a b ≡ followed_by a c
-followed_cong Readable h = h refl
-followed_cong (Refused x) h = refl
+followed_cong (Ok _) h = h refl
+followed_cong (Err x) h = refl
 
 -- ---- the first refusal, as a recursion
 
-pub refusal_zero : (f : ℕ → Answer) → first_refusal 0 f ≡ Readable
+pub refusal_zero : (f : ℕ → Answer) → first_refusal 0 f ≡ Ok tt
 unfolding first_refusal first
 refusal_zero f = refl
 
@@ -60,11 +59,14 @@ refusal_suc n f = go (f 0) refl
     at b = elim b [ true ↦ 0 | false ↦ suc (first n (λ i. not (is_readable (f (suc i))))) ]
 
     chosen : ℕ → Answer
-    chosen p = cond (ltb p (suc n)) (f p) Readable
+    chosen p = cond (ltb p (suc n)) (f p) (Ok tt)
 
-    go : (a : Answer) → f 0 ≡ a → chosen (at (not (is_readable (f 0)))) ≡ followed_by a (cond (ltb q n) (f (suc q)) Readable)
-    go Readable e = ap (λ (x : Answer). chosen (at (not (is_readable x)))) e ∙ ap (λ (b : Bool). cond b (f (suc q)) Readable) (leb-suc-suc (suc q) n)
-    go (Refused c) e = ap (λ (x : Answer). chosen (at (not (is_readable x)))) e ∙ ap (λ (b : Bool). cond b (f 0) Readable) (lt-ltb 0 (suc n) (omega arith)) ∙ e
+    go : (a : Answer) → f 0 ≡ a
+        → chosen (at (not (is_readable (f 0)))) ≡ followed_by a (cond (ltb q n) (f (suc q)) (Ok tt))
+    go (Ok _) e = ap (λ (x : Answer). chosen (at (not (is_readable x)))) e
+        ∙ ap (λ (b : Bool). cond b (f (suc q)) (Ok tt)) (leb-suc-suc (suc q) n)
+    go (Err c) e = ap (λ (x : Answer). chosen (at (not (is_readable x)))) e
+        ∙ ap (λ (b : Bool). cond b (f 0) (Ok tt)) (lt-ltb 0 (suc n) (omega arith)) ∙ e
 
 -- it goes by the answers alone
 pub refusal_cong : (n : ℕ) (f g : ℕ → Answer) → ((i : ℕ) → i < n → f i ≡ g i) → first_refusal n f ≡ first_refusal n g
@@ -111,11 +113,16 @@ first_refused n f e =
     let bad : ℕ → Bool = λ i. not (is_readable (f i)) in
     let p : ℕ = first n bad in
     by_test (ltb p n)
-    (λ t. (p, ltb-true p n t, cond_true (f p) Readable t, (λ i h. not-false (is_readable (f i)) (before_first n bad i h))))
-    (λ t. absurd (false≢true (sym e ∙ ap is_readable (cond_false (f p) Readable t))))
+    (λ t. (
+      p,
+      ltb-true p n t,
+      cond_true (f p) (Ok tt) t,
+      (λ i h. not-false (is_readable (f i)) (before_first n bad i h)),
+    ))
+    (λ t. absurd (false≢true (sym e ∙ ap is_readable (cond_false (f p) (Ok tt) t))))
 
 -- so where no answer is a refusal, there is none
-pub none_refused : (n : ℕ) (f : ℕ → Answer) → ((i : ℕ) → i < n → is_readable (f i) ≡ true) → first_refusal n f ≡ Readable
+pub none_refused : (n : ℕ) (f : ℕ → Answer) → ((i : ℕ) → i < n → is_readable (f i) ≡ true) → first_refusal n f ≡ Ok tt
 none_refused n f h =
     readable_is (first_refusal n f)
     (holds (is_readable (first_refusal n f)) (λ t. let r = first_refused n f t in clash (h r.0 r.1) (sym (ap is_readable r.2) ∙ t)))

@@ -11,12 +11,11 @@ use borrow.Author.Tests.{ltb-true, leb-true, eqb-true, lt-ltb, le-leb, eq-eqb}
 use Rattle.words.specs.Members.{first}
 use Rattle.words.proofs.Firsts.{first_stop}
 use Rattle.words.proofs.Tests.{by_test, holds, and_left, and_right, and_both, cond_true, cond_false}
-use Rattle.plan.specs.declared.Answer.{Answer}
-use Rattle.plan.specs.declared.Answer.TheVariants.{Readable, Refused}
+use Rattle.std.specs.Prelude.{Ok, Err}
 use Rattle.plan.specs.declared.Cause.{Cause}
 use Rattle.plan.specs.declared.Cause.TheVariants.{Length}
 use Rattle.plan.specs.Records.{record_count, type_at, activity_count}
-use Rattle.plan.specs.Causes.{is_readable, cause_at, first_refusal, followed_by, crew_there, records_cause, is_length, answer_of}
+use Rattle.plan.specs.Causes.{Answer, is_readable, cause_at, first_refusal, followed_by, crew_there, records_cause, is_length, answer_of}
 use Rattle.plan.specs.Numbers.{told_by}
 use Rattle.plan.specs.Refused.{WrongLength, FirstFault, CrewMissing}
 use Rattle.plan.proofs.Refusals.{first_refused, all_readable}
@@ -40,11 +39,11 @@ length_says n =
 -- the answer of a file of a legal length is that of its records
 pub answer_records : (s : List ℕ) → is_length (length s) ≡ true → answer_of s ≡ records_cause s
 unfolding answer_of
-answer_records s e = cond_true (records_cause s) (Refused Length) e
+answer_records s e = cond_true (records_cause s) (Err Length) e
 
-pub refused_length : (s : List ℕ) → is_length (length s) ≡ false → answer_of s ≡ Refused Length
+pub refused_length : (s : List ℕ) → is_length (length s) ≡ false → answer_of s ≡ Err Length
 unfolding answer_of
-refused_length s e = cond_false (records_cause s) (Refused Length) e
+refused_length s e = cond_false (records_cause s) (Err Length) e
 
 -- ---- which files are refused and read
 
@@ -55,13 +54,14 @@ all_activities s = (
   (λ e p l. activity_typed s p (omega arith)),
 )
 
-records_refused : (s : List ℕ) (c : Cause) → is_length (length s) ≡ true → records_cause s ≡ Refused c → ((p : ℕ) × FirstFault s p (Refused c)) ⊎ CrewMissing s c
+records_refused : (s : List ℕ) (c : Cause) → is_length (length s) ≡ true → records_cause s ≡ Err c
+    → ((p : ℕ) × FirstFault s p (Err c)) ⊎ CrewMissing s c
 unfolding records_cause
 records_refused s c legal e = go (first_refusal (record_count s) (cause_at s)) refl e
   where
-    go : (a : Answer) → first_refusal (record_count s) (cause_at s) ≡ a → followed_by a (crew_there s) ≡ Refused c
-        → ((p : ℕ) × FirstFault s p (Refused c)) ⊎ CrewMissing s c
-    go Readable q e =
+    go : (a : Answer) → first_refusal (record_count s) (cause_at s) ≡ a → followed_by a (crew_there s) ≡ Err c
+        → ((p : ℕ) × FirstFault s p (Err c)) ⊎ CrewMissing s c
+    go (Ok _) q e =
         let fine = all_readable (record_count s) (cause_at s) (ap is_readable q) in
         ⊎_elim
         (λ m.
@@ -69,20 +69,22 @@ records_refused s c legal e = go (first_refusal (record_count s) (cause_at s)) r
         inr (record { legal = legal; fine = fine; activities = (all_activities s).1 m; cause = cc h }))
         (λ l. absurd (false≢true (sym (ap is_readable e) ∙ ap is_readable (crew_there_lem s l))))
         (crew_or_missing s)
-    go (Refused d) q e =
+    go (Err d) q e =
         let F = first_refused (record_count s) (cause_at s) (ap is_readable q) in
         inl (F.0, record { there = F.1; fault = sym F.2 ∙ q ∙ e; refused = refl; before = F.3 })
 
 -- WHAT A REFUSAL MEANS
-pub refused_means : (s : List ℕ) (c : Cause) → answer_of s ≡ Refused c → WrongLength s c ⊎ (((p : ℕ) × FirstFault s p (Refused c)) ⊎ CrewMissing s c)
+pub refused_means : (s : List ℕ) (c : Cause) → answer_of s ≡ Err c
+    → WrongLength s c ⊎ (((p : ℕ) × FirstFault s p (Err c)) ⊎ CrewMissing s c)
 refused_means s c e =
     by_test (is_length (length s))
     (λ t. inr (records_refused s c t (sym (answer_records s t) ∙ e)))
     (λ t. let h = sym (refused_length s t) ∙ e in inl (record { wrong = t; cause = cc h }))
 
 -- a cause that is neither the length nor a record's type is the first fault of a record, and what holds of the cause of that record holds of it
-pub refused_holds : (P : Cause → Type 0) (s : List ℕ) (c : Cause) → (told_by c).number ≢ 1 → (told_by c).number ≢ 2 → answer_of s ≡ Refused c
-    → (is_length (length s) ≡ true → (p : ℕ) → FirstFault s p (Refused c) → Holds P (cause_at s p)) → P c
+pub refused_holds : (P : Cause → Type 0) (s : List ℕ) (c : Cause) → (told_by c).number ≢ 1 → (told_by c).number ≢ 2
+    → answer_of s ≡ Err c
+    → (is_length (length s) ≡ true → (p : ℕ) → FirstFault s p (Err c) → Holds P (cause_at s p)) → P c
 refused_holds P s c one two e at =
     let number : Cause → ℕ = λ d. (told_by d).number in
     ⊎_elim
@@ -95,11 +97,14 @@ refused_holds P s c one two e at =
     (refused_means s c e)
 
 -- and the other way round, at a record
-pub fault_refused : (s : List ℕ) (p : ℕ) (c : Cause) → is_length (length s) ≡ true → FirstFault s p (Refused c) → answer_of s ≡ Refused c
+pub fault_refused : (s : List ℕ) (p : ℕ) (c : Cause) → is_length (length s) ≡ true → FirstFault s p (Err c)
+    → answer_of s ≡ Err c
 unfolding records_cause first_refusal
 fault_refused s p c legal F =
     let f : ℕ → Bool = λ i. not (is_readable (cause_at s i)) in
     let at = first_stop (record_count s) f p (λ x l. ap not (F.before x l)) F.there (ap (λ (a : Answer). not (is_readable a)) F.fault) in
     answer_records s legal
     ∙ ap (λ (a : Answer). followed_by a (crew_there s))
-    (cond_true (cause_at s (first (record_count s) f)) Readable (lt-ltb (first (record_count s) f) (record_count s) (omega (arith, F.there))) ∙ ap (cause_at s) (sym at) ∙ F.fault)
+    (cond_true (cause_at s (first (record_count s) f)) (Ok tt)
+    (lt-ltb (first (record_count s) f) (record_count s) (omega (arith, F.there))) ∙ ap (cause_at s) (sym at)
+    ∙ F.fault)

@@ -12,12 +12,12 @@ use Rattle.words.specs.model.Loops.{upto}
 use Rattle.words.proofs.Tests.{clash, test_same}
 use Rattle.records.specs.Bytes.{byte}
 use Rattle.order.specs.Stored.{elements, cells}
-use Rattle.plan.specs.declared.Answer.TheVariants.{Refused}
+use Rattle.std.specs.Prelude.{Err}
 use Rattle.plan.specs.declared.Cause.{Cause}
 use Rattle.plan.specs.declared.Cause.TheVariants.{RepeatedArc}
 use Rattle.plan.specs.Records.{record_at, record_count, type_at, activity_count, due_type, arc_repeats}
 use Rattle.plan.specs.Causes.{rule, is_readable, arc_cause, is_length, answer_of}
-use Rattle.plan.specs.Numbers.{told_by}
+use Rattle.plan.specs.Numbers.{told_by, place_of}
 use Rattle.plan.specs.Meaning.{Readable, Names}
 use Rattle.plan.specs.Refused.{FirstFault, RepeatedPair}
 use Rattle.plan.specs.model.ArcRows.{has_arc}
@@ -54,7 +54,7 @@ looked_up type place m t i {none} {rows} few blank run fine =
 
 -- ---- 13 OF A FILE, both ways
 
-pub repeated_refused : (s : List ℕ) (p : ℕ) → RepeatedPair s p → answer_of s ≡ Refused (RepeatedArc p)
+pub repeated_refused : (s : List ℕ) (p : ℕ) → RepeatedPair s p → answer_of s ≡ Err (RepeatedArc p)
 repeated_refused s p R =
     fault_refused s p (RepeatedArc p) R.legal
     (record {
@@ -64,15 +64,15 @@ repeated_refused s p R =
       before = R.before;
     })
 
-pub refused_repeated : (s : List ℕ) (p : ℕ) → answer_of s ≡ Refused (RepeatedArc p) → RepeatedPair s p
+pub refused_repeated : (s : List ℕ) (p : ℕ) → answer_of s ≡ Err (RepeatedArc p) → RepeatedPair s p
 refused_repeated s p e =
     refused_holds Means s (RepeatedArc p) (λ q. omega arith) (λ q. omega arith) e
     (λ legal q F. cause_holds Means s q (λ x. absurd (omega arith)) (λ x. absurd (omega arith)) (λ _ _ _ x. absurd (omega arith)) (λ x. absurd (omega arith)) (at_record legal q F)) refl refl
   where
     Means : Cause → Type 0
-    Means c = (told_by c).number ≡ 13 → (told_by c).place ≡ p → RepeatedPair s p
+    Means c = (told_by c).number ≡ 13 → place_of (told_by c) ≡ p → RepeatedPair s p
 
-    at_record : is_length (length s) ≡ true → (q : ℕ) → FirstFault s q (Refused (RepeatedArc p)) → activity_count s < q
+    at_record : is_length (length s) ≡ true → (q : ℕ) → FirstFault s q (Err (RepeatedArc p)) → activity_count s < q
         → is_readable (arc_cause (due_type s q) q (activity_count s) (record_at s q)) ≡ true → arc_repeats s q ≡ true → Means (RepeatedArc q)
     at_record legal q F arc own repeats _ here =
         let r = record_at s q in

@@ -15,7 +15,7 @@ use Rattle.words.proofs.Tests.{by_test, cond_true, cond_false, cond_cong, cond_l
 use Rattle.words.proofs.Tables.{get_d_table, length_table, table_same}
 use Rattle.records.specs.Bytes.{field, AreBytes}
 use Rattle.order.specs.Stored.{elements}
-use Rattle.plan.specs.declared.Answer.TheVariants.{Refused}
+use Rattle.std.specs.Prelude.{Err}
 use Rattle.plan.specs.declared.Cause.TheVariants.{Length}
 use Rattle.plan.specs.Records.{record_at, activity_count}
 use Rattle.plan.specs.model.Plans.{durations_of, demand_table, available_of, plan_of, with_extra}
@@ -33,18 +33,18 @@ pub readable_length : (s : List ℕ) → Readable s → is_length (length s) ≡
 unfolding answer_of
 readable_length s e = go (is_length (length s)) e
   where
-    go : (b : Bool) → is_readable (cond b (records_cause s) (Refused Length)) ≡ true → b ≡ true
+    go : (b : Bool) → is_readable (cond b (records_cause s) (Err Length)) ≡ true → b ≡ true
     go true e = refl
     go false e = e
 
 pub readable_faultless : (s : List ℕ) → Readable s → Faultless s
 unfolding answer_of
-readable_faultless s e = faultless s (rw (cond_true (records_cause s) (Refused Length) (readable_length s e)) at e)
+readable_faultless s e = faultless s (rw (cond_true (records_cause s) (Err Length) (readable_length s e)) at e)
 
 -- and the other way round
 pub faultless_readable : (s : List ℕ) → is_length (length s) ≡ true → Faultless s → Readable s
 unfolding answer_of
-faultless_readable s e F = ap is_readable (cond_true (records_cause s) (Refused Length) e ∙ faultless_says s F)
+faultless_readable s e F = ap is_readable (cond_true (records_cause s) (Err Length) e ∙ faultless_says s F)
 
 -- ---- the tables of its fields
 

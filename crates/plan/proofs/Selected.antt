@@ -15,7 +15,7 @@ use Rattle.words.proofs.Tests.{clash, fails, cond_cong}
 use Rattle.words.proofs.Tables.{table_same}
 use Rattle.records.specs.Bytes.{byte, field, AreBytes}
 use Rattle.order.specs.Stored.{elements}
-use Rattle.plan.specs.declared.Answer.TheVariants
+use Rattle.std.specs.Prelude.{Ok}
 use Rattle.plan.specs.declared.Cause.TheVariants.{RepeatedArc}
 use Rattle.plan.specs.Records.{record_at, record_count, type_at, activity_count, job_count, due_type, demand_in, demands_of, same_pair, arc_repeats}
 use Rattle.plan.specs.Causes.{is_readable, crew_cause, arc_cause, cause_at}
@@ -35,7 +35,9 @@ unfolding arc_cause
 arc_anywhere type p q m r e =
     let f = rule_before _ _ _ e in
     let g = rule_before _ _ _ f in
-    ap is_readable (rule_keeps _ _ _ (ap is_readable (rule_keeps _ _ _ (ap is_readable (rule_keeps TheVariants.Readable _ _ refl (rule_kept _ _ _ g))) (rule_kept _ _ _ f))) (rule_kept _ _ _ e))
+    ap is_readable (rule_keeps _ _ _
+    (ap is_readable (rule_keeps _ _ _ (ap is_readable (rule_keeps (Ok tt) _ _ refl (rule_kept _ _ _ g)))
+    (rule_kept _ _ _ f))) (rule_kept _ _ _ e))
 
 module _ (s t : List ℕ) (e : Readable s) (S : Selected s t) where
   faultless : Faultless s

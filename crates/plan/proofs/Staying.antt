@@ -1,26 +1,22 @@
 -- The writing of the records of a file that stay: what one of them may be asked, a record that is copied,
 -- and the loop over all of them.
 use mathlib.Core.Path.{◌≡◌, refl, sym, ap, ◌∙◌}
-use mathlib.Core.Bool.{Bool, true, false, not, ◌||◌}
+use mathlib.Core.Bool.{Bool, true, false}
 use mathlib.Core.List.{List, ◌++◌}
-use Prim.Native.Nat.{ℕ, suc, ◌+◌, ◌*◌, ◌≤◌, ◌<◌}
-use native.Mathlib.Nat.{zero-add, le_of_eq}
+use Prim.Native.Nat.{ℕ, ◌+◌, ◌*◌, ◌≤◌, ◌<◌}
 use native.Mathlib.Numerals.{add-one}
 use native.Mathlib.Decide.{dec_lt}
 use native.Mathlib.Omega.{arith}
-use lib.Dec.{eqb}
-use lib.ListN.{length, get_or, set, take, drop, length-append, length-drop}
-use lib.Seq.{paste-suc, length-take-le, take_all, take_at, drop_at, drop-drop}
-use borrow.Author.Tests.{eq-eqb, ne_eqb}
+use lib.ListN.{length, take, drop, length-append, length-drop}
+use lib.Seq.{length-take-le, take_at, drop_at, drop-drop}
 use Rattle.words.specs.Members.{count}
 use Rattle.words.proofs.Counts.{count_le, count_more, count_still}
-use Rattle.records.specs.Bytes.{byte}
 use Rattle.records.specs.Records.{joined, kept, starting_with, written_at}
 use Rattle.records.proofs.Kept.{kept_one, kept_none, kept_length}
 use Rattle.plan.specs.Records.{record_at, record_count, type_at, activity_count}
 use Rattle.plan.specs.Meaning.{Readable}
 use Rattle.plan.specs.Filtered.{filtered}
-use Rattle.plan.specs.model.ArcRows.{ArcRecord, has_arc}
+use Rattle.plan.specs.model.ArcRows.{ArcRecord}
 use Rattle.plan.proofs.Parts.{Faultless, few, crew_fine, arc_fine, no_arc}
 use Rattle.plan.proofs.Said.{readable_faultless}
 
@@ -41,25 +37,6 @@ extra_record s e p l typed = go (dec_lt (activity_count s) p)
         let K = arc_fine s F p arc l in
         (record_whole s p l, K.from_low, omega (arith, K.from_high, few s F), K.to_low, omega (arith, K.to_high, few s F))
     go (no none) = absurd (no_arc s (crew_fine s F).typed 4 p (omega arith) (omega arith) typed)
-
--- whether it stays, by the test of its type
-pub other_stays : (rows r : List ℕ) → (byte r 0 ≡ 4 → ⊥) → true ≡ (not (eqb (byte r 0) 4) || has_arc rows r)
-other_stays rows r ne = rw (ne_eqb (byte r 0) 4 ne)
-
-pub extra_stays : (rows r : List ℕ) → byte r 0 ≡ 4 → has_arc rows r ≡ (not (eqb (byte r 0) 4) || has_arc rows r)
-extra_stays rows r e = rw (eq-eqb (byte r 0) 4 e)
-
--- ---- a list that is copied to the start of another, byte by byte
-
-module _ (r old : List ℕ) where
-  pub copy_more : (i : ℕ) → i < length r → i < length old → set (take i r ++ drop i old) i (get_or r i 0) ≡ take (i + 1) r ++ drop (i + 1) old
-  copy_more i l h = rw (zero-add i, zero-add (suc i), ← add-one i) at (paste-suc old 0 r i 0 (omega arith) l)
-
-  pub copy_length : (i : ℕ) → i ≤ length r → i ≤ length old → length (take i r ++ drop i old) ≡ length old
-  copy_length i l h = length-append (take i r) (drop i old) ∙ omega (arith, length-take-le i r l, length-drop i old)
-
-  pub copy_all : (i : ℕ) → length r ≡ i → take i r ++ drop i old ≡ starting_with r old
-  copy_all i e = ap (λ (l : List ℕ). l ++ drop i old) (take_all i r (le_of_eq e)) ∙ ap (λ (n : ℕ). r ++ drop n old) (sym e)
 
 -- ---- THE LOOP OVER THE RECORDS of s, of which a test of places keeps some
 

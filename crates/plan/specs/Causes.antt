@@ -1,10 +1,9 @@
 -- The causes of a refusal, 1 to 4, 12 and 13, each with its place, and the answer:
 -- the first of them, or readable.
-use Rattle.std.specs.Prelude.{Bool, true, false, not, cond, ◌&&◌, List, ℕ, ◌%◌, eqb, leb, ltb, length}
+use Rattle.std.specs.Prelude.{Bool, true, false, not, cond, ◌&&◌, Result, Ok, Err}
+use Rattle.std.specs.Prelude.{List, ℕ, ◌%◌, eqb, leb, ltb, length}
 use Rattle.words.specs.Members.{first}
 use Rattle.records.specs.Bytes.{byte}
-use Rattle.plan.specs.declared.Answer.{Answer}
-use Rattle.plan.specs.declared.Answer.TheVariants.{Readable, Refused}
 use Rattle.plan.specs.declared.Cause.{Cause}
 use Rattle.plan.specs.declared.Cause.TheVariants.{Length, RecordType, Field}
 use Rattle.plan.specs.declared.Cause.TheVariants.{MilestoneDemand, Spare, RepeatedArc}
@@ -12,29 +11,33 @@ use Rattle.plan.specs.Records.{record_at, record_count, activity_count, activity
 use Rattle.plan.specs.Records.{activity_spare, crew_fields, crew_spare, arc_fields, arc_spare, arc_repeats}
 use Rattle.plan.specs.Records.{due_type, demands_of}
 
+-- what is said of a rule, a record or a file: that it is fine, or the cause of a refusal
+abbrev pub Answer : Type 0
+Answer = Result (Unit {0}) Cause
+
 -- "records in file order, 2, 3, 4 within each", 12 "in each record after 3 and before 4" (02, change 2),
 -- and 13 "in each record after 4" (02, change 3): the rules of a record are tested in turn. Where none
 -- before it was broken, a broken rule gives its cause.
 unfoldable pub rule : Answer → Bool → Cause → Answer
-rule Readable true cause = Readable
-rule Readable false cause = Refused cause
-rule (Refused c) kept cause = Refused c
+rule (Ok _) true cause = Ok tt
+rule (Ok _) false cause = Err cause
+rule (Err c) kept cause = Err c
 
 abbrev pub is_readable : Answer → Bool
-is_readable Readable = true
-is_readable (Refused c) = false
+is_readable (Ok _) = true
+is_readable (Err c) = false
 
 -- one of the activity records that the file begins with; its type is 1
 unfoldable pub activity_cause : ℕ → List ℕ → Answer
 activity_cause place r =
-    let fields = rule Readable (activity_fields place r) (Field place) in
+    let fields = rule (Ok tt) (activity_fields place r) (Field place) in
     let timed = rule fields (activity_timed r) (MilestoneDemand place) in
     rule timed (activity_spare r) (Spare place)
 
 -- the record after them, which has to be the crew record
 unfoldable pub crew_cause : ℕ → List ℕ → List ℕ → Answer
 crew_cause place demand r =
-    let typed = rule Readable (eqb (byte r 0) 2) (RecordType place) in
+    let typed = rule (Ok tt) (eqb (byte r 0) 2) (RecordType place) in
     let fields = rule typed (crew_fields demand r) (Field place) in
     rule fields (crew_spare r) (Spare place)
 
@@ -42,7 +45,7 @@ crew_cause place demand r =
 -- the rules that it keeps or breaks by itself
 unfoldable pub arc_cause : ℕ → ℕ → ℕ → List ℕ → Answer
 arc_cause type place m r =
-    let typed = rule Readable (eqb (byte r 0) type) (RecordType place) in
+    let typed = rule (Ok tt) (eqb (byte r 0) type) (RecordType place) in
     let fields = rule typed (arc_fields m r) (Field place) in
     rule fields (arc_spare r) (Spare place)
 
@@ -60,16 +63,16 @@ unfoldable pub first_refusal : ℕ → (ℕ → Answer) → Answer
 first_refusal n f =
     let p = first n (λ i. not (is_readable (f i))) in
     let refusal = f p in
-    cond (ltb p n) refusal Readable
+    cond (ltb p n) refusal (Ok tt)
 
 -- what follows where nothing was refused
 abbrev pub followed_by : Answer → Answer → Answer
-followed_by Readable next = next
-followed_by (Refused c) next = Refused c
+followed_by (Ok _) next = next
+followed_by (Err c) next = Err c
 
 -- "crew record missing (place: record count)"
 abbrev pub crew_there : List ℕ → Answer
-crew_there s = cond (eqb (activity_count s) (record_count s)) (Refused (RecordType (record_count s))) Readable
+crew_there s = cond (eqb (activity_count s) (record_count s)) (Err (RecordType (record_count s))) (Ok tt)
 
 -- the first record with a cause, and its first cause; then a missing crew record
 unfoldable pub records_cause : List ℕ → Answer
@@ -83,4 +86,4 @@ is_length n = ltb 0 n && (leb n 49152 && eqb (n % 24) 0)
 unfoldable pub answer_of : List ℕ → Answer
 answer_of s =
     let records = records_cause s in
-    cond (is_length (length s)) records (Refused Length)
+    cond (is_length (length s)) records (Err Length)

@@ -3,11 +3,10 @@
 -- `refused_repeated` of proofs/RepeatedArcs.antt.
 use Rattle.std.specs.Prelude.{◌≡◌, true, false, List, ℕ, ◌+◌, ◌<◌, length}
 use Rattle.records.specs.Bytes.{byte}
-use Rattle.plan.specs.declared.Answer.{Answer}
 use Rattle.plan.specs.declared.Cause.{Cause}
 use Rattle.plan.specs.declared.Cause.TheVariants.{Length, RecordType}
 use Rattle.plan.specs.Records.{record_at, record_count, type_at, activity_count, activity_fields, due_type}
-use Rattle.plan.specs.Causes.{is_readable, arc_cause, cause_at, is_length}
+use Rattle.plan.specs.Causes.{Answer, is_readable, arc_cause, cause_at, is_length}
 use Rattle.plan.specs.Meaning.{Milestone, file_demand, Names}
 
 -- "length 0, not a multiple of 24, or over 49,152"

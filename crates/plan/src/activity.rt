@@ -1,114 +1,88 @@
 // Activity records, type 1.
-ghost use Rattle.std.specs.Prelude.{◌≡◌, ◌*◌, ◌≤◌, ◌<◌, length};
+ghost use Rattle.std.specs.Prelude.{◌≡◌, List, ℕ, ◌≤◌, ◌<◌, length, OnOk};
 ghost use Rattle.words.specs.model.Loops.{upto};
 ghost use Rattle.order.specs.Stored.{elements};
-ghost use Rattle.plan.specs.Records.{activity_fields, demands_some, activity_timed, record_at};
+ghost use Rattle.plan.specs.Records.{activities, activity_fields, demands_some, activity_timed, record_at};
 ghost use Rattle.plan.specs.Causes.{activity_cause, first_refusal};
+ghost use Rattle.plan.specs.model.Lists.{RecordsOf};
 ghost use Rattle.plan.specs.model.Phases.{put_duration, put_demand, put_demands};
 
-use crate::checks::{is_readable, rule};
-use crate::field::{all_zero, half};
-use crate::{ACTIVITIES, Answer, Cause};
+use crate::checks::check;
+use crate::field::{all_zero, eight};
+use crate::{ACTIVITIES, Cause, Record};
 use order::ELEMENTS;
+use records::field;
 
 // Whether an activity record's fields keep their rules.
-fn activity_fields(r: &[u8], place: usize) -> bool
-    requires { 24 ≤ length r.now }
+fn activity_fields(r: &Record, place: usize) -> bool
     ensures { result ≡ activity_fields place r.now }
 {
-    if ACTIVITIES <= place {
-        return false;
-    }
-    let number = r[1] as usize;
-    number == place + 1
+    place < ACTIVITIES && usize::from(r[1]) == place + 1
 }
 
 // Whether an activity record demands something of one of the eight kinds.
-fn demands_some(r: &[u8]) -> bool
-    requires { 24 ≤ length r.now }
+fn demands_some(r: &Record) -> bool
     ensures { result ≡ demands_some r.now }
 {
-    for k in 0..8usize {
-        if half(r, 4 + 2 * k) != 0 {
-            return true;
-        }
-    }
-    false
+    eight(r).iter().any(|d| *d != 0)
 }
 
 // Whether an activity record demands something only if it takes time. (A milestone takes none.)
-fn activity_timed(r: &[u8]) -> bool
-    requires { 24 ≤ length r.now }
+fn activity_timed(r: &Record) -> bool
     ensures { result ≡ activity_timed r.now }
 {
-    if half(r, 2) != 0 {
-        return true;
-    }
-    !demands_some(r)
+    field::<2>(r, 2) != 0 || !demands_some(r)
 }
 
 // The cause of an activity record, by its type known to be one.
-fn activity_cause(r: &[u8], place: usize) -> Answer
-    requires { 24 ≤ length r.now }
+fn activity_cause(r: &Record, place: usize) -> Result<(), Cause>
     ensures { result ≡ activity_cause place r.now }
 {
-    let fields = rule(
-        Answer::Readable,
-        activity_fields(r, place),
-        Cause::Field(place),
-    );
-    let timed = rule(fields, activity_timed(r), Cause::MilestoneDemand(place));
-    rule(timed, all_zero(r, 20, 24), Cause::Spare(place))
+    check(activity_fields(r, place), Cause::Field(place))?;
+    check(activity_timed(r), Cause::MilestoneDemand(place))?;
+    check(all_zero(&r[20..]), Cause::Spare(place))
 }
 
-// The first cause among the first m records, which are activities.
-pub fn activities_cause(s: &[u8], m: usize) -> Answer
-    requires { 24 * m ≤ length s.now }
-    ensures { result ≡ first_refusal m (λ i. activity_cause i (record_at s.now i)) }
+// The first cause among the activities.
+pub fn activities_cause(found: &[Record]) -> Result<(), Cause>
+    ensures few { OnOk result (length found.now ≤ activities) }
+    ensures value { (s : List ℕ) → RecordsOf s found.now →
+        result ≡ first_refusal (length found.now) (λ i. activity_cause i (record_at s i)) }
 {
-    let mut i: usize = 0;
-    while i < m {
-        let answer = activity_cause(&s[24 * i..], i);
-        if !is_readable(answer) {
-            return answer;
-        }
-        i += 1;
+    for (place, r) in found.iter().enumerate() {
+        activity_cause(r, place)?;
     }
-    Answer::Readable
+    Ok(())
 }
 
-// The durations of the first m records.
-pub fn store_durations(s: &[u8], m: usize, durations: &mut [u32; ELEMENTS])
-    requires { (24 * m ≤ length s.now) × (m ≤ elements) }
-    ensures { durations.new ≡ upto (put_duration s.now) m durations.old }
+// The durations of the activities.
+pub fn store_durations(activities: &[Record], durations: &mut [u32; ELEMENTS])
+    requires { length activities.now ≤ elements }
+    ensures { (s : List ℕ) → RecordsOf s activities.now →
+        durations.new ≡ upto (put_duration s) (length activities.now) durations.old }
 {
-    let mut i: usize = 0;
-    while i < m {
-        durations[i] = half(&s[24 * i..], 2);
-        i += 1;
+    for (i, r) in activities.iter().enumerate() {
+        durations[i] = field::<2>(r, 2);
     }
 }
 
 // The eight demands of element i.
-fn store_demands_of(r: &[u8], i: usize, demands: &mut [u32; 8 * ELEMENTS])
-    requires { (24 ≤ length r.now) × (i < elements) }
+fn store_demands_of(r: &Record, i: usize, demands: &mut [u32; 8 * ELEMENTS])
+    requires { i < elements }
     ensures { demands.new ≡ upto (put_demand r.now i) 8 demands.old }
 {
-    let mut k: usize = 0;
-    while k < 8 {
-        demands[ELEMENTS * k + i] = half(r, 4 + 2 * k);
-        k += 1;
+    for (k, demand) in eight(r).iter().enumerate() {
+        demands[ELEMENTS * k + i] = *demand;
     }
 }
 
-// The demands of the first m records.
-pub fn store_demands(s: &[u8], m: usize, demands: &mut [u32; 8 * ELEMENTS])
-    requires { (24 * m ≤ length s.now) × (m ≤ elements) }
-    ensures { demands.new ≡ upto (put_demands s.now) m demands.old }
+// The demands of the activities.
+pub fn store_demands(activities: &[Record], demands: &mut [u32; 8 * ELEMENTS])
+    requires { length activities.now ≤ elements }
+    ensures { (s : List ℕ) → RecordsOf s activities.now →
+        demands.new ≡ upto (put_demands s) (length activities.now) demands.old }
 {
-    let mut i: usize = 0;
-    while i < m {
-        store_demands_of(&s[24 * i..], i, demands);
-        i += 1;
+    for (i, r) in activities.iter().enumerate() {
+        store_demands_of(r, i, demands);
     }
 }

@@ -1,28 +1,12 @@
 // The rules of a record, in turn.
-ghost use Rattle.std.specs.Prelude.{◌≡◌};
-ghost use Rattle.plan.specs.Causes.{rule, is_readable};
+ghost use Rattle.std.specs.Prelude.{◌≡◌, Ok};
+ghost use Rattle.plan.specs.Causes.{rule};
 
-use crate::{Answer, Cause};
+use crate::Cause;
 
-// The next rule in turn: where none before it was broken, a broken rule gives its cause.
-pub fn rule(answer: Answer, kept: bool, cause: Cause) -> Answer
-    ensures { result ≡ rule answer kept cause }
+// A rule: where it is broken, the cause. (With `?`, the first broken rule in turn gives its cause.)
+pub fn check(kept: bool, cause: Cause) -> Result<(), Cause>
+    ensures { result ≡ rule (Ok tt) kept cause }
 {
-    match answer {
-        Answer::Readable => if kept {
-            Answer::Readable
-        } else {
-            Answer::Refused(cause)
-        },
-        Answer::Refused(c) => Answer::Refused(c),
-    }
-}
-
-pub fn is_readable(answer: Answer) -> bool
-    ensures { result ≡ is_readable answer }
-{
-    match answer {
-        Answer::Readable => true,
-        Answer::Refused(_) => false,
-    }
+    if kept { Ok(()) } else { Err(cause) }
 }

@@ -1,42 +1,26 @@
 // The fields of a record, and its spare bytes.
-ghost use Rattle.std.specs.Prelude.{◌≡◌, ◌+◌, ◌≤◌, ◌<◌, length};
-ghost use Rattle.std.proofs.Math.Seq.{slice};
+ghost use Rattle.std.specs.Prelude.{◌≡◌, ◌≤◌};
+ghost use Rattle.words.specs.Tables.{table};
 ghost use Rattle.records.specs.Bytes.{field, zeros};
+ghost use Rattle.plan.specs.Records.{demand_in};
 
-pub fn wide(x: u8) -> u32
-    ensures value { result ≡ x }
-    ensures upper_bound { result < 256 }
-{
-    x as u32
-}
+use crate::Record;
+use records::field;
 
-pub fn index(x: u8) -> usize
-    ensures value { result ≡ x }
-    ensures upper_bound { result < 256 }
+// The eight fields of two bytes from byte 4 on: demands, or availabilities.
+pub fn eight(r: &Record) -> [u32; 8]
+    ensures { result ≡ table 8 (demand_in r.now) }
 {
-    x as usize
-}
-
-// The field of two bytes from byte i on.
-pub fn half(r: &[u8], i: usize) -> u32
-    requires { i + 2 ≤ length r.now }
-    ensures value { result ≡ field r.now i 2 }
-    ensures upper_bound { result < 65536 }
-{
-    wide(r[i]) + 256 * wide(r[i + 1])
-}
-
-// Whether the bytes from one index up to another are zero.
-pub fn all_zero(r: &[u8], from: usize, to: usize) -> bool
-    requires { (from ≤ to) × (to ≤ length r.now) }
-    ensures { result ≡ zeros (slice from to r.now) }
-{
-    let mut i = from;
-    while i < to {
-        if r[i] != 0 {
-            return false;
-        }
-        i += 1;
+    let mut fields = [0u32; 8];
+    for (k, x) in fields.iter_mut().enumerate() {
+        *x = field::<2>(r, 4 + 2 * k);
     }
-    true
+    fields
+}
+
+// Whether each byte is zero.
+pub fn all_zero(bytes: &[u8]) -> bool
+    ensures { result ≡ zeros bytes.now }
+{
+    bytes.iter().all(|b| *b == 0)
 }

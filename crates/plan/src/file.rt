@@ -1,130 +1,93 @@
 // A plan file from its first record to its last.
-ghost use Rattle.std.specs.Prelude.{◌≡◌, ◌+◌, ◌*◌, ◌≤◌, length};
-ghost use Rattle.order.specs.Stored.{elements};
-ghost use Rattle.plan.specs.Records.{leading};
-ghost use Rattle.plan.specs.model.Plans.{empty_plan};
-ghost use Rattle.plan.specs.model.Phases.{file_of, rest_of, refusal_of};
+ghost use Rattle.std.specs.Prelude.{◌≡◌, List, ℕ, ◌+◌, ◌-◌, ◌≤◌, length, replicate};
+ghost use Rattle.order.specs.Stored.{elements, cells};
+ghost use Rattle.plan.specs.Records.{record_at, record_count, activity_count, leading};
+ghost use Rattle.plan.specs.Meaning.{Readable};
+ghost use Rattle.plan.specs.model.Reads.{outcome, given};
+ghost use Rattle.plan.specs.model.Lists.{RecordsOf, type_number};
+ghost use Rattle.plan.specs.model.Phases.{file_of, rest_of};
 ghost use Rattle.plan.specs.Causes.{is_length};
 
 use crate::activity::{activities_cause, store_demands, store_durations};
 use crate::arc::read_arcs;
-use crate::checks::is_readable;
-use crate::crew::{available, crew_cause};
-use crate::field::index;
-use crate::{Answer, Cause, Plan, Reading};
-use order::{CELLS, ELEMENTS};
+use crate::crew::crew_cause;
+use crate::field::eight;
+use crate::{Cause, Plan, Record, RecordType};
 
-fn empty_plan() -> Plan
-    ensures { result ≡ empty_plan }
+// The records of a file. (Definitions are of bytes: so contracts say `RecordsOf s records.now →`, each for itself. A
+// slice of arrays is std's, and takes no `Model` of ours. Below the reader m stands beside arrays of the width.)
+pub fn records_of(s: &[u8]) -> &[Record]
+    ensures value { RecordsOf s.now result.now }
+    ensures number { length result.now ≡ record_count s.now }
 {
-    Plan {
-        count: 0,
-        kinds: 0,
-        duration: [0; ELEMENTS],
-        demand: [0; 8 * ELEMENTS],
-        available: [0; 8],
-        job: [0; CELLS],
-        extra: [0; CELLS],
-    }
+    let (records, _) = s.as_chunks::<24>();
+    records
 }
 
-// A refusal: no plan stands beside it.
-pub fn refusal(answer: Answer) -> Reading
-    ensures { result ≡ refusal_of answer }
+// How many records have a type, up to the first that has another.
+pub fn leading_records(records: &[Record], of: RecordType) -> usize
+    ensures value { (s : List ℕ) → RecordsOf s records.now →
+        result ≡ leading (type_number of) (length records.now) s }
+    ensures upper_bound { result ≤ length records.now }
 {
-    Reading {
-        plan: empty_plan(),
-        answer,
-    }
+    records
+        .iter()
+        .position(|r| !of.is_of(r))
+        .unwrap_or(records.len())
 }
 
-// How many of the first n records have a type, up to the first that has another.
-pub fn leading_records(s: &[u8], of: u8, n: usize) -> usize
-    requires { 24 * n ≤ length s.now }
-    ensures value { result ≡ leading of n s.now }
-    ensures upper_bound { result ≤ n }
+// The arcs of a readable file, which follow its crew record. (`Readable` is a clause here and in the public functions
+// that call this, which have bytes alone: a type would ask more.)
+pub fn arcs_of(s: &[u8]) -> &[Record]
+    requires { Readable s.now }
+    ensures value { RecordsOf (record_at s.now (activity_count s.now + 1)) result.now }
+    ensures number { length result.now ≡ record_count s.now - (activity_count s.now + 1) }
 {
-    let mut i: usize = 0;
-    while i < n {
-        if s[24 * i] != of {
-            return i;
-        }
-        i += 1;
-    }
-    n
+    let records = records_of(s);
+    let m = leading_records(records, RecordType::Activity);
+    let (_, arcs) = records.split_at(m + 1);
+    arcs
 }
 
-// The rest of the file from its crew record on, of n records: the arc reader. The m activities before it are read.
-fn read_rest(
-    m: usize,
-    duration: [u32; ELEMENTS],
-    demand: [u32; 8 * ELEMENTS],
-    t: &[u8],
-    n: usize,
-) -> Reading
-    requires { (24 * n ≤ length t.now) × (m ≤ elements) × (m + n ≤ 2048) }
-    ensures { result ≡ rest_of m duration demand n t.now }
+// The rest of the file from its crew record on: the arc reader. The plan has the m activities before it, and no arcs.
+fn read_rest(plan: &mut Plan, m: usize, rest: &[Record]) -> Result<(), Cause>
+    requires { (m ≤ elements) × (m + length rest.now ≤ 2048)
+        × (plan.old.job ≡ replicate (cells elements) 0) × (plan.old.extra ≡ replicate (cells elements) 0) }
+    ensures { (t : List ℕ) → RecordsOf t rest.now →
+        given result plan.new ≡ outcome (rest_of m plan.old.duration plan.old.demand (length rest.now) t) }
 {
-    if n == 0 {
-        return refusal(Answer::Refused(Cause::RecordType(m)));
-    }
-    let crew = crew_cause(&demand, t, m);
-    if !is_readable(crew) {
-        return refusal(crew);
-    }
-    let arcs = &t[24..];
-    let j = leading_records(arcs, 3, n - 1);
-    let mut job = [0; CELLS];
-    let jobs = read_arcs(m, arcs, 3, j, m + 1, &mut job);
-    if !is_readable(jobs) {
-        return refusal(jobs);
-    }
-    let more = &arcs[24 * j..];
-    let mut extra = [0; CELLS];
-    let extras = read_arcs(m, more, 4, n - 1 - j, m + 1 + j, &mut extra);
-    if !is_readable(extras) {
-        return refusal(extras);
-    }
-    Reading {
-        plan: Plan {
-            count: m,
-            kinds: index(t[1]),
-            duration,
-            demand,
-            available: available(t),
-            job,
-            extra,
-        },
-        answer: Answer::Readable,
-    }
+    let Some((crew, arcs)) = rest.split_first() else {
+        return Err(Cause::RecordType(m));
+    };
+    crew_cause(&plan.demand, crew, m)?;
+    let j = leading_records(arcs, RecordType::JobArc);
+    let (jobs, extras) = arcs.split_at(j);
+    read_arcs(m, jobs, RecordType::JobArc, m + 1, &mut plan.job)?;
+    read_arcs(m, extras, RecordType::ExtraArc, m + 1 + j, &mut plan.extra)?;
+    plan.count = m;
+    plan.kinds = usize::from(crew[1]);
+    let available = eight(crew);
+    plan.available = available;
+    Ok(())
 }
 
-// A file of n records.
-pub fn read_file(s: &[u8], n: usize) -> Reading
-    requires { (24 * n ≤ length s.now) × (n ≤ 2048) }
-    ensures { result ≡ file_of n s.now }
+// A file, by its records.
+pub fn read_file(records: &[Record]) -> Result<Plan, Cause>
+    requires { length records.now ≤ 2048 }
+    ensures { (s : List ℕ) → RecordsOf s records.now → result ≡ outcome (file_of (length records.now) s) }
 {
-    let m = leading_records(s, 1, n);
-    let activities = activities_cause(s, m);
-    if !is_readable(activities) {
-        return refusal(activities);
-    }
-    let mut duration = [0u32; ELEMENTS];
-    store_durations(s, m, &mut duration);
-    let mut demand = [0u32; 8 * ELEMENTS];
-    store_demands(s, m, &mut demand);
-    let a = 24 * m;
-    read_rest(m, duration, demand, &s[a..], n - m)
+    let m = leading_records(records, RecordType::Activity);
+    let (activities, rest) = records.split_at(m);
+    activities_cause(activities)?;
+    let mut plan = Plan::empty();
+    store_durations(activities, &mut plan.duration);
+    store_demands(activities, &mut plan.demand);
+    read_rest(&mut plan, m, rest)?;
+    Ok(plan)
 }
 
 pub fn is_length(n: usize) -> bool
     ensures { result ≡ is_length n }
 {
-    if n == 0 {
-        return false;
-    }
-    if 49152 < n {
-        return false;
-    }
-    n % 24 == 0
+    0 < n && n <= 49152 && n % 24 == 0
 }

@@ -12,17 +12,42 @@ mod filter;
 mod numbers;
 mod wait;
 
-ghost use Rattle.std.specs.Prelude.{◌≡◌};
-ghost use Rattle.plan.specs.model.Reads.{read_of};
+ghost use Rattle.std.specs.Prelude.{◌≡◌, eqb};
+ghost use Rattle.records.specs.Bytes.{byte};
+ghost use Rattle.plan.specs.model.Plans.{empty_plan};
+ghost use Rattle.plan.specs.model.Lists.{type_number};
+ghost use Rattle.plan.specs.model.Reads.{read_of, outcome};
 
-use file::{is_length, read_file, refusal};
+use checks::check;
+use file::{is_length, read_file, records_of};
 pub use filter::{store_free, write_staying};
 pub use numbers::told_by;
-use order::{ELEMENTS, Rows};
+use order::{CELLS, ELEMENTS, Rows};
 pub use wait::store_waits;
 
 // How many activities a file may have. (The format's own limit: there may be more elements.)
 pub const ACTIVITIES: usize = 64;
+
+// A record of a file.
+type Record = [u8; 24];
+
+// The types of records, which their first bytes tell.
+#[derive(Clone, Copy)]
+enum RecordType {
+    Activity = 1,
+    Crew = 2,
+    JobArc = 3,
+    ExtraArc = 4,
+}
+
+impl RecordType {
+    // Whether a record is of this type.
+    fn is_of(self, r: &Record) -> bool
+        ensures { result ≡ eqb (byte r.now 0) (type_number self) }
+    {
+        r[0] == self as u8
+    }
+}
 
 // What a readable file says. Element i is activity i + 1; the demand of element i for kind k + 1 stands at
 // ELEMENTS * k + i; a member j of row i of `job` is a job arc from i to j, and of `extra` an extra arc.
@@ -37,6 +62,23 @@ pub struct Plan {
     pub extra: Rows,
 }
 
+impl Plan {
+    // The plan that says nothing, for whoever shows one where a file is refused.
+    pub fn empty() -> Plan
+        ensures { result ≡ empty_plan }
+    {
+        Plan {
+            count: 0,
+            kinds: 0,
+            duration: [0; ELEMENTS],
+            demand: [0; 8 * ELEMENTS],
+            available: [0; 8],
+            job: [0; CELLS],
+            extra: [0; CELLS],
+        }
+    }
+}
+
 // A cause of refusal, with the place of the record that has it.
 #[derive(Clone, Copy)]
 pub enum Cause {
@@ -48,35 +90,18 @@ pub enum Cause {
     RepeatedArc(usize),
 }
 
-// What a cause tells: its number in document 01, how many values are returned with it (0 or 1), and the place of the
-// record, which is the value.
+// What a cause tells: its number in document 01, and the place of the record, which is the value that is returned with
+// it, where there is one.
 #[derive(Clone, Copy)]
 pub struct Told {
     pub number: u64,
-    pub values: usize,
-    pub place: usize,
+    pub place: Option<usize>,
 }
 
-#[derive(Clone, Copy)]
-pub enum Answer {
-    Readable,
-    Refused(Cause),
-}
-
-// The answer, and the plan where it is `Readable`. (An enum holds no array, so the plan stands beside it.)
-#[derive(Clone, Copy)]
-pub struct Reading {
-    pub plan: Plan,
-    pub answer: Answer,
-}
-
-// Reads a plan file.
-pub fn read(s: &[u8]) -> Reading
-    ensures { result ≡ read_of s.now }
+// Reads a plan file: the plan, or the first cause of refusal.
+pub fn read(s: &[u8]) -> Result<Plan, Cause>
+    ensures { result ≡ outcome (read_of s.now) }
 {
-    let n = s.len();
-    if !is_length(n) {
-        return refusal(Answer::Refused(Cause::Length));
-    }
-    read_file(s, n / 24)
+    check(is_length(s.len()), Cause::Length)?;
+    read_file(records_of(s))
 }

@@ -10,20 +10,19 @@ fn at_place(number: u64, place: usize) -> Told
 {
     Told {
         number,
-        values: 1,
-        place,
+        place: Some(place),
     }
 }
 
-// What a cause tells. (A new cause has its line here and in `told_by`; whoever shows causes goes by these.)
+// What a cause tells. (A new cause has its line here and in `told_by`; whoever shows causes goes by these. They are
+// document 01's numbers, in a function that docs and specs/Numbers name.)
 pub fn told_by(c: Cause) -> Told
     ensures { result ≡ told_by c }
 {
     match c {
         Cause::Length => Told {
             number: 1,
-            values: 0,
-            place: 0,
+            place: None,
         },
         Cause::RecordType(p) => at_place(2, p),
         Cause::Field(p) => at_place(3, p),

@@ -7,6 +7,7 @@ use Prim.Native.Nat.{ℕ, ◌≤◌}
 use native.Mathlib.Omega.{arith}
 use lib.Dec.{ltb}
 use borrow.Author.Tests.{lt-ltb, ltb-true}
+use Rattle.std.specs.Prelude.{Ok}
 use Rattle.words.specs.Members.{first}
 use Rattle.words.proofs.Firsts.{at_first, first_below}
 use Rattle.words.proofs.Tests.{fails, clash}
@@ -21,7 +22,7 @@ use Rattle.plan.specs.Meaning.{Readable}
 use Rattle.plan.specs.model.Plans.{with_extra}
 use Rattle.plan.specs.declared.Plan.{Plan}
 use Rattle.flow_math.proofs.Theorems.{need_fewer}
-use Rattle.planner.specs.Faults.{is_fine, or_cause}
+use Rattle.planner.specs.Faults.{Fault, is_fine, or_cause}
 use Rattle.planner.specs.Open.{plan_in, rows_for, rows_of, job_order_for, order_for, plan_order, or_circle, Opens}
 use Rattle.planner.specs.Need.{demand_for, available_for, need_for, over_kind, is_overloaded, over_cause, or_overloaded}
 use Rattle.planner.specs.Verdict.{plan_fault, is_accepted, verdict_fault}
@@ -29,14 +30,12 @@ use Rattle.planner.specs.model.Opening.{overload_in}
 use Rattle.planner.specs.model.Trimming.{fits_by}
 use Rattle.planner.specs.declared.Cause.{Cause}
 use Rattle.planner.specs.declared.Cause.TheVariants.{JobCircle, PlanCircle}
-use Rattle.planner.specs.declared.Fault.{Fault}
-use Rattle.planner.specs.declared.Fault.TheVariants.{Fine}
 use Rattle.planner.proofs.OpenLaws.{read_none, round_none}
 use Rattle.planner.proofs.FileOrders.{plan_arcs, opens_when}
 use Rattle.planner.proofs.QuotedNeeds.{weighed}
 
 -- the next cause in turn, after none: it is fine where the test does not hold
-turn_fine : (b : Bool) (c : Cause) → is_fine (or_cause Fine b c) ≡ not b
+turn_fine : (b : Bool) (c : Cause) → is_fine (or_cause (Ok tt) b c) ≡ not b
 turn_fine true c = refl
 turn_fine false c = refl
 
@@ -50,8 +49,9 @@ pub accepted_by : (q : Plan) → Acyclic (Direct (rows_for q)) → is_accepted q
 unfolding is_accepted
 accepted_by q free =
     let job : Acyclic (Direct q.job) = acyclic_joined (λ i b. free i ((before_same (direct_joined q.job q.extra) i i).1 b)) in
-    let five = round_none Fine (job_order_for q) JobCircle (direct_order q.job) refl job in
-    let six = round_none (or_circle Fine (job_order_for q) JobCircle) (order_for q) PlanCircle (direct_order (rows_for q)) (ap is_fine five) free in
+    let five = round_none (Ok tt) (job_order_for q) JobCircle (direct_order q.job) refl job in
+    let six = round_none (or_circle (Ok tt) (job_order_for q) JobCircle) (order_for q) PlanCircle
+    (direct_order (rows_for q)) (ap is_fine five) free in
     ap (λ (f : Fault). is_fine (or_overloaded f q)) six ∙ turn_fine (is_overloaded q) (over_cause q)
 
 -- ---- the plan of a file, without a circle
@@ -66,7 +66,7 @@ module _ (s : List ℕ) (bytes : AreBytes s) (e : Readable s) (free : Acyclic (D
   accepted_fits =
       accepted_by (plan_in s) free
       ∙ sym (turn_fine (is_overloaded (plan_in s)) (over_cause (plan_in s)))
-      ∙ ap is_fine (sym (weighed s bytes Fine (λ t. opens)))
+      ∙ ap is_fine (sym (weighed s bytes (Ok tt) (λ t. opens)))
       ∙ turn_fine (ltb (overload_in (plan_order s) (plan_in s)).kind (plan_in s).kinds) _
 
 -- ---- FEWER ARCS, NO SMALLER NEED: a plan that is accepted with some extra arcs is accepted with more, if these make no circle

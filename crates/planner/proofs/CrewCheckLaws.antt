@@ -9,6 +9,7 @@ use native.Mathlib.Omega.{arith}
 use lib.Dec.{eqb, ltb}
 use lib.ListN.{length, get_or}
 use borrow.Author.Tests.{eq-eqb, ne_eqb, eqb-true, eqb-false, le-ltb, ltb-false}
+use Rattle.std.specs.Prelude.{Ok, Err}
 use Rattle.words.specs.Members.{some}
 use Rattle.words.proofs.Firsts.{some_here, some_none}
 use Rattle.words.proofs.Tests.{by_test, fails, clash, cond_true, cond_false}
@@ -23,20 +24,15 @@ use Rattle.schedule.specs.Lists.{at}
 use Rattle.schedule.specs.Checks.{check_of, occupied}
 use Rattle.schedule.specs.model.Arrays.{crew_net, work_of, Listed}
 use Rattle.schedule.specs.declared.Checked.{Checked}
-use Rattle.planner.specs.Faults.{is_fine, or_cause}
+use Rattle.planner.specs.Faults.{Fault, is_fine, or_cause}
 use Rattle.planner.specs.Open.{plan_in, fault_of, Opens}
 use Rattle.planner.specs.CrewCheck.{misworked, some_misworked, bad_lists, crew_check_fault, crew_work, crew_found, checked_of, crew_check_answer}
 use Rattle.planner.specs.Times.{arc_weight, Workable, crew_occupies}
-use Rattle.planner.specs.model.Opening.{opened_of}
+use Rattle.planner.specs.model.Opening.{Held, opened_of}
+use Rattle.planner.specs.declared.Cause.{Cause}
 use Rattle.planner.specs.declared.Cause.TheVariants.{Lists}
-use Rattle.planner.specs.declared.Fault.{Fault}
-use Rattle.planner.specs.declared.Fault.TheVariants.{Fine, Refused}
-use Rattle.planner.specs.declared.CrewChecked.{CrewChecked}
-use Rattle.planner.specs.declared.open.Opened.{Opened}
-use Rattle.planner.specs.declared.CrewChecked.TheVariants.{Found}
-use Rattle.planner.proofs.FaultLaws.{cause_fine}
-use Rattle.planner.proofs.OutputLaws.{Ends}
-use Rattle.planner.proofs.OpenLaws.{said_in, opens_readable, count_few}
+use Rattle.planner.proofs.FaultLaws.{cause_fine, cause_before}
+use Rattle.planner.proofs.OpenLaws.{said_in, opens_readable, count_few, goes_open}
 
 -- ---- the lists
 
@@ -122,28 +118,43 @@ crew_fine s starts worked e =
     let l = lists_fine (plan_in s).count (plan_in s).duration starts worked w.1 in
     (w.0, l.0, l.1, l.2)
 
--- ---- what the code holds: `o` is the plan that was opened, `t` whether the lists are bad, `f` the fault with 10 in its turn, and `b` what the code's
--- test said of it
+-- a cause of the opening is its own
+pub crew_before : (s starts worked : List ℕ) {c : Cause} → fault_of s ≡ Err c → crew_check_fault s starts worked ≡ Err c
+unfolding crew_check_fault
+crew_before s starts worked e = cause_before (fault_of s)
+    (bad_lists (plan_in s).count (plan_in s).duration starts worked) (Lists (plan_in s).count) _ e
 
-module _ (s starts worked : List ℕ) {o : Opened} (held : o ≡ opened_of s) where
-  pub ends : {t b : Bool} {f : Fault} → t ≡ bad_lists o.plan.count o.plan.duration starts worked → f ≡ or_cause o.fault t (Lists o.plan.count) → b ≡ is_fine f
-      → Ends (crew_check_fault s starts worked) f b
+-- ---- what the code holds: `o` is the plan that was opened, `t` whether the lists are bad
+
+module _ (s starts worked : List ℕ) (opens : Opens s) {o : Held} (held : o ≡ opened_of s) {t : Bool}
+    (lists : t ≡ bad_lists o.plan.count o.plan.duration starts worked) where
+  -- 10 in its turn
+  crew_lists : or_cause (Ok tt) t (Lists o.plan.count) ≡ crew_check_fault s starts worked
   unfolding crew_check_fault
-  ends lists found test = record { fault = rw (found, lists, held); test = test }
+  crew_lists =
+      rw (lists, held)
+      (goes_open s opens (λ f. or_cause f (bad_lists (plan_in s).count (plan_in s).duration starts worked)
+      (Lists (plan_in s).count)))
 
-  -- what looking for a broken arc and an overload asks
-  pub looks : is_fine (crew_check_fault s starts worked) ≡ true → Readable s × Listed starts worked
-  looks e =
-      let w = crew_fine s starts worked e in
-      (opens_readable s w.0, record { few = omega (arith, w.1, count_few s); paired = w.2 ∙ sym w.1 })
+  pub crew_refused : t ≡ true → Err (Lists o.plan.count) ≡ crew_check_answer s starts worked
+  crew_refused e =
+      ap (λ (f : Fault). checked_of f (crew_found s starts worked))
+      (ap (λ (b : Bool). or_cause (Ok tt) b (Lists o.plan.count)) (sym e) ∙ crew_lists)
 
-  -- beside a fault it does not matter what was found
-  pub answered : {f : Fault} {b : Bool} (x : Checked) {r : CrewChecked} → Ends (crew_check_fault s starts worked) f b → r ≡ checked_of f x
-      → (is_fine (crew_check_fault s starts worked) ≡ true → x ≡ check_of (crew_net o.rows (arc_weight s (at worked)) starts) (work_of o.plan.demand o.plan.available starts worked))
-      → r ≡ crew_check_answer s starts worked
-  unfolding crew_found
-  answered x e q h = q ∙ ap (λ (y : Fault). checked_of y x) e.fault ∙ same (crew_check_fault s starts worked) (λ t. h t ∙ rw held)
-    where
-      same : (y : Fault) → (is_fine y ≡ true → x ≡ crew_found s starts worked) → checked_of y x ≡ checked_of y (crew_found s starts worked)
-      same Fine h = ap Found (h refl)
-      same (Refused c) h = refl
+  module _ (e : t ≡ false) where
+    goes : crew_check_fault s starts worked ≡ Ok tt
+    goes = sym crew_lists ∙ ap (λ (b : Bool). or_cause (Ok tt) b (Lists o.plan.count)) e
+
+    -- what looking for a broken arc and an overload asks
+    pub looks : Readable s × Listed starts worked
+    looks =
+        let w = crew_fine s starts worked (ap is_fine goes) in
+        (opens_readable s w.0, record { few = omega (arith, w.1, count_few s); paired = w.2 ∙ sym w.1 })
+
+    pub crew_done : {x : Checked}
+        → x ≡ check_of (crew_net o.rows (arc_weight s (at worked)) starts)
+        (work_of o.plan.demand o.plan.available starts worked)
+        → Ok x ≡ crew_check_answer s starts worked
+    unfolding crew_found
+    crew_done q = ap (λ (y : Checked). Ok y) (q ∙ rw held)
+        ∙ ap (λ (f : Fault). checked_of f (crew_found s starts worked)) (sym goes)

@@ -1,43 +1,34 @@
 -- Flow: its causes 8, 9 and 7 in their turn, and what it answers and writes.
-use mathlib.Core.Path.{◌≡◌, sym, ap, ◌∙◌, subst}
-use mathlib.Core.Bool.{Bool, true, false, not}
+use mathlib.Core.Path.{◌≡◌, ap, ◌∙◌}
+use mathlib.Core.Bool.{true, false, not}
 use mathlib.Core.List.{List}
 use Prim.Native.Nat.{ℕ, ◌-◌, ◌≤◌, ◌<◌}
 use native.Mathlib.Omega.{arith}
 use lib.Dec.{ltb, leb}
 use lib.ListN.{length}
-use borrow.Author.Tests.{lt-ltb, ltb-true, ltb-false, leb-true, not-false}
+use borrow.Author.Tests.{ltb-true, ltb-false, leb-true, not-false}
+use Rattle.std.specs.Prelude.{Ok}
 use Rattle.words.proofs.Firsts.{before_first}
 use Rattle.words.proofs.Tests.{and_left, and_right}
 use Rattle.records.specs.Bytes.{AreBytes}
 use Rattle.records.specs.Records.{starting_with}
 use Rattle.kinds.specs.model.Writing.{Lent, lent}
-use Rattle.planner.specs.Faults.{is_fine, or_cause, or_short}
+use Rattle.planner.specs.Faults.{Fault, is_fine, or_cause, or_short}
 use Rattle.planner.specs.Open.{plan_in, fault_of, Opens}
 use Rattle.planner.specs.Need.{available_for, need_for, over_kind, is_overloaded, over_cause, or_overloaded}
 use Rattle.planner.specs.Flow.{is_kind, most_records, kind_fault, flow_fault, flow_count, record_bytes}
 use Rattle.planner.specs.File.{flow_length}
-use Rattle.planner.specs.model.Opening.{opened_of, kind_fault_in}
+use Rattle.planner.specs.model.Opening.{Held, opened_of, kind_fault_in}
 use Rattle.planner.specs.model.Records.{FlowAsked, flow_put}
 use Rattle.planner.specs.declared.Cause.TheVariants.{NoKind}
-use Rattle.planner.specs.declared.Fault.{Fault}
-use Rattle.planner.specs.declared.Fault.TheVariants.{Fine}
-use Rattle.planner.specs.declared.open.Opened.{Opened}
 use Rattle.planner.proofs.FaultLaws.{cause_fine, cause_none, short_fine, short_none}
-use Rattle.planner.proofs.OutputLaws.{Ends}
-use Rattle.planner.proofs.OpenLaws.{count_few, count_within}
+use Rattle.planner.proofs.OpenLaws.{count_few, count_within, goes_open}
 use Rattle.planner.proofs.QuotedNeeds.{kinds_few, need_quoted, weighed_held}
 use Rattle.planner.proofs.FlowUnits.{length_few, count_room, bounded_in, room_in, flow_put_lem}
 
 -- ---- the kind
 
 module _ (kind n : ℕ) where
-  pub kind_zero : kind ≡ 0 → false ≡ is_kind kind n
-  kind_zero e = rw e
-
-  pub kind_some : 0 < kind → leb kind n ≡ is_kind kind n
-  kind_some h = rw (lt-ltb 0 kind h)
-
   pub kind_within : is_kind kind n ≡ true → (0 < kind) × (kind ≤ n)
   kind_within e = (ltb-true 0 kind (and_left (ltb 0 kind) (leb kind n) e), leb-true kind n (and_right (ltb 0 kind) (leb kind n) e))
 
@@ -70,7 +61,8 @@ module _ (s : List ℕ) (kind n needed : ℕ) where
       let r = roomy_fine w.0 in
       (r.0, r.1, r.2, w.1)
 
-  pub fine_kind : Opens s → is_kind kind (plan_in s).kinds ≡ true → needed ≤ n → is_overloaded (plan_in s) ≡ false → kind_fault s kind n needed ≡ Fine
+  pub fine_kind : Opens s → is_kind kind (plan_in s).kinds ≡ true → needed ≤ n → is_overloaded (plan_in s) ≡ false
+      → kind_fault s kind n needed ≡ Ok tt
   fine_kind o k l e =
       let a = cause_none (fault_of s) (not (is_kind kind (plan_in s).kinds)) (NoKind (plan_in s).kinds) o (ap not k) in
       let r = short_none known n needed (ap is_fine a) l in
@@ -85,7 +77,7 @@ module _ (s : List ℕ) (kind n : ℕ) where
   flow_fine = kind_fine s kind n (flow_length (plan_in s).count)
 
   pub fine_flow : Opens s → is_kind kind (plan_in s).kinds ≡ true → flow_length (plan_in s).count ≤ n → is_overloaded (plan_in s) ≡ false
-      → flow_fault s kind n ≡ Fine
+      → flow_fault s kind n ≡ Ok tt
   unfolding flow_fault
   fine_flow = fine_kind s kind n (flow_length (plan_in s).count)
 
@@ -111,28 +103,28 @@ flow_few s bytes kind n = records_few s bytes kind n (flow_length (plan_in s).co
 
 -- ---- what the code holds: `o` is the plan that was opened
 
-module _ (s : List ℕ) (kind : ℕ) (out : List ℕ) (bytes : AreBytes s) {o : Opened} (held : o ≡ opened_of s) where
-  -- an operation on one kind: `f` is the fault with 8, 9 and 7 in their turn, and `b` what the code's test said of it
-  pub kind_ends : (n needed : ℕ) {b : Bool} {f : Fault} → f ≡ kind_fault_in o.fault o.order o.plan kind n needed → b ≡ is_fine f → Ends (kind_fault s kind n needed) f b
-  kind_ends n needed seven test =
-      record {
-        fault =
-            weighed_held s held bytes second (λ e. (roomy_fine s kind n needed (sym (ap is_fine second_is) ∙ e)).0) seven
-            ∙ ap (λ (x : Fault). or_overloaded x (plan_in s)) second_is;
-        test = test;
-      }
+module _ (s : List ℕ) (kind : ℕ) (out : List ℕ) (bytes : AreBytes s) {o : Held} (held : o ≡ opened_of s) where
+  -- an operation on one kind of a plan that opens: 8, 9 and 7 in their turn
+  pub kind_turns : Opens s → (n needed : ℕ) {f : Fault} → f ≡ kind_fault_in (Ok tt) o.order o.plan kind n needed
+      → f ≡ kind_fault s kind n needed
+  kind_turns opens n needed seven =
+      weighed_held s held bytes second (λ _. opens) seven
+      ∙ ap (λ (x : Held). or_overloaded
+      (or_short (or_cause (Ok tt) (not (is_kind kind x.plan.kinds)) (NoKind x.plan.kinds)) n needed) (plan_in s)) held
+      ∙ goes_open s opens (λ f. or_overloaded
+      (or_short (or_cause f (not (is_kind kind (plan_in s).kinds)) (NoKind (plan_in s).kinds)) n needed) (plan_in s))
     where
       second : Fault
-      second = or_short (or_cause o.fault (not (is_kind kind o.plan.kinds)) (NoKind o.plan.kinds)) n needed
-
-      second_is : second ≡ roomy s kind n needed
-      second_is = rw held
+      second = or_short (or_cause (Ok tt) (not (is_kind kind o.plan.kinds)) (NoKind o.plan.kinds)) n needed
 
   -- Flow: `long` is the length needed
-  pub ends : {long : ℕ} {b : Bool} {f : Fault} → long ≡ flow_length o.plan.count → f ≡ kind_fault_in o.fault o.order o.plan kind (length out) long → b ≡ is_fine f
-      → Ends (flow_fault s kind (length out)) f b
+  pub flow_turns : Opens s → {long : ℕ} {f : Fault} → long ≡ flow_length o.plan.count
+      → f ≡ kind_fault_in (Ok tt) o.order o.plan kind (length out) long
+      → f ≡ flow_fault s kind (length out)
   unfolding flow_fault
-  ends {long} {b} {f} e seven test = subst (λ (x : ℕ). Ends (kind_fault s kind (length out) x) f b) (e ∙ ap (λ (x : Opened). flow_length x.plan.count) held) (kind_ends (length out) long seven test)
+  flow_turns opens {long} e seven =
+      kind_turns opens (length out) long seven
+      ∙ ap (λ (x : ℕ). kind_fault s kind (length out) x) (e ∙ ap (λ (x : Held). flow_length x.plan.count) held)
 
   module _ (e : is_fine (flow_fault s kind (length out)) ≡ true) where
     goes : Opens s × (is_kind kind (plan_in s).kinds ≡ true) × (flow_length (plan_in s).count ≤ length out) × (is_overloaded (plan_in s) ≡ false)

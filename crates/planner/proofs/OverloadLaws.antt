@@ -1,26 +1,29 @@
 -- Overload: its record, and what it answers and writes.
-use mathlib.Core.Path.{◌≡◌, ap, ◌∙◌}
-use mathlib.Core.Bool.{Bool, true}
+use mathlib.Core.Path.{◌≡◌, sym, ap, ◌∙◌}
+use mathlib.Core.Bool.{true}
 use mathlib.Core.List.{List}
 use Prim.Native.Nat.{ℕ, ◌≤◌}
 use native.Mathlib.Omega.{arith}
+use lib.Dec.{ltb}
 use lib.ListN.{length}
 use borrow.Author.Tests.{le-ltb}
+use Rattle.std.specs.Prelude.{Option, Ok, Err}
 use Rattle.words.proofs.Tests.{by_test}
 use Rattle.records.specs.Bytes.{AreBytes}
 use Rattle.records.specs.Records.{starting_with}
-use Rattle.kinds.specs.Needs.{shown_count, shown_bytes}
+use Rattle.kinds.specs.Needs.{shown_count, shown_bytes, some_overload, given_count, given_bytes}
 use Rattle.kinds.specs.declared.Overload.{Overload}
-use Rattle.planner.specs.Faults.{is_fine, or_short}
+use Rattle.kinds.proofs.KindLoops.{count_given, bytes_given}
+use Rattle.planner.specs.Faults.{Fault, is_fine, or_short}
 use Rattle.planner.specs.Open.{plan_in, plan_order, fault_of, Opens}
 use Rattle.planner.specs.Need.{is_overloaded}
 use Rattle.planner.specs.Overload.{overload_fault, over_count, over_bytes}
-use Rattle.planner.specs.model.Opening.{opened_of, overload_in}
-use Rattle.planner.specs.declared.Fault.{Fault}
-use Rattle.planner.specs.declared.open.Opened.{Opened}
-use Rattle.planner.proofs.FaultLaws.{short_fine}
-use Rattle.planner.proofs.OutputLaws.{Ends}
-use Rattle.planner.proofs.QuotedNeeds.{lowest_found, lowest_none}
+use Rattle.planner.specs.model.Opening.{Held, opened_of, overload_in}
+use Rattle.planner.specs.declared.Cause.{Cause}
+use Rattle.planner.specs.declared.Cause.TheVariants.{Short}
+use Rattle.planner.proofs.FaultLaws.{cause_before, short_fine}
+use Rattle.planner.proofs.OpenLaws.{goes_open}
+use Rattle.planner.proofs.QuotedNeeds.{kinds_few, lowest_found, lowest_none}
 
 -- ---- how the overload that is found is shown
 
@@ -44,22 +47,34 @@ pub overload_fine : (s : List ℕ) (n : ℕ) → is_fine (overload_fault s n) �
 unfolding overload_fault
 overload_fine s n e = short_fine (fault_of s) n 24 e
 
--- ---- what the code holds: `o` is the plan that was opened, `f` the fault with 9 in its turn, and `b` what the code's test said of it
+-- a cause of the opening is its own
+pub overload_before : (s : List ℕ) (n : ℕ) {c : Cause} → fault_of s ≡ Err c → overload_fault s n ≡ Err c
+unfolding overload_fault
+overload_before s n e = cause_before (fault_of s) (ltb n 24) (Short 24) _ e
 
-module _ (s out : List ℕ) {o : Opened} (held : o ≡ opened_of s) where
-  pub ends : {f : Fault} {b : Bool} → f ≡ or_short o.fault (length out) 24 → b ≡ is_fine f → Ends (overload_fault s (length out)) f b
+-- ---- what the code holds: `o` is the plan that was opened
+
+module _ (s out : List ℕ) (opens : Opens s) where
+  -- 9 in its turn
+  pub overload_short : {f : Fault} → f ≡ or_short (Ok tt) (length out) 24 → f ≡ overload_fault s (length out)
   unfolding overload_fault
-  ends found test = record { fault = found ∙ ap (λ (x : Opened). or_short x.fault (length out) 24) held; test = test }
+  overload_short e = e ∙ goes_open s opens (λ f. or_short f (length out) 24)
+
+  pub room : Ok tt ≡ overload_fault s (length out) → 24 ≤ length out
+  room e = (overload_fine s (length out) (sym (ap is_fine e))).1
 
   -- what is found is shown
-  module _ (bytes : AreBytes s) (e : is_fine (overload_fault s (length out)) ≡ true) {v : Overload} (found : v ≡ overload_in o.order o.plan) where
-    pub counted : {r : ℕ} → r ≡ shown_count v o.plan.kinds → r ≡ over_count (plan_in s)
-    counted q =
-        q ∙ ap (λ (x : Overload). shown_count x o.plan.kinds) found
-        ∙ ap (λ (x : Opened). shown_count (overload_in x.order x.plan) x.plan.kinds) held ∙ count_shown s bytes (overload_fine s (length out) e).0
+  module _ (bytes : AreBytes s) {o : Held} (held : o ≡ opened_of s) {v : Option Overload}
+      (found : v ≡ some_overload o.plan.kinds (overload_in o.order o.plan)) where
+    shown : v ≡ some_overload (plan_in s).kinds (overload_in (plan_order s) (plan_in s))
+    shown = found ∙ ap (λ (x : Held). some_overload x.plan.kinds (overload_in x.order x.plan)) held
 
-    pub written : {after : List ℕ} → after ≡ starting_with (shown_bytes v o.plan.kinds) out → after ≡ starting_with (over_bytes (plan_in s)) out
-    written q =
-        q ∙ ap (λ (x : Overload). starting_with (shown_bytes x o.plan.kinds) out) found
-        ∙ ap (λ (x : Opened). starting_with (shown_bytes (overload_in x.order x.plan) x.plan.kinds) out) held
-        ∙ ap (λ (l : List ℕ). starting_with l out) (bytes_shown s bytes (overload_fine s (length out) e).0)
+    pub counted : given_count v ≡ over_count (plan_in s)
+    counted = ap given_count shown
+        ∙ count_given (plan_in s).kinds (overload_in (plan_order s) (plan_in s)) (kinds_few s) ∙ count_shown s bytes opens
+
+    pub written : starting_with (given_bytes v) out ≡ starting_with (over_bytes (plan_in s)) out
+    written =
+        ap (λ (l : List ℕ). starting_with l out)
+        (ap given_bytes shown ∙ bytes_given (plan_in s).kinds (overload_in (plan_order s) (plan_in s)) (kinds_few s)
+        ∙ bytes_shown s bytes opens)

@@ -7,7 +7,8 @@ use Prim.Native.Nat.{ℕ, ◌+◌, ◌*◌, ◌^◌, ◌≤◌, ◌<◌}
 use native.Mathlib.Omega.{arith}
 use lib.Dec.{ltb}
 use lib.ListN.{get_or}
-use borrow.Author.Tests.{le-ltb, ltb-true}
+use borrow.Author.Tests.{lt-ltb, le-ltb, ltb-true}
+use Rattle.std.specs.Prelude.{Some, None, Ok, Err}
 use Rattle.words.specs.Bits.{bit}
 use Rattle.words.proofs.Bits.{digits_below}
 use Rattle.words.proofs.Firsts.{first_cong}
@@ -29,16 +30,15 @@ use Rattle.solver.specs.model.Network.{handed}
 use Rattle.solver.specs.model.Quote.{flow_of}
 use Rattle.solver.specs.Sound.{Sound, Plan as Quotable}
 use Rattle.solver.proofs.First.{quote_first, set_small, set_within}
-use Rattle.kinds.specs.Needs.{demand_at, demands_for, quote_for, exceeds, lowest_kind, lowest_overload, no_overload}
+use Rattle.kinds.specs.Needs.{demand_at, demands_for, quote_for, exceeds, lowest_kind, lowest_overload, no_overload, some_overload}
 use Rattle.kinds.specs.declared.Overload.{Overload}
-use Rattle.planner.specs.Faults.{is_fine}
+use Rattle.kinds.proofs.KindLoops.{some_told, none_told}
+use Rattle.planner.specs.Faults.{Fault, is_fine}
 use Rattle.planner.specs.Open.{plan_in, plan_order, Opens}
 use Rattle.planner.specs.Need.{demand_for, available_for, need_for, over_kind, is_overloaded, shown_set, over_cause, or_overloaded}
-use Rattle.planner.specs.model.Opening.{opened_of, overload_in, or_found}
-use Rattle.planner.specs.declared.Fault.{Fault}
-use Rattle.planner.specs.declared.Fault.TheVariants.{Fine, Refused}
-use Rattle.planner.specs.declared.open.Opened.{Opened}
-use Rattle.planner.proofs.OpenLaws.{plan_in_lem, plan_not, said_in, opens_readable}
+use Rattle.planner.specs.model.Opening.{Held, opened_of, overload_in, or_found, Fits}
+use Rattle.planner.specs.declared.Cause.TheVariants.{Overloaded}
+use Rattle.planner.proofs.OpenLaws.{plan_in_lem, plan_not, said_in, count_few, opens_readable}
 use Rattle.planner.proofs.FileOrders.{opens_strict}
 
 -- a plan has no more than 8 kinds, readable or not
@@ -154,20 +154,33 @@ module _ (s : List ℕ) (small : AreBytes s) (o : Opens s) where
 pub weighed : (s : List ℕ) → AreBytes s → (f : Fault) → (is_fine f ≡ true → Opens s)
     → or_found f (overload_in (plan_order s) (plan_in s)) (plan_in s).kinds ≡ or_overloaded f (plan_in s)
 unfolding over_cause is_overloaded
-weighed s small (Refused c) opens = refl
-weighed s small Fine opens =
+weighed s small (Err c) opens = refl
+weighed s small (Ok _) opens =
     by_test (is_overloaded (plan_in s))
     (λ e. rw (lowest_found s small (opens refl) e))
     (λ e. rw (lowest_none s small (opens refl) e, le-ltb (plan_in s).kinds (plan_in s).kinds (omega arith), e))
 
+-- the same, from what a search gives: `v` is what it finds of the first n kinds
+module _ (n : ℕ) (v : Overload) where
+  pub weighed_none : None ≡ some_overload n v → Ok tt ≡ or_found (Ok tt) v n
+  weighed_none e = rw (le-ltb v.kind n (none_told n v e))
+
+  pub found_below : {w : Overload} → Some w ≡ some_overload n v → w.kind < n
+  found_below e = let t = some_told n v e in rw t.0 t.1
+
+  pub weighed_some : {w : Overload} → Some w ≡ some_overload n v
+      → Err (Overloaded (w.kind + 1) w.need w.set) ≡ or_found (Ok tt) v n
+  weighed_some e = let t = some_told n v e in rw (lt-ltb v.kind n t.1, t.0)
+
 -- ---- of what the code holds: `o` is the plan that was opened
 
-module _ (s : List ℕ) {o : Opened} (held : o ≡ opened_of s) where
-  pub opened_kinds : o.plan.kinds ≤ 8
-  opened_kinds = rw held (kinds_few s)
+module _ (s : List ℕ) {o : Held} (held : o ≡ opened_of s) where
+  pub opened_fits : Fits o.plan
+  opened_fits = rw held (count_few s, kinds_few s)
 
   -- 7 in its turn, after a fault `before`
   pub weighed_held : AreBytes s → (before : Fault) {f : Fault} → (is_fine before ≡ true → Opens s) → f ≡ or_found before (overload_in o.order o.plan) o.plan.kinds
       → f ≡ or_overloaded before (plan_in s)
   weighed_held bytes before opens found =
-      found ∙ ap (λ (x : Opened). or_found before (overload_in x.order x.plan) x.plan.kinds) held ∙ weighed s bytes before opens
+      found ∙ ap (λ (x : Held). or_found before (overload_in x.order x.plan) x.plan.kinds) held
+      ∙ weighed s bytes before opens

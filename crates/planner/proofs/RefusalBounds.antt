@@ -1,5 +1,5 @@
 -- What an operation refuses with is small, whatever the plan's bytes are and whatever is lent: the cause's number has 8
--- bits, its two values have 32, and its set holds activities alone.
+-- bits, its values have 32, and its set holds activities alone.
 --
 --   open_refuses, verdict_refuses, needs_refuses, starts_refuses, overload_refuses, flow_refuses, sheet_refuses, trim_refuses, crew_refuses    what every operation does first, and the eight
 use mathlib.Core.Path.{◌≡◌}
@@ -9,18 +9,18 @@ use Prim.Native.Nat.{ℕ, ◌^◌, ◌<◌}
 use native.Mathlib.Omega.{arith}
 use lib.Dec.{ltb}
 use lib.ListN.{length}
-use lib.Pow.{pow_pos}
+use Rattle.std.specs.Prelude.{Option, Some, None, unwrap_or}
 use Rattle.records.specs.Bytes.{AreBytes}
 use Rattle.order.specs.Stored.{number_of}
-use Rattle.order.proofs.Stored.{number_none}
 use Rattle.crew_sheet.specs.Sheet.{page_bytes}
 use Rattle.plan.specs.Records.{activities}
+use Rattle.plan.specs.Numbers.{told_by}
 use Rattle.plan.proofs.CausePlaces.{told_small}
 use Rattle.solver.proofs.QuoteSound.{need_small}
 use Rattle.kinds.specs.Needs.{demands_for}
-use Rattle.planner.specs.Numbers.{plain, refusal_of}
+use Rattle.planner.specs.Numbers.{with_one, at_most_one, refusal_of}
 use Rattle.planner.specs.Open.{plan_in, plan_order, fault_of, Opens}
-use Rattle.planner.specs.Faults.{is_fine, or_cause, or_short}
+use Rattle.planner.specs.Faults.{Fault, is_fine, or_cause, or_short}
 use Rattle.planner.specs.Need.{over_kind, is_overloaded, over_cause}
 use Rattle.planner.specs.Verdict.{verdict_fault}
 use Rattle.planner.specs.Needs.{needs_fault}
@@ -33,22 +33,30 @@ use Rattle.planner.specs.Overload.{overload_fault}
 use Rattle.planner.specs.CrewCheck.{bad_lists, crew_check_fault}
 use Rattle.planner.specs.declared.Cause.{Cause}
 use Rattle.planner.specs.declared.Cause.TheVariants.{NoKind, Short, Lists, NoPage}
-use Rattle.planner.specs.declared.Fault.{Fault}
 use Rattle.planner.specs.declared.Refusal.{Refusal}
+use Rattle.planner.specs.declared.Values.{Values}
+use Rattle.planner.specs.declared.Values.TheVariants.{Nothing, One, Need}
 use Rattle.planner.proofs.FaultLaws.{cause_fine, short_fine, Every, every_turn}
 use Rattle.planner.proofs.OpenLaws.{count_few, count_within, opens_short, every_open}
 use Rattle.planner.proofs.QuotedNeeds.{kinds_few, need_quoted, quotable, over_below, set_fits}
 use Rattle.planner.proofs.FlowUnits.{length_few}
 use Rattle.planner.proofs.SheetLaws.{pages_small}
 
+abbrev pub SmallValues : Values → Type 0
+SmallValues Nothing = Unit {0}
+SmallValues (One n) = n < 2 ^ 32
+SmallValues (Need k need set) = (k < 2 ^ 32) × (need < 2 ^ 32) × (number_of set < 2 ^ activities)
+
 pub record Small (r : Refusal) : Type 0 where
   pub number : r.number < 256
-  pub first : r.first < 2 ^ 32
-  pub second : r.second < 2 ^ 32
-  pub members : number_of r.set < 2 ^ activities
+  pub values : SmallValues r.values
 
-plain_small : (number values first : ℕ) → number < 256 → first < 2 ^ 32 → Small (plain number values first 0)
-plain_small number values first h l = record { number = h; first = l; second = omega arith; members = rw number_none (pow_pos activities) }
+one_small : (number value : ℕ) → number < 256 → value < 2 ^ 32 → Small (with_one number value)
+one_small number value h l = record { number = h; values = l }
+
+place_small : (place : Option ℕ) → unwrap_or place 0 < 2 ^ 32 → SmallValues (at_most_one place)
+place_small None l = tt
+place_small (Some p) l = l
 
 -- ---- a fault whose refusal is small, and the next cause in turn
 
@@ -63,9 +71,11 @@ small_turn = every_turn (λ (c : Cause). Small (refusal_of c))
 pub open_refuses : (s : List ℕ) → SmallFault (fault_of s)
 open_refuses s =
     every_open (λ (c : Cause). Small (refusal_of c)) s
-    (λ u e. let w = told_small s u e in plain_small _ _ _ w.number (omega (arith, w.place)))
-    (λ i h. plain_small 5 1 _ (omega arith) (omega arith))
-    (λ i h. plain_small 6 1 _ (omega arith) (omega arith))
+    (λ u e.
+    let w = told_small s u e in
+    record { number = w.number; values = place_small (told_by u).place (omega (arith, w.place)) })
+    (λ i h. one_small 5 _ (omega arith) (omega arith))
+    (λ i h. one_small 6 _ (omega arith) (omega arith))
 
 -- ---- 7, where the plan opens: the kind is at most 8, and no element demands more than 65,535
 
@@ -75,7 +85,11 @@ over_small s small o e =
     let k = over_kind (plan_in s) in
     let l : k < 8 = omega (arith, over_below s small o e, kinds_few s) in
     let n = need_small (plan_in s).count (plan_order s) (demands_for (plan_in s).demand k) (quotable s small o k l) in
-    record { number = omega arith; first = omega arith; second = omega (arith, n, need_quoted s small o k l); members = set_fits s small o k l }
+    record {
+      number = omega arith;
+      values =
+          (omega arith, omega (arith, n, need_quoted s small o k l), set_fits s small o k l);
+    }
 
 -- ---- Verdict, Needs, Starts, Overload
 
@@ -84,7 +98,7 @@ unfolding verdict_fault fault_of
 verdict_refuses s small = small_turn (fault_of s) (is_overloaded (plan_in s)) (over_cause (plan_in s)) (open_refuses s) (over_small s small)
 
 short_small : (f : Fault) (t : Bool) (n : ℕ) → n < 2 ^ 32 → SmallFault f → SmallFault (or_cause f t (Short n))
-short_small f t n l small = small_turn f t (Short n) small (λ o e. plain_small 9 1 n (omega arith) l)
+short_small f t n l small = small_turn f t (Short n) small (λ o e. one_small 9 n (omega arith) l)
 
 pub needs_refuses : (s : List ℕ) (n : ℕ) → SmallFault (needs_fault s n)
 unfolding needs_fault
@@ -104,7 +118,8 @@ pub kind_refuses : (s : List ℕ) → AreBytes s → (kind n needed : ℕ) → n
 kind_refuses s small kind n needed few =
     small_turn roomy (is_overloaded (plan_in s)) (over_cause (plan_in s))
     (short_small known (ltb n needed) needed few
-    (small_turn (fault_of s) none (NoKind (plan_in s).kinds) (open_refuses s) (λ o e. plain_small 8 1 _ (omega arith) (omega (arith, kinds_few s)))))
+    (small_turn (fault_of s) none (NoKind (plan_in s).kinds) (open_refuses s)
+    (λ o e. one_small 8 _ (omega arith) (omega (arith, kinds_few s)))))
     (λ e. over_small s small (cause_fine (fault_of s) none (NoKind (plan_in s).kinds) (cause_fine known (ltb n needed) (Short needed) e).0).0)
   where
     none : Bool
@@ -126,7 +141,7 @@ pub sheet_refuses : (s : List ℕ) → AreBytes s → (kind page n : ℕ) → Sm
 unfolding sheet_fault
 sheet_refuses s small kind page n =
     small_turn (kind_fault s kind n page_bytes) (not (is_page page (sheet_pages s kind))) (NoPage (sheet_pages s kind)) (kind_refuses s small kind n page_bytes (omega arith))
-    (λ o e. plain_small 11 1 _ (omega arith) (omega (arith, pages_small s small kind n o)))
+    (λ o e. one_small 11 _ (omega arith) (omega (arith, pages_small s small kind n o)))
 
 -- ---- Trim
 
@@ -134,7 +149,8 @@ pub trim_refuses : (s : List ℕ) → AreBytes s → (n : ℕ) → SmallFault (t
 unfolding trim_fault
 trim_refuses s small n =
     small_turn (or_short (fault_of s) n (length s)) (is_overloaded (plan_in s)) (over_cause (plan_in s))
-    (small_turn (fault_of s) (ltb n (length s)) (Short (length s)) (open_refuses s) (λ o e. plain_small 9 1 (length s) (omega arith) (omega (arith, opens_short s o))))
+    (small_turn (fault_of s) (ltb n (length s)) (Short (length s)) (open_refuses s)
+    (λ o e. one_small 9 (length s) (omega arith) (omega (arith, opens_short s o))))
     (λ e. over_small s small (short_fine (fault_of s) n (length s) e).0)
 
 -- ---- Crew check
@@ -143,4 +159,4 @@ pub crew_refuses : (s starts worked : List ℕ) → SmallFault (crew_check_fault
 unfolding crew_check_fault
 crew_refuses s starts worked =
     small_turn (fault_of s) (bad_lists (plan_in s).count (plan_in s).duration starts worked) (Lists (plan_in s).count) (open_refuses s)
-    (λ o e. plain_small 10 1 _ (omega arith) (omega (arith, count_few s)))
+    (λ o e. one_small 10 _ (omega arith) (omega (arith, count_few s)))

@@ -1,11 +1,12 @@
 -- Sheet: 11 after 8, 9 and 7, and what it answers and writes.
-use mathlib.Core.Path.{◌≡◌, refl, sym, ap, ap₂, ◌∙◌}
+use mathlib.Core.Path.{◌≡◌, sym, ap, ap₂, ◌∙◌}
 use mathlib.Core.Bool.{Bool, true, false, not}
 use mathlib.Core.List.{List, ◌++◌}
 use Prim.Native.Nat.{ℕ, zero, suc, ◌+◌, ◌*◌, ◌-◌, ◌≤◌}
 use native.Mathlib.Omega.{arith}
 use lib.ListN.{length, drop, replicate, length-replicate, length-append}
 use borrow.Author.Tests.{not-false}
+use Rattle.std.specs.Prelude.{Ok, Err}
 use Rattle.words.proofs.Tables.{over_all}
 use Rattle.order.specs.Stored.{elements}
 use Rattle.order.specs.Before.{Acyclic}
@@ -17,7 +18,7 @@ use Rattle.crew_sheet.proofs.Fronts.{page_front}
 use Rattle.plan.specs.Meaning.{Readable}
 use Rattle.schedule.specs.model.Arrays.{AllAtMost}
 use Rattle.kinds.specs.model.Writing.{lent}
-use Rattle.planner.specs.Faults.{is_fine, or_cause}
+use Rattle.planner.specs.Faults.{Fault, Output, is_fine, or_cause}
 use Rattle.planner.specs.Open.{plan_in, rows_of, Opens}
 use Rattle.planner.specs.Output.{output_of, lent_after}
 use Rattle.planner.specs.Need.{is_overloaded}
@@ -25,16 +26,11 @@ use Rattle.planner.specs.File.{flow_length}
 use Rattle.planner.specs.Flow.{is_kind, most_records, kind_fault, flow_fault, flow_count, record_bytes}
 use Rattle.planner.specs.Starts.{needed, start_numbers}
 use Rattle.planner.specs.Sheet.{is_page, page_fault, sheet_pages, sheet_fault, sheet_answer, sheet_out}
-use Rattle.planner.specs.model.Opening.{opened_of}
+use Rattle.planner.specs.model.Opening.{Held, opened_of}
 use Rattle.planner.specs.model.Records.{FlowAsked, flow_put}
 use Rattle.planner.specs.model.Sheets.{starts_in}
 use Rattle.planner.specs.declared.Cause.TheVariants.{NoPage}
-use Rattle.planner.specs.declared.Fault.{Fault}
-use Rattle.planner.specs.declared.Fault.TheVariants.{Fine}
-use Rattle.planner.specs.declared.Output.{Output}
-use Rattle.planner.specs.declared.open.Opened.{Opened}
-use Rattle.planner.proofs.FaultLaws.{fine_is, cause_fine, cause_kept}
-use Rattle.planner.proofs.OutputLaws.{Ends, stops}
+use Rattle.planner.proofs.FaultLaws.{fine_is, cause_fine}
 use Rattle.planner.proofs.OpenLaws.{count_few, count_within, opens_readable, opens_plan, opens_small}
 use Rattle.planner.proofs.StartsLaws.{length_numbers}
 use Rattle.planner.proofs.FlowUnits.{length_few, records_length}
@@ -47,11 +43,19 @@ unfolding pages_of
 pages_few n k h l = omega arith
 
 module _ (n page : ℕ) where
-  pub page_ends : {pages : ℕ} {t b : Bool} {f : Fault} → pages ≡ pages_of n → t ≡ is_page page pages → f ≡ or_cause Fine (not t) (NoPage pages) → b ≡ is_fine f → Ends (page_fault n page) f b
-  page_ends p q e test = record { fault = e ∙ rw (q, p) refl; test = test }
+  -- `pages` is the page count, `t` whether the page is there
+  pub page_none : {pages : ℕ} {t : Bool} → pages ≡ pages_of n → t ≡ is_page page pages → t ≡ false
+      → page_fault n page ≡ Err (NoPage pages)
+  page_none p q e = rw (← p, ← q, e)
+
+  pub page_fine : {pages : ℕ} {t : Bool} → pages ≡ pages_of n → t ≡ is_page page pages → t ≡ true
+      → page_fault n page ≡ Ok tt
+  page_fine p q e = rw (← p, ← q, e)
 
   pub page_there : is_fine (page_fault n page) ≡ true → (1 ≤ page) × (page ≤ pages_of n)
-  page_there e = kind_within page (pages_of n) (not-false (is_page page (pages_of n)) (cause_fine Fine (not (is_page page (pages_of n))) (NoPage (pages_of n)) e).1)
+  page_there e = kind_within page (pages_of n)
+      (not-false (is_page page (pages_of n))
+      (cause_fine (Ok tt) (not (is_page page (pages_of n))) (NoPage (pages_of n)) e).1)
 
 -- where 8, 9 and 7 are no cause, there are few pages
 pub pages_small : (s : List ℕ) → AreBytes s → (kind n : ℕ) → is_fine (kind_fault s kind n page_bytes) ≡ true → sheet_pages s kind ≤ most_records
@@ -79,12 +83,8 @@ starts_room s =
 -- ---- what the code holds: `o` is the plan that was opened
 
 module _ (s : List ℕ) (kind page : ℕ) (out : List ℕ) where
-  -- 8, 9 or 7 it was: 11 has no turn
-  pub stopped : {f : Fault} {b : Bool} → (e : Ends (kind_fault s kind (length out) page_bytes) f b) → b ≡ false → Ends (sheet_fault s kind page (length out)) f b
-  unfolding sheet_fault
-  stopped e h = record { fault = e.fault ∙ cause_kept (kind_fault s kind (length out) page_bytes) (not (is_page page (sheet_pages s kind))) (NoPage (sheet_pages s kind)) (stops e h); test = e.test }
-
-  module _ (bytes : AreBytes s) {o : Opened} (held : o ≡ opened_of s) (e : is_fine (kind_fault s kind (length out) page_bytes) ≡ true) where
+  module _ (bytes : AreBytes s) {o : Held} (held : o ≡ opened_of s)
+      (e : is_fine (kind_fault s kind (length out) page_bytes) ≡ true) where
     goes : Opens s × (is_kind kind (plan_in s).kinds ≡ true) × (page_bytes ≤ length out) × (is_overloaded (plan_in s) ≡ false)
     goes = kind_fine s kind (length out) page_bytes e
 

@@ -1,35 +1,35 @@
 -- Starts: the numbers, and what it answers and writes.
 use mathlib.Core.Path.{◌≡◌, sym, ap, ◌∙◌, subst}
-use mathlib.Core.Bool.{Bool, true, cond}
-use mathlib.Core.List.{List}
+use mathlib.Core.Bool.{true, cond}
+use mathlib.Core.List.{List, ◌++◌}
 use mathlib.Core.Logic.{⊎_elim}
 use Prim.Native.Nat.{ℕ, ◌+◌, ◌^◌, ◌≤◌, ◌<◌}
 use native.Mathlib.Omega.{arith}
 use lib.Dec.{ltb, eqb}
-use lib.ListN.{length, get_or, set, get_or-eq_default}
+use lib.ListN.{length, get_or, set, take, drop, get_or-eq_default}
+use lib.Seq.{length-take-le, get_or-take, ext_get_or}
 use borrow.Author.Tests.{lt-ltb, le-ltb, ltb-true, ltb-false, eqb-true, eqb-false}
+use Rattle.std.specs.Prelude.{Ok, Err}
 use Rattle.words.specs.Tables.{over}
 use Rattle.words.proofs.Tables.{length_table, get_d_table, over_turn}
 use Rattle.words.proofs.Tests.{by_test, cond_true, cond_false}
 use Rattle.records.specs.Bytes.{AreBytes}
 use Rattle.order.specs.Before.{Acyclic}
 use Rattle.order.specs.Orders.{Direct}
-use Rattle.plan.specs.Meaning.{Readable}
 use Rattle.schedule.specs.Starts.{end_of}
 use Rattle.schedule.specs.model.Arrays.{by_duration, starts_of, AllAtMost, FinishesFit}
 use Rattle.schedule.specs.Lists.{at}
 use Rattle.schedule.proofs.Starts.{end_largest}
-use Rattle.planner.specs.Faults.{is_fine, or_short}
+use Rattle.planner.specs.Faults.{Fault, is_fine, or_short}
 use Rattle.planner.specs.Open.{plan_in, rows_of, fault_of, Opens}
 use Rattle.planner.specs.Starts.{needed, starts_fault, with_end, first_starts, end_start, start_numbers}
-use Rattle.planner.specs.model.Opening.{opened_of}
-use Rattle.planner.specs.declared.Fault.{Fault}
-use Rattle.planner.specs.declared.open.Opened.{Opened}
-use Rattle.planner.proofs.FaultLaws.{short_fine}
+use Rattle.planner.specs.model.Opening.{Held, opened_of}
+use Rattle.planner.specs.declared.Cause.{Cause}
+use Rattle.planner.specs.declared.Cause.TheVariants.{Short}
+use Rattle.planner.proofs.FaultLaws.{cause_before, short_fine}
 use Rattle.planner.specs.Times.{arc_weight}
 use Rattle.planner.proofs.TimesLaws.{starts_finish}
-use Rattle.planner.proofs.OutputLaws.{Ends}
-use Rattle.planner.proofs.OpenLaws.{count_few, opens_readable, opens_plan, opens_small}
+use Rattle.planner.proofs.OpenLaws.{count_few, opens_plan, opens_small, goes_open}
 
 -- ---- m numbers and one more
 
@@ -50,12 +50,22 @@ module _ (m : ℕ) (starts : List ℕ) (end : ℕ) where
       get_d_table (m + 1) (λ i. cond (ltb i m) (get_or starts i 0) end) m 0 (omega arith)
       ∙ cond_false (get_or starts m 0) end (le-ltb m m (omega arith))
 
-  -- one number is written
-  pub put_next : (i v : ℕ) (out₀ out : List ℕ) → i ≤ m → m + 1 ≤ length out₀ → out ≡ over i (with_end m starts end) out₀ → v ≡ get_or (with_end m starts end) i 0
-      → set out i v ≡ over (i + 1) (with_end m starts end) out₀
-  put_next i v out₀ out l h e q =
-      ap (λ (o : List ℕ). set o i v) e ∙ ap (λ (x : ℕ). set (over i (with_end m starts end) out₀) i x) q
-      ∙ over_turn i (with_end m starts end) out₀ (let z = length_end in omega arith) (omega arith)
+  -- the first m are the starts
+  taken : m ≤ length starts → take m starts ≡ take m (with_end m starts end)
+  taken h =
+      ext_get_or 0 (take m starts) (take m (with_end m starts end))
+      (length-take-le m starts h ∙ sym (length-take-le m (with_end m starts end) (omega (arith, length_end))))
+      (λ i l.
+      let b : i < m = omega (arith, l, length-take-le m starts h) in
+      get_or-take m starts i 0 b ∙ sym (before_end i b) ∙ sym (get_or-take m (with_end m starts end) i 0 b))
+
+  -- they are copied to the front, and the last is written behind them
+  pub put_all : {front : List ℕ} (out : List ℕ) → m ≤ length starts → m + 1 ≤ length out → front ≡ take m starts
+      → set (front ++ drop m out) m end ≡ over (m + 1) (with_end m starts end) out
+  put_all out h l f =
+      ap (λ (xs : List ℕ). set (xs ++ drop m out) m end) (f ∙ taken h)
+      ∙ ap (λ (x : ℕ). set (over m (with_end m starts end) out) m x) (sym at_end)
+      ∙ over_turn m (with_end m starts end) out (omega (arith, length_end)) (omega arith)
 
 -- ---- what Starts writes
 
@@ -96,15 +106,23 @@ starts_fine : (s : List ℕ) (n : ℕ) → is_fine (starts_fault s n) ≡ true �
 unfolding starts_fault
 starts_fine s n e = short_fine (fault_of s) n (needed s) e
 
--- ---- the same, of what the code holds: `o` is the plan that was opened, `f` the fault with 9 in its turn, and `b` what the code's test said of it
+-- a cause of the opening is its own
+pub starts_before : (s : List ℕ) (n : ℕ) {c : Cause} → fault_of s ≡ Err c → starts_fault s n ≡ Err c
+unfolding starts_fault
+starts_before s n e = cause_before (fault_of s) (ltb n (needed s)) (Short (needed s)) _ e
 
-module _ (s out : List ℕ) {o : Opened} (held : o ≡ opened_of s) where
-  pub ends : {f : Fault} {b : Bool} → f ≡ or_short o.fault (length out) (o.plan.count + 1) → b ≡ is_fine f → Ends (starts_fault s (length out)) f b
+-- ---- the same, of what the code holds: `o` is the plan that was opened
+
+module _ (s out : List ℕ) (opens : Opens s) {o : Held} (held : o ≡ opened_of s) where
+  -- 9 in its turn
+  pub starts_short : {f : Fault} → f ≡ or_short (Ok tt) (length out) (o.plan.count + 1)
+      → f ≡ starts_fault s (length out)
   unfolding starts_fault
-  ends found test = record { fault = found ∙ ap (λ (x : Opened). or_short x.fault (length out) (x.plan.count + 1)) held; test = test }
+  starts_short e = e ∙ ap (λ (x : Held). or_short (Ok tt) (length out) (x.plan.count + 1)) held
+      ∙ goes_open s opens (λ f. or_short f (length out) (needed s))
 
   pub counted : o.plan.count + 1 ≡ needed s
-  counted = ap (λ (x : Opened). x.plan.count + 1) held
+  counted = ap (λ (x : Held). x.plan.count + 1) held
 
   pub written : {after first : List ℕ} {end : ℕ} → first ≡ starts_of o.rows (arc_weight s (at o.plan.duration))
       → end ≡ end_of o.plan.count (at first) (at o.plan.duration) → after ≡ over (o.plan.count + 1) (with_end o.plan.count first end) out
@@ -112,20 +130,17 @@ module _ (s out : List ℕ) {o : Opened} (held : o ≡ opened_of s) where
   unfolding start_numbers
   written a d w = w ∙ rw (d, a, held)
 
-  module _ (e : is_fine (starts_fault s (length out)) ≡ true) where
-    pub room : o.plan.count + 1 ≤ length out
-    room = rw held (starts_fine s (length out) e).1
+  pub room : Ok tt ≡ starts_fault s (length out) → o.plan.count + 1 ≤ length out
+  room e = rw held (starts_fine s (length out) (sym (ap is_fine e))).1
 
-    pub free : Acyclic (Direct o.rows)
-    free = rw held (opens_plan s (starts_fine s (length out) e).0)
+  pub free : Acyclic (Direct o.rows)
+  free = rw held (opens_plan s opens)
 
-    pub small : AreBytes s → AllAtMost 65535 o.plan.duration
-    small bytes = rw held (opens_small s bytes (starts_fine s (length out) e).0)
+  pub small : AreBytes s → AllAtMost 65535 o.plan.duration
+  small bytes = rw held (opens_small s bytes opens)
 
-    pub readable : Readable s
-    readable = opens_readable s (starts_fine s (length out) e).0
-
-    pub fits : AreBytes s → {first : List ℕ} → first ≡ starts_of o.rows (arc_weight s (at o.plan.duration)) → FinishesFit first (by_duration o.plan.duration)
-    fits bytes q =
-        subst (λ (xs : List ℕ). FinishesFit xs (by_duration o.plan.duration)) (sym q)
-        (starts_finish s bytes o.rows o.plan.duration (small bytes))
+  pub fits : AreBytes s → {first : List ℕ} → first ≡ starts_of o.rows (arc_weight s (at o.plan.duration))
+      → FinishesFit first (by_duration o.plan.duration)
+  fits bytes q =
+      subst (λ (xs : List ℕ). FinishesFit xs (by_duration o.plan.duration)) (sym q)
+      (starts_finish s bytes o.rows o.plan.duration (small bytes))

@@ -35,6 +35,7 @@ use Rattle.plan.proofs.FreeArcs.{free_says}
 use Rattle.planner.specs.Open.{plan_in, rows_for, rows_of, order_for, plan_order, Opens}
 use Rattle.planner.specs.Verdict.{is_accepted}
 use Rattle.planner.specs.Trim.{pair_from, pair_to, may_go, trim_step, trim_up_to, trimmed_rows}
+use Rattle.planner.specs.model.Opening.{Fits}
 use Rattle.planner.specs.model.Trimming.{follows_in, fits_by, extra_left, OrderHeld}
 use Rattle.planner.proofs.OpenLaws.{plan_in_lem, count_few, opens_readable, opens_plan}
 use Rattle.planner.proofs.QuotedNeeds.{kinds_few}
@@ -196,29 +197,35 @@ module _ (s : List ℕ) (bytes : AreBytes s) (o : Opens s) where
     unfolding trim_up_to
     trim_none e f = record { extra_left_lem = ap (λ (x : Plan). x.extra) held; afters_left = f ∙ ap after_rows e ∙ ap (λ (x : Plan). after_rows (order_in (joined_rows q.job x.extra))) (sym held) }
 
-    module _ (x : ℕ) (below : x < elements * r.count) {extra afters : List ℕ} (C : Considered x extra afters) where
+    -- pair x is that from i to j
+    module _ (x i j : ℕ) (from : x / elements ≡ i) (to : x % elements ≡ j)
+        (below : x < elements * r.count) {extra afters : List ℕ} (C : Considered x extra afters) where
       few : x < elements * (plan_in s).count
       few = subst (λ (y : Plan). x < elements * y.count) held below
 
       left_now : Left extra
       left_now = subst Left (sym C.extra_left_lem) (left_at x (omega (arith, few)))
 
-      pub trim_asked : (x / elements < elements) × (x % elements < elements) × (r.count ≤ elements) × (r.kinds ≤ 8) × OrderHeld r.job extra afters
+      pub trim_asked : (i < elements) × (j < elements) × Fits r × OrderHeld r.job extra afters
       trim_asked =
-          subst (λ (y : Plan). (x / elements < elements) × (x % elements < elements) × (y.count ≤ elements) × (y.kinds ≤ 8) × OrderHeld y.job extra afters) (sym held)
-          (from_few x few, omega arith, count_few s, kinds_few s, (left_now.long, C.afters_left, left_acyclic extra left_now))
+          subst (λ (y : Plan). (i < elements) × (j < elements) × Fits y × OrderHeld y.job extra afters) (sym held) (
+            omega (arith, from, from_few x few),
+            omega (arith, to),
+            (count_few s, kinds_few s),
+            (left_now.long, C.afters_left, left_acyclic extra left_now),
+          )
 
       pub trim_again : {free extra' afters' : List ℕ} → free ≡ free_rows s
-          → extra' ≡ extra_left r.count r.job r.demand r.available r.kinds free afters extra (x / elements) (x % elements)
+          → extra' ≡ extra_left r.count r.job r.demand r.available r.kinds free afters extra i j
           → afters' ≡ after_rows (order_in (joined_rows r.job extra')) → Considered (x + 1) extra' afters'
       unfolding trim_up_to
       trim_again {free} {extra'} f e a =
           record {
             extra_left_lem =
                 e
-                ∙ ap (λ (y : Plan). extra_left y.count y.job y.demand y.available y.kinds free afters extra (x / elements) (x % elements)) held
-                ∙ ap (λ (z : List ℕ). extra_left q.count q.job q.demand q.available q.kinds z afters extra (x / elements) (x % elements)) f
-                ∙ considered x extra left_now accepted_now (from_few x few) afters C.afters_left
+                ∙ ap (λ (y : Plan). extra_left y.count y.job y.demand y.available y.kinds free afters extra i j) held
+                ∙ ap (λ (z : List ℕ). extra_left q.count q.job q.demand q.available q.kinds z afters extra i j) f
+                ∙ rw (← from, ← to) (considered x extra left_now accepted_now (from_few x few) afters C.afters_left)
                 ∙ ap (trim_step s x) C.extra_left_lem
                 ∙ ap (trim_up_to s) (sym (add-one x));
             afters_left = a ∙ ap (λ (y : Plan). after_rows (order_in (joined_rows y.job extra'))) held;

@@ -2,17 +2,17 @@
 use mathlib.Core.Path.{◌≡◌, sym, ap, ◌∙◌}
 use mathlib.Core.Bool.{Bool, true, false, not, ◌&&◌, ◌||◌}
 use mathlib.Core.List.{List}
-use Prim.Native.Nat.{ℕ, ◌≤◌, ◌<◌}
+use Prim.Native.Nat.{ℕ, ◌<◌}
 use lib.Dec.{ltb}
-use borrow.Author.Tests.{lt-ltb, le-ltb}
-use Rattle.words.proofs.Tests.{cond_true, cond_false, and_both, or_says, or_left, or_right}
+use Rattle.std.specs.Prelude.{is_some}
+use Rattle.words.proofs.Tests.{by_test, cond_true, cond_false, and_both, or_says, or_left, or_right}
 use Rattle.order.specs.Stored.{elements}
 use Rattle.order.specs.Rows.{after}
 use Rattle.order.specs.Sets.{member}
 use Rattle.order.specs.Orders.{after_rows, some_before, order_in, without_arc, joined_rows}
 use Rattle.order.specs.declared.Order.{Order}
 use Rattle.order.proofs.Lacking.{follows_same, follows_members}
-use Rattle.kinds.specs.Needs.{lowest_overload}
+use Rattle.kinds.specs.Needs.{lowest_overload, some_overload}
 use Rattle.kinds.specs.declared.Overload.{Overload}
 use Rattle.planner.specs.model.Trimming.{others_of, follows_in, fits_by, extra_left, OrderHeld}
 
@@ -41,6 +41,11 @@ module _ (job extra afters : List ℕ) (i j : ℕ) where
 
 -- ---- what is left of the extra arcs
 
+-- a search finds an overload exactly where its kind is one of the n
+some_below : (n : ℕ) (v : Overload) → is_some (some_overload n v) ≡ ltb v.kind n
+unfolding some_overload
+some_below n v = by_test (ltb v.kind n) (λ t. rw t) (λ t. rw t)
+
 module _ (m : ℕ) (job demand available : List ℕ) (n : ℕ) (free afters extra : List ℕ) (i j : ℕ) where
   abbrev less : List ℕ
   less = without_arc extra i j
@@ -64,20 +69,21 @@ module _ (m : ℕ) (job demand available : List ℕ) (n : ℕ) (free afters extr
     pub left_follows : follows_in job extra afters i j ≡ true → less ≡ left
     left_follows e = left_gone (or_left (follows_in job extra afters i j) fits e)
 
-    -- what was weighed: `rows` are the arcs without it, `o` is their order, and `v` is what a search finds by that
-    module _ {rows : List ℕ} {o : Order} {v : Overload} (joins : rows ≡ joined_rows job less) (closes : o ≡ order_in rows)
-        (weighs : v ≡ lowest_overload m o demand available n) where
-      over_is : ltb v.kind n ≡ ltb (lowest_overload m (order_in (joined_rows job less)) demand available n).kind n
-      over_is =
-          ap (λ (x : Overload). ltb x.kind n)
-          (weighs ∙ ap (λ (x : Order). lowest_overload m x demand available n) (closes ∙ ap order_in joins))
+    -- what was weighed: `rows` are the arcs without it, `o` is their order, and b says whether a search finds one by that
+    module _ {rows : List ℕ} {o : Order} {b : Bool} (joins : rows ≡ joined_rows job less) (closes : o ≡ order_in rows)
+        (weighs : b ≡ is_some (some_overload n (lowest_overload m o demand available n))) where
+      found : b ≡ ltb (lowest_overload m (order_in (joined_rows job less)) demand available n).kind n
+      found =
+          weighs
+          ∙ some_below n (lowest_overload m o demand available n)
+          ∙ ap (λ (x : Order). ltb (lowest_overload m x demand available n).kind n) (closes ∙ ap order_in joins)
 
-      pub left_fits : n ≤ v.kind → less ≡ left
+      pub left_fits : b ≡ false → less ≡ left
       unfolding fits_by
-      left_fits h = left_gone (or_right (follows_in job extra afters i j) fits (ap not (sym over_is ∙ le-ltb v.kind n h)))
+      left_fits e = left_gone (or_right (follows_in job extra afters i j) fits (ap not (sym found ∙ e)))
 
-      pub left_stays : follows_in job extra afters i j ≡ false → v.kind < n → extra ≡ left
+      pub left_stays : follows_in job extra afters i j ≡ false → b ≡ true → extra ≡ left
       unfolding extra_left fits_by
       left_stays e h =
-          let fit : fits ≡ false = ap not (sym over_is ∙ lt-ltb v.kind n h) in
+          let fit : fits ≡ false = ap not (sym found ∙ h) in
           sym (cond_false less extra (ap (λ (b : Bool). b && (follows_in job extra afters i j || fits)) may ∙ ap (λ (b : Bool). b || fits) e ∙ fit))

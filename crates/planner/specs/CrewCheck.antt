@@ -7,13 +7,9 @@ use Rattle.schedule.specs.Checks.{Work, check_of}
 use Rattle.schedule.specs.model.Arrays.{crew_net, work_of}
 use Rattle.schedule.specs.declared.Checked.{Checked}
 use Rattle.planner.specs.Times.{arc_weight}
-use Rattle.planner.specs.Faults.{or_cause}
+use Rattle.planner.specs.Faults.{Fault, CrewChecked, outcome, or_cause}
 use Rattle.planner.specs.Open.{plan_in, rows_of, fault_of}
 use Rattle.planner.specs.declared.Cause.TheVariants.{Lists}
-use Rattle.planner.specs.declared.Fault.{Fault}
-use Rattle.planner.specs.declared.Fault.TheVariants as fault
-use Rattle.planner.specs.declared.CrewChecked.{CrewChecked}
-use Rattle.planner.specs.declared.CrewChecked.TheVariants.{Found, Refused}
 
 -- "10 is still given for a worked 0 on any other activity, and for a worked duration above 0 on a milestone"
 -- (02, change 2): of an activity that has the duration d in the file and is worked in w
@@ -48,8 +44,7 @@ unfoldable pub crew_found : List ℕ → List ℕ → List ℕ → Checked
 crew_found s starts worked = check_of (crew_arcs s starts worked) (crew_work s starts worked)
 
 abbrev pub checked_of : Fault → Checked → CrewChecked
-checked_of fault.Fine found = Found found
-checked_of (fault.Refused c) found = Refused c
+checked_of f found = outcome f found
 
 -- THE ANSWER
 abbrev pub crew_check_answer : List ℕ → List ℕ → List ℕ → CrewChecked

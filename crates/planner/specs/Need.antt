@@ -7,11 +7,10 @@ use Rattle.order.specs.declared.Set.{Set}
 use Rattle.plan.specs.declared.Plan.{Plan}
 use Rattle.flow_math.specs.Heaviest.{need_of}
 use Rattle.kinds.specs.Needs.{demands_for, quote_for}
-use Rattle.planner.specs.Faults.{or_cause}
+use Rattle.planner.specs.Faults.{Fault, or_cause}
 use Rattle.planner.specs.Open.{order_for}
 use Rattle.planner.specs.declared.Cause.{Cause}
 use Rattle.planner.specs.declared.Cause.TheVariants.{Overloaded}
-use Rattle.planner.specs.declared.Fault.{Fault}
 
 -- the demand of the element i
 abbrev pub demand_for : Plan → ℕ → ℕ → ℕ

@@ -1,12 +1,10 @@
 -- Needs: what it answers, and what the lent numbers then hold.
 use Rattle.std.specs.Prelude.{List, ℕ, length}
 use Rattle.words.specs.Tables.{table}
-use Rattle.planner.specs.Faults.{or_short}
+use Rattle.planner.specs.Faults.{Fault, Output, or_short}
 use Rattle.planner.specs.Open.{plan_in, fault_of}
 use Rattle.planner.specs.Output.{output_of, lent_after}
 use Rattle.planner.specs.Need.{need_for}
-use Rattle.planner.specs.declared.Fault.{Fault}
-use Rattle.planner.specs.declared.Output.{Output}
 
 -- "Needs, Starts, Overload: 9.": "Lengths needed: K"; n numbers are lent
 unfoldable pub needs_fault : List ℕ → ℕ → Fault

@@ -1,19 +1,15 @@
 -- What every operation does first, in two steps: the reading of the file, with the reader's causes, and the
 -- two orders, with their causes 5 and 6.
-use Rattle.std.specs.Prelude.{◌≡◌, true, List, ℕ, ◌+◌, ltb}
+use Rattle.std.specs.Prelude.{◌≡◌, true, List, ℕ, ◌+◌, ltb, Ok, Err}
 use Rattle.order.specs.Stored.{elements}
 use Rattle.order.specs.Orders.{order_in, joined_rows, circle_of}
 use Rattle.order.specs.declared.Order.{Order}
 use Rattle.plan.specs.model.Reads.{read_of}
-use Rattle.plan.specs.Causes.{answer_of}
+use Rattle.plan.specs.Causes.{answer_of, Answer}
 use Rattle.plan.specs.declared.Plan.{Plan}
-use Rattle.plan.specs.declared.Answer.{Answer}
-use Rattle.plan.specs.declared.Answer.TheVariants as answer
-use Rattle.planner.specs.Faults.{is_fine, or_cause}
+use Rattle.planner.specs.Faults.{Fault, is_fine, or_cause}
 use Rattle.planner.specs.declared.Cause.{Cause}
 use Rattle.planner.specs.declared.Cause.TheVariants.{Unreadable, JobCircle, PlanCircle}
-use Rattle.planner.specs.declared.Fault.{Fault}
-use Rattle.planner.specs.declared.Fault.TheVariants.{Fine, Refused}
 
 -- ---- the plan
 
@@ -45,8 +41,8 @@ plan_order s = order_for (plan_in s)
 
 -- the reader's cause, as a fault
 abbrev pub unread_fault : Answer → Fault
-unread_fault answer.Readable = Fine
-unread_fault (answer.Refused c) = Refused (Unreadable c)
+unread_fault (Ok _) = Ok tt
+unread_fault (Err c) = Err (Unreadable c)
 
 -- the first step: the reader's cause
 unfoldable pub read_fault : List ℕ → Fault

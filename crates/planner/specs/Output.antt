@@ -1,15 +1,10 @@
--- How the operations that write end.
+-- How the operations that write end (`Ends`, `stops`, `goes_on`, `refused`, `done`, `done_over` of Endings).
 use Rattle.std.specs.Prelude.{cond, List, ◌++◌, ℕ, length, drop}
-use Rattle.planner.specs.Faults.{is_fine}
-use Rattle.planner.specs.declared.Fault.{Fault}
-use Rattle.planner.specs.declared.Fault.TheVariants as fault
-use Rattle.planner.specs.declared.Output.{Output}
-use Rattle.planner.specs.declared.Output.TheVariants.{Written, Refused}
+use Rattle.planner.specs.Faults.{Fault, Output, outcome, is_fine}
 
 -- so many numbers or records are written (of a sheet: so many pages there are), or the cause of the refusal
 abbrev pub output_of : Fault → ℕ → Output
-output_of fault.Fine n = Written n
-output_of (fault.Refused c) n = Refused c
+output_of f n = outcome f n
 
 -- "Numbers go to the front of the lent 32-bit slice, records to the front of the lent bytes; the rest is
 -- unchanged". After a refusal all is left as it was.

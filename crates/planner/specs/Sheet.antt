@@ -1,16 +1,13 @@
 -- Sheet (document 02, change 1): what it answers, and what the lent bytes then hold.
 -- Quotations are from there.
-use Rattle.std.specs.Prelude.{Bool, not, List, ℕ, ◌-◌, length}
+use Rattle.std.specs.Prelude.{Bool, not, List, ℕ, ◌-◌, length, Ok}
 use Rattle.crew_sheet.specs.Sheet.{page_bytes, pages_of, sheet_page}
-use Rattle.planner.specs.Faults.{or_cause}
+use Rattle.planner.specs.Faults.{Fault, Output, or_cause}
 use Rattle.planner.specs.Open.{plan_in}
 use Rattle.planner.specs.Output.{output_of, lent_after}
 use Rattle.planner.specs.Starts.{start_numbers}
 use Rattle.planner.specs.Flow.{is_kind, kind_fault, flow_count, record_bytes}
 use Rattle.planner.specs.declared.Cause.TheVariants.{NoPage}
-use Rattle.planner.specs.declared.Fault.{Fault}
-use Rattle.planner.specs.declared.Fault.TheVariants.{Fine}
-use Rattle.planner.specs.declared.Output.{Output}
 
 -- "page not 1 to the page count": pages count as kinds do
 abbrev pub is_page : ℕ → ℕ → Bool
@@ -19,7 +16,7 @@ is_page = is_kind
 -- "11, page not 1 to the page count, returned with that count":
 -- of a sheet of n records, where no cause came before
 abbrev pub page_fault : ℕ → ℕ → Fault
-page_fault n page = or_cause Fine (not (is_page page (pages_of n))) (NoPage (pages_of n))
+page_fault n page = or_cause (Ok tt) (not (is_page page (pages_of n))) (NoPage (pages_of n))
 
 -- the page count, of the flow that Flow shows
 abbrev pub sheet_pages : List ℕ → ℕ → ℕ

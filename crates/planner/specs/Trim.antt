@@ -9,13 +9,11 @@ use Rattle.plan.specs.Meaning.{extra_wait}
 use Rattle.plan.specs.Filtered.{filtered}
 use Rattle.plan.specs.model.ArcRows.{stays_by}
 use Rattle.plan.specs.model.Plans.{with_extra}
-use Rattle.planner.specs.Faults.{or_short}
+use Rattle.planner.specs.Faults.{Fault, Output, or_short}
 use Rattle.planner.specs.Open.{plan_in, fault_of}
 use Rattle.planner.specs.Need.{or_overloaded}
 use Rattle.planner.specs.Verdict.{is_accepted}
 use Rattle.planner.specs.Output.{output_of, lent_after}
-use Rattle.planner.specs.declared.Fault.{Fault}
-use Rattle.planner.specs.declared.Output.{Output}
 
 -- "its extra arcs by from, then to": the pairs of elements count as 0, 1, 2, ..; pair x is that from
 -- x / elements to x % elements

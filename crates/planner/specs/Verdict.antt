@@ -1,14 +1,9 @@
 -- When a plan is accepted, and Verdict: what it answers.
-use Rattle.std.specs.Prelude.{Bool, List, ℕ}
+use Rattle.std.specs.Prelude.{Bool, List, ℕ, Ok}
 use Rattle.plan.specs.declared.Plan.{Plan}
-use Rattle.planner.specs.Faults.{is_fine}
+use Rattle.planner.specs.Faults.{Fault, Decision, outcome, is_fine}
 use Rattle.planner.specs.Open.{plan_in, job_order_for, order_for, read_fault, or_circles}
 use Rattle.planner.specs.Need.{or_overloaded}
-use Rattle.planner.specs.declared.Fault.{Fault}
-use Rattle.planner.specs.declared.Fault.TheVariants as fault
-use Rattle.planner.specs.declared.Fault.TheVariants.{Fine}
-use Rattle.planner.specs.declared.Decision.{Decision}
-use Rattle.planner.specs.declared.Decision.TheVariants.{Accepted, Refused}
 
 -- THE CAUSES OF A PLAN, apart from the bytes that say it: 5, 6 and 7 in their turn, after a fault
 abbrev pub plan_fault : Fault → Plan → Fault
@@ -16,7 +11,7 @@ plan_fault f q = or_overloaded (or_circles f (job_order_for q) (order_for q)) q
 
 -- A PLAN IS ACCEPTED when it meets none of them
 unfoldable pub is_accepted : Plan → Bool
-is_accepted q = is_fine (plan_fault Fine q)
+is_accepted q = is_fine (plan_fault (Ok tt) q)
 
 -- "After that Verdict: 7."
 unfoldable pub verdict_fault : List ℕ → Fault
@@ -24,8 +19,7 @@ verdict_fault s = plan_fault (read_fault s) (plan_in s)
 
 -- "Verdict: accepted with m and K, or 1–7."
 abbrev pub verdict_of : Fault → ℕ → ℕ → Decision
-verdict_of fault.Fine m n = Accepted m n
-verdict_of (fault.Refused c) m n = Refused c
+verdict_of f m n = outcome f (record { activities = m; kinds = n })
 
 -- THE ANSWER
 abbrev pub verdict_answer : List ℕ → Decision

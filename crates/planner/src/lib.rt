@@ -1,9 +1,13 @@
-// The operations of the planner, each on the plan's bytes. Every operation has a file in `ops`: it
-// opens the plan (`open`), looks for its own causes in turn (`faults`), and answers by its fault and
-// what it found or wrote (`answer`).
+// The operations of the planner, each on the plan's bytes. Every operation has a file in `ops`: it reads and opens the
+// plan (`open`), looks for its own causes in turn (`faults`), and answers with the first cause that it meets, or with
+// what it found or wrote.
 #![tactic(auto)]
 
-mod answer;
+ghost use Rattle.std.specs.Prelude.{◌≡◌};
+ghost use Rattle.planner.specs.declared.Cause.TheVariants.{Unreadable};
+
+use plan::ACTIVITIES;
+
 mod faults;
 mod numbers;
 mod open;
@@ -19,6 +23,12 @@ pub use ops::sheet::sheet;
 pub use ops::starts::starts;
 pub use ops::trim::trim;
 pub use ops::verdict::verdict;
+
+// The most records that a flow has (`most_records` of the specs).
+pub const MOST_RECORDS: usize = ACTIVITIES * (ACTIVITIES - 1) / 2 + 2 * ACTIVITIES + 1;
+
+// How many bytes its records take.
+pub const FLOW_BYTES: usize = 24 * MOST_RECORDS;
 
 // Why an operation refuses, with the cause's own data. Activities and kinds count from 1.
 #[derive(Clone, Copy)]
@@ -45,42 +55,38 @@ pub enum Cause {
     NoPage(usize),
 }
 
-// What a refusal tells: document 01's number of its cause, and how many of the values after it are returned: two plain
-// ones, a set, and the set's size.
+// So a file is read by `plan::read(s)?`.
+impl From<plan::Cause> for Cause {
+    ghost from_gives = { λ unread cause. cause ≡ Unreadable unread };
+
+    fn from(unread: plan::Cause) -> Cause {
+        Cause::Unreadable(unread)
+    }
+}
+
+// What is returned with a cause's number.
+#[derive(Clone, Copy)]
+pub enum Values {
+    Nothing,
+    One(usize),
+    // A kind, its need, and an unrelated set that has it.
+    Need {
+        kind: usize,
+        need: u32,
+        set: order::Set,
+    },
+}
+
+// What a refusal tells: document 01's number of its cause, and what is returned with it.
 #[derive(Clone, Copy)]
 pub struct Refusal {
     pub number: u64,
-    pub values: usize,
-    pub first: u64,
-    pub second: u64,
-    pub set: order::Set,
+    pub values: Values,
 }
 
-// Whether an operation goes on, or refuses.
+// What Verdict says of a plan that is accepted: m and K.
 #[derive(Clone, Copy)]
-pub enum Fault {
-    Fine,
-    Refused(Cause),
-}
-
-// What Verdict answers: the plan is accepted, with m and K, or it is refused.
-#[derive(Clone, Copy)]
-pub enum Decision {
-    Accepted { activities: usize, kinds: usize },
-    Refused(Cause),
-}
-
-// What the operations that write answer: so many numbers or records are written, or nothing is. (Overload writes one
-// record, or none where the plan is accepted; Sheet writes a page, and answers how many there are.)
-#[derive(Clone, Copy)]
-pub enum Output {
-    Written(usize),
-    Refused(Cause),
-}
-
-// What Crew check answers: what was found, or why nothing was looked at.
-#[derive(Clone, Copy)]
-pub enum CrewChecked {
-    Found(schedule::Checked),
-    Refused(Cause),
+pub struct Accepted {
+    pub activities: usize,
+    pub kinds: usize,
 }

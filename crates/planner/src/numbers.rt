@@ -1,44 +1,41 @@
 // The causes' numbers.
 ghost use Rattle.std.specs.Prelude.{◌≡◌};
-ghost use Rattle.planner.specs.Numbers.{plain, refusal_of};
+ghost use Rattle.planner.specs.Numbers.{with_one, refusal_of};
 
-use crate::{Cause, Refusal};
-use order::Set;
+use crate::{Cause, Refusal, Values};
 
-// A refusal that shows no set: so many of the two values follow its number.
-fn plain(number: u64, values: usize, first: usize, second: usize) -> Refusal
-    ensures { result ≡ plain number values first second }
+// A number with one value. (Plan's `at_place` for a struct of its own.)
+fn with_one(number: u64, value: usize) -> Refusal
+    ensures { result ≡ with_one number value }
 {
     Refusal {
         number,
-        values,
-        first: first as u64,
-        second: second as u64,
-        set: Set::EMPTY,
+        values: Values::One(value),
     }
 }
 
-// What a refusal tells. (A new cause has its line here and in `refusal_of`; whoever shows causes goes by these.)
+// What a refusal tells. (A new cause has its line here and in `refusal_of`; whoever shows causes goes by these. They
+// are document 01's numbers, in a function that docs and specs/Numbers name.)
 pub fn refusal_of(c: Cause) -> Refusal
     ensures { result ≡ refusal_of c }
 {
     match c {
         Cause::Unreadable(u) => {
             let t = plan::told_by(u);
-            plain(t.number, t.values, t.place, 0)
+            Refusal {
+                number: t.number,
+                values: t.place.map_or(Values::Nothing, Values::One),
+            }
         }
-        Cause::JobCircle(i) => plain(5, 1, i, 0),
-        Cause::PlanCircle(i) => plain(6, 1, i, 0),
+        Cause::JobCircle(i) => with_one(5, i),
+        Cause::PlanCircle(i) => with_one(6, i),
         Cause::Overloaded { kind, need, set } => Refusal {
             number: 7,
-            values: 4,
-            first: kind as u64,
-            second: need as u64,
-            set,
+            values: Values::Need { kind, need, set },
         },
-        Cause::NoKind(n) => plain(8, 1, n, 0),
-        Cause::Short(n) => plain(9, 1, n, 0),
-        Cause::Lists(m) => plain(10, 1, m, 0),
-        Cause::NoPage(n) => plain(11, 1, n, 0),
+        Cause::NoKind(n) => with_one(8, n),
+        Cause::Short(n) => with_one(9, n),
+        Cause::Lists(m) => with_one(10, m),
+        Cause::NoPage(n) => with_one(11, n),
     }
 }

@@ -1,98 +1,102 @@
-// What every operation does first, in two steps: it reads the plan's bytes, and then builds the orders and
-// looks for a circle in each.
-ghost use Rattle.std.specs.Prelude.{◌≡◌};
-ghost use Rattle.planner.specs.Open.{plan_in, unread_fault, or_circles};
-ghost use Rattle.planner.specs.model.Opening.{read_plan, ordered_of, opened_of};
+// What every operation does once the plan's bytes are read: it builds the orders, and looks for a circle in each. Then
+// the cause 7 of a plan that opens.
+ghost use Rattle.std.specs.Prelude.{◌≡◌, Ok};
+ghost use Rattle.kinds.specs.Needs.{some_overload};
+ghost use Rattle.planner.specs.Faults.{outcome};
+ghost use Rattle.planner.specs.Open.{plan_in, job_order_for, order_for, or_circles};
+ghost use Rattle.planner.specs.model.Opening.{overload_in, or_found, Fits};
 
-use crate::faults::or_cause;
-use crate::{Cause, Fault};
-use order::{ELEMENTS, Order};
+use crate::Cause;
+use kinds::Overload;
+use order::{Order, Rows};
+use plan::Plan;
 
-// A plan that was read, and the reader's cause.
+// A plan that opens, with its direct arcs (job and extra together, as rows), its job order and its plan order. The plan
+// stays where it was read to. (`Fits` of it stands in contracts: as a ghost field it was tried, and the definition that
+// makes the record, `opened_of` then, would have to prove it of every plan.)
 #[derive(Clone, Copy)]
-pub struct Read {
-    pub plan: plan::Plan,
-    pub fault: Fault,
-}
-
-// A plan with its direct arcs (job and extra together, as rows), its job order and its plan order, and the fault
-// with 5 and 6 in their turn.
-#[derive(Clone, Copy)]
-pub struct Opened {
-    pub plan: plan::Plan,
-    pub rows: order::Rows,
+pub struct Opened<'a> {
+    pub plan: &'a Plan,
+    pub rows: Rows,
     pub job: Order,
     pub order: Order,
-    pub fault: Fault,
 }
 
-// The reader's cause, as a fault.
-fn unread_fault(answer: plan::Answer) -> Fault
-    ensures { result ≡ unread_fault answer }
+// 5 and 6: a circle in the job order, or in the plan order only.
+#[tactic(auto, using(order::proofs::Sets::some_found))]
+fn no_circle(job: Order, whole: Order) -> Result<(), Cause>
+    ensures { result ≡ or_circles (Ok tt) job whole }
 {
-    match answer {
-        plan::Answer::Readable => Fault::Fine,
-        plan::Answer::Refused(c) => Fault::Refused(Cause::Unreadable(c)),
+    if let Some(i) = job.circle() {
+        return Err(Cause::JobCircle(i + 1));
+    }
+    if let Some(i) = whole.circle() {
+        return Err(Cause::PlanCircle(i + 1));
+    }
+    Ok(())
+}
+
+impl<'a> Opened<'a> {
+    ghost use Rattle.planner.specs.model.Opening.{opened_by};
+
+    // Opens a plan that was read: builds its orders, which have no circle.
+    pub fn of(plan: &'a Plan) -> Result<Opened<'a>, Cause>
+        ensures { result
+            ≡ outcome (or_circles (Ok tt) (job_order_for plan.now) (order_for plan.now)) (opened_by plan.entry) }
+    {
+        let rows = order::joined(plan.job, plan.extra);
+        let job = Order::of(plan.job);
+        let order = job.with_arcs(plan.extra);
+        no_circle(job, order)?;
+        Ok(Opened {
+            plan,
+            rows,
+            job,
+            order,
+        })
+    }
+
+    // The lowest kind that needs more than there is.
+    pub fn lowest_overload(&self) -> Option<Overload>
+        requires { Fits self.now.plan.now }
+        ensures { result ≡ some_overload self.now.plan.now.kinds (overload_in self.now.order self.now.plan.now) }
+    {
+        let plan = self.plan;
+        kinds::lowest_overload(
+            self.order,
+            plan.count,
+            &plan.demand,
+            &plan.available,
+            plan.kinds,
+        )
+    }
+
+    // 7: a kind needs more than there is.
+    pub fn not_overloaded(&self) -> Result<(), Cause>
+        requires { Fits self.now.plan.now }
+        ensures { result ≡ or_found (Ok tt) (overload_in self.now.order self.now.plan.now) self.now.plan.now.kinds }
+    {
+        match self.lowest_overload() {
+            None => Ok(()),
+            Some(over) => {
+                let cause = Cause::Overloaded {
+                    kind: over.kind + 1,
+                    need: over.need,
+                    set: over.set,
+                };
+                Err(cause)
+            }
+        }
     }
 }
 
-// The first step: reads a plan.
-pub fn read_plan(s: &[u8]) -> Read
-    ensures { result ≡ read_plan s.now }
-{
-    let reading = plan::read(s);
-    let plan = reading.plan;
-    let answer = reading.answer;
-    let fault = unread_fault(answer);
-    Read { plan, fault }
-}
-
-// A circle in the job order, and then one in the plan order, in their turn.
-fn or_circles(fault: Fault, job: Order, whole: Order) -> Fault
-    ensures { result ≡ or_circles fault job whole }
-{
-    let i = job.circle();
-    let five = or_cause(fault, i < ELEMENTS, Cause::JobCircle(i + 1));
-    let j = whole.circle();
-    or_cause(five, j < ELEMENTS, Cause::PlanCircle(j + 1))
-}
-
-// The second step: builds the orders of a plan, and looks for circles, after what was found before.
-pub fn ordered(q: plan::Plan, found: Fault) -> Opened
-    ensures { result ≡ ordered_of q found }
-{
-    let arcs = q.job;
-    let extra = q.extra;
-    let rows = order::joined(arcs, extra);
-    let job = Order::of(arcs);
-    let whole = job.with_arcs(extra);
-    let fault = or_circles(found, job, whole);
-    Opened {
-        plan: q,
-        rows,
-        job,
-        order: whole,
-        fault,
-    }
-}
-
-// Both steps.
-pub fn open_plan(s: &[u8]) -> Opened
-    ensures { result ≡ opened_of s.now }
-{
-    let read = read_plan(s);
-    let q = read.plan;
-    let fault = read.fault;
-    ordered(q, fault)
-}
-
-// How much of each kind is available, for the report: all else that it says is what operations write. (By way of
-// `open_plan`, which all operations call: a second caller of `plan::read` would make that a function of its own, and
-// every operation would pay for the copy of a plan.)
+// How much of each kind is available, for the report, where there is a circle too: all else that it says is what
+// operations write.
 pub fn available(s: &[u8]) -> [u32; 8]
     ensures { result ≡ (plan_in s.now).available }
 {
-    let opened = open_plan(s);
-    let q = opened.plan;
-    q.available
+    match plan::read(s) {
+        Ok(plan) => plan.available,
+        Err(_) => [0; 8],
+    }
 }

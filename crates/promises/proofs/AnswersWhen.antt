@@ -5,17 +5,14 @@ use mathlib.Core.List.{List, ◌++◌}
 use Prim.Native.Nat.{ℕ, ◌+◌, ◌-◌, ◌≤◌}
 use native.Mathlib.Omega.{arith}
 use lib.ListN.{length, drop}
+use Rattle.std.specs.Prelude.{Ok, Err}
 use Rattle.records.specs.Records.{starting_with}
-use Rattle.planner.specs.Faults.{or_cause}
+use Rattle.planner.specs.Faults.{Fault, or_cause}
 use Rattle.planner.specs.Open.{plan_in, fault_of, Opens}
 use Rattle.planner.specs.Starts.{needed, starts_fault, starts_answer, start_numbers, starts_out}
 use Rattle.planner.specs.Flow.{flow_fault, flow_count, record_bytes, flow_answer, flow_out}
 use Rattle.planner.specs.CrewCheck.{bad_lists, crew_check_fault, crew_found, checked_of, crew_check_answer}
 use Rattle.planner.specs.declared.Cause.TheVariants.{Lists}
-use Rattle.planner.specs.declared.Fault.{Fault}
-use Rattle.planner.specs.declared.Fault.TheVariants.{Fine}
-use Rattle.planner.specs.declared.Output.TheVariants as output
-use Rattle.planner.specs.declared.CrewChecked.TheVariants as crew
 use Rattle.planner.proofs.FaultLaws.{cause_next, cause_none, short_none}
 use Rattle.planner.proofs.OutputLaws.{output_fine, output_is_fine, lent_fine}
 use Rattle.planner.proofs.StartsLaws.{length_numbers}
@@ -23,11 +20,11 @@ use Rattle.planner.proofs.StartsLaws.{length_numbers}
 -- ---- Starts
 
 module _ (s : List ℕ) where
-  fault_none : (n : ℕ) → Opens s → needed s ≤ n → starts_fault s n ≡ Fine
+  fault_none : (n : ℕ) → Opens s → needed s ≤ n → starts_fault s n ≡ Ok tt
   unfolding starts_fault
   fault_none n o l = short_none (fault_of s) n (needed s) o l
 
-  pub starts_written : (n : ℕ) → Opens s → needed s ≤ n → starts_answer s n ≡ output.Written (needed s)
+  pub starts_written : (n : ℕ) → Opens s → needed s ≤ n → starts_answer s n ≡ Ok (needed s)
   starts_written n o l = output_fine (starts_fault s n) (needed s) (fault_none n o l)
 
   module _ (out : List ℕ) where
@@ -47,17 +44,17 @@ module _ (s starts worked : List ℕ) where
   by_fault e = ap (λ (f : Fault). checked_of f (crew_found s starts worked)) e
 
   -- CAUSE 10
-  pub crew_lists : Opens s → bad_lists (plan_in s).count (plan_in s).duration starts worked ≡ true → crew_check_answer s starts worked ≡ crew.Refused (Lists (plan_in s).count)
+  pub crew_lists : Opens s → bad_lists (plan_in s).count (plan_in s).duration starts worked ≡ true → crew_check_answer s starts worked ≡ Err (Lists (plan_in s).count)
   crew_lists o e = by_fault (cause_next (fault_of s) (bad_lists (plan_in s).count (plan_in s).duration starts worked) (Lists (plan_in s).count) o e)
 
-  pub crew_looks : Opens s → bad_lists (plan_in s).count (plan_in s).duration starts worked ≡ false → crew_check_answer s starts worked ≡ crew.Found (crew_found s starts worked)
+  pub crew_looks : Opens s → bad_lists (plan_in s).count (plan_in s).duration starts worked ≡ false → crew_check_answer s starts worked ≡ Ok (crew_found s starts worked)
   crew_looks o e = by_fault (cause_none (fault_of s) (bad_lists (plan_in s).count (plan_in s).duration starts worked) (Lists (plan_in s).count) o e)
 
 -- ---- Flow
 
 -- where it answers with a count, so many records stand at the front, and the rest is as it was
-pub flow_left : (s : List ℕ) (k : ℕ) (out : List ℕ) (n : ℕ) → flow_answer s (k + 1) (length out) ≡ output.Written n
-    → (flow_fault s (k + 1) (length out) ≡ Fine) × (n ≡ flow_count (plan_in s) k) × (flow_out s (k + 1) out ≡ starting_with (record_bytes (plan_in s) k) out)
+pub flow_left : (s : List ℕ) (k : ℕ) (out : List ℕ) (n : ℕ) → flow_answer s (k + 1) (length out) ≡ Ok n
+    → (flow_fault s (k + 1) (length out) ≡ Ok tt) × (n ≡ flow_count (plan_in s) k) × (flow_out s (k + 1) out ≡ starting_with (record_bytes (plan_in s) k) out)
 unfolding flow_out
 flow_left s k out n e =
     let w = output_is_fine (flow_fault s (k + 1) (length out)) n (flow_count (plan_in s) (k + 1 - 1)) e in

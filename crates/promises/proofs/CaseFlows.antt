@@ -26,14 +26,13 @@ use Rattle.solver.specs.model.Quote.{unused, copied, outcome, flow_of, flow_in}
 use Rattle.kinds.specs.Needs.{demands_for}
 use Rattle.kinds.specs.Flows.{pair_bytes, row_bytes, flow_bytes}
 use Rattle.plan.specs.declared.Plan.{Plan}
-use Rattle.planner.specs.Faults.{or_cause, or_short}
+use Rattle.planner.specs.Faults.{Fault, or_cause, or_short}
 use Rattle.planner.specs.Open.{order_for}
 use Rattle.planner.specs.Output.{lent_after}
 use Rattle.planner.specs.Need.{demand_for, available_for, need_for, over_kind, is_overloaded, over_cause, or_overloaded}
 use Rattle.planner.specs.File.{flow_length}
 use Rattle.planner.specs.Flow.{is_kind, flow_mark, flow_fault, flow_units, record_bytes, flow_out}
 use Rattle.planner.specs.declared.Cause.TheVariants.{NoKind}
-use Rattle.planner.specs.declared.Fault.{Fault}
 use Rattle.promises.specs.Ours.{ours}
 use Rattle.promises.specs.Cases.{plan_a, plan_i_job, plan_i_extra, plan_i_both, flow_a, flow_i}
 use Rattle.promises.proofs.CasePlans.{OpenedAs, all_opened, opened_as, in_a, in_i_job, in_i_extra, in_i_both}

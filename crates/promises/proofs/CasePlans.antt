@@ -4,6 +4,7 @@ use mathlib.Core.Path.{◌≡◌, refl, ap, ◌∙◌}
 use mathlib.Core.List.{List, [], ◌∷◌, ◌++◌}
 use Prim.Native.Nat.{ℕ, ◌-◌, ◌*◌}
 use lib.ListN.{length, get_or, replicate}
+use Rattle.std.specs.Prelude.{Ok, Err}
 use Rattle.words.specs.Bits.{digit, bit}
 use Rattle.words.specs.Members.{first, some}
 use Rattle.words.specs.Tables.{table}
@@ -17,12 +18,10 @@ use Rattle.plan.specs.model.ArcRows.{with_arc, picked_up_to}
 use Rattle.plan.specs.model.Plans.{durations_of, demand_table, available_of, plan_of}
 use Rattle.plan.specs.Causes.{rule, activity_cause, crew_cause, arc_cause, cause_at, first_refusal, records_cause, is_length, answer_of, is_readable}
 use Rattle.plan.specs.declared.Plan.{Plan}
-use Rattle.plan.specs.declared.Answer.TheVariants as answer
 use Rattle.plan.specs.declared.Cause.TheVariants.{MilestoneDemand, Spare, RepeatedArc}
+use Rattle.planner.specs.Faults.{Fault}
 use Rattle.planner.specs.Open.{plan_in, order_for, read_fault, or_circles, fault_of}
 use Rattle.planner.specs.declared.Cause.TheVariants.{JobCircle, PlanCircle}
-use Rattle.planner.specs.declared.Fault.{Fault}
-use Rattle.planner.specs.declared.Fault.TheVariants.{Fine, Refused}
 use Rattle.planner.proofs.OpenLaws.{plan_in_lem}
 use Rattle.promises.specs.Cases.{plan_a, plan_b, plan_c, plan_d, plan_e, plan_e_job, plan_f, plan_g, plan_h, plan_a_both, plan_a_pasted, plan_a_spare, plan_e_pasted, plan_c_thrice, plan_a_wait, plan_a_job_waits, plan_a_extra_waits, plan_a_wait_pasted, plan_a_wait_spare, plan_i_job, plan_i_extra, plan_i_both}
 
@@ -100,7 +99,7 @@ in_i_both = three_with (2 ∷ 4 ∷ []) (4 ∷ [])
 
 -- (its answer and its plan apart: `read_of` would have the answer computed twice)
 record Reads (s : List ℕ) (q : Plan) : Type 0 where
-  answers : answer_of s ≡ answer.Readable
+  answers : answer_of s ≡ Ok tt
   says : plan_of s ≡ q
 
 record AllRead : Type 0 where
@@ -147,13 +146,13 @@ all_read =
 
 -- and these are not
 pub record AllRefused : Type 0 where
-  pub g : answer_of (plan_g 1) ≡ answer.Refused (MilestoneDemand 0)
-  pub a_pasted : answer_of plan_a_pasted ≡ answer.Refused (RepeatedArc 7)
-  pub a_spare : answer_of plan_a_spare ≡ answer.Refused (Spare 7)
-  pub e_pasted : answer_of plan_e_pasted ≡ answer.Refused (RepeatedArc 7)
-  pub c_thrice : answer_of plan_c_thrice ≡ answer.Refused (RepeatedArc 6)
-  pub w_pasted : answer_of plan_a_wait_pasted ≡ answer.Refused (RepeatedArc 7)
-  pub w_spare : answer_of plan_a_wait_spare ≡ answer.Refused (Spare 7)
+  pub g : answer_of (plan_g 1) ≡ Err (MilestoneDemand 0)
+  pub a_pasted : answer_of plan_a_pasted ≡ Err (RepeatedArc 7)
+  pub a_spare : answer_of plan_a_spare ≡ Err (Spare 7)
+  pub e_pasted : answer_of plan_e_pasted ≡ Err (RepeatedArc 7)
+  pub c_thrice : answer_of plan_c_thrice ≡ Err (RepeatedArc 6)
+  pub w_pasted : answer_of plan_a_wait_pasted ≡ Err (RepeatedArc 7)
+  pub w_spare : answer_of plan_a_wait_spare ≡ Err (Spare 7)
 
 pub all_refused : AllRefused
 unfolding first some table field zeros leading activity_fields demands_some crew_fields arc_fields arc_repeats demands_of rule activity_cause crew_cause arc_cause cause_at first_refusal records_cause is_length answer_of
@@ -166,30 +165,30 @@ pub record OpenedAs (s : List ℕ) (q : Plan) (f : Fault) : Type 0 where
   pub plan : plan_in s ≡ q
   pub fault : fault_of s ≡ f
 
-reads_as : {s : List ℕ} {q : Plan} {f : Fault} → Reads s q → or_circles Fine (order_in q.job) (order_for q) ≡ f → OpenedAs s q f
+reads_as : {s : List ℕ} {q : Plan} {f : Fault} → Reads s q → or_circles (Ok tt) (order_in q.job) (order_for q) ≡ f → OpenedAs s q f
 unfolding fault_of read_fault
 reads_as {s} {q} r e =
     let plan : plan_in s ≡ q = plan_in_lem s (ap is_readable r.answers) ∙ r.says in
     record { plan = plan; fault = rw (r.answers, plan) e }
 
 pub record AllOpened : Type 0 where
-  pub a : OpenedAs plan_a in_a Fine
-  pub a_both : OpenedAs plan_a_both in_a_both Fine
-  pub b : OpenedAs plan_b in_b Fine
-  pub c : OpenedAs plan_c in_c Fine
-  pub d : OpenedAs plan_d in_d Fine
-  pub e : OpenedAs plan_e in_e (Refused (PlanCircle 1))
-  pub e_job : OpenedAs plan_e_job in_e_job (Refused (JobCircle 1))
-  pub f4 : OpenedAs (plan_f 4) (in_f 4) Fine
-  pub f5 : OpenedAs (plan_f 5) (in_f 5) Fine
-  pub g : OpenedAs (plan_g 0) in_g Fine
-  pub h : OpenedAs plan_h in_h Fine
-  pub w : OpenedAs plan_a_wait in_a Fine
-  pub w_job : OpenedAs plan_a_job_waits in_a_both Fine
-  pub w_extra : OpenedAs plan_a_extra_waits in_a_both Fine
-  pub i_job : OpenedAs plan_i_job in_i_job Fine
-  pub i_extra : OpenedAs plan_i_extra in_i_extra Fine
-  pub i_both : OpenedAs plan_i_both in_i_both Fine
+  pub a : OpenedAs plan_a in_a (Ok tt)
+  pub a_both : OpenedAs plan_a_both in_a_both (Ok tt)
+  pub b : OpenedAs plan_b in_b (Ok tt)
+  pub c : OpenedAs plan_c in_c (Ok tt)
+  pub d : OpenedAs plan_d in_d (Ok tt)
+  pub e : OpenedAs plan_e in_e (Err (PlanCircle 1))
+  pub e_job : OpenedAs plan_e_job in_e_job (Err (JobCircle 1))
+  pub f4 : OpenedAs (plan_f 4) (in_f 4) (Ok tt)
+  pub f5 : OpenedAs (plan_f 5) (in_f 5) (Ok tt)
+  pub g : OpenedAs (plan_g 0) in_g (Ok tt)
+  pub h : OpenedAs plan_h in_h (Ok tt)
+  pub w : OpenedAs plan_a_wait in_a (Ok tt)
+  pub w_job : OpenedAs plan_a_job_waits in_a_both (Ok tt)
+  pub w_extra : OpenedAs plan_a_extra_waits in_a_both (Ok tt)
+  pub i_job : OpenedAs plan_i_job in_i_job (Ok tt)
+  pub i_extra : OpenedAs plan_i_extra in_i_extra (Ok tt)
+  pub i_both : OpenedAs plan_i_both in_i_both (Ok tt)
 
 pub all_opened : AllOpened
 unfolding digit bit first table row row_table cells grow arcs_from arcs_in circle_in extended circle_of order_of order_in joined_rows

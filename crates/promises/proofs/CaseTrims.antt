@@ -26,14 +26,13 @@ use Rattle.plan.specs.model.Plans.{with_extra}
 use Rattle.plan.specs.declared.Plan.{Plan}
 use Rattle.flow_math.specs.Heaviest.{heaviest, need_of}
 use Rattle.kinds.specs.Needs.{demands_for}
-use Rattle.planner.specs.Faults.{or_short}
+use Rattle.planner.specs.Faults.{Fault, or_short}
 use Rattle.planner.specs.Open.{plan_in}
 use Rattle.planner.specs.Need.{need_for, over_kind, is_overloaded, over_cause, or_overloaded}
 use Rattle.planner.specs.Output.{output_of, lent_after}
 use Rattle.planner.specs.Answers.{output_numbers}
 use Rattle.planner.specs.Verdict.{is_accepted}
 use Rattle.planner.specs.Trim.{pair_from, pair_to, may_go, trim_step, trim_up_to, trimmed_rows, trimmed_file, trim_fault, trim_out}
-use Rattle.planner.specs.declared.Fault.{Fault}
 use Rattle.promises.specs.Ours.{our_trim}
 use Rattle.promises.specs.Cases.{plan_d, plan_a_both, plan_a_job_waits, TrimCases}
 use Rattle.promises.proofs.CasePlans.{in_a_both, in_d, OpenedAs, all_opened}

@@ -4,6 +4,7 @@ use mathlib.Core.Path.{◌≡◌}
 use mathlib.Core.List.{List, [], ◌∷◌}
 use Prim.Native.Nat.{ℕ, ◌+◌}
 use lib.ListN.{length, replicate}
+use Rattle.std.specs.Prelude.{Err}
 use Rattle.words.specs.Bits.{digit, bit}
 use Rattle.words.specs.model.Loops.{each, run, upto}
 use Rattle.words.specs.Members.{first, count, some}
@@ -30,7 +31,7 @@ use Rattle.solver.specs.model.Network.{giver, joined, shifted, handing}
 use Rattle.solver.specs.model.Solve.{blanks, blank_rows, ranked, started, rounded, solved}
 use Rattle.solver.specs.model.Quote.{unused, copied, outcome, amount, quote_in}
 use Rattle.kinds.specs.Needs.{demands_for}
-use Rattle.planner.specs.Faults.{or_cause, or_short}
+use Rattle.planner.specs.Faults.{Fault, CrewChecked, or_cause, or_short}
 use Rattle.planner.specs.Answers.{unread_numbers, verdict_numbers, output_numbers, crew_check_numbers}
 use Rattle.planner.specs.Open.{rows_for, fault_of}
 use Rattle.planner.specs.Output.{output_of, lent_after}
@@ -42,10 +43,7 @@ use Rattle.planner.specs.Starts.{starts_fault, starts_out, start_numbers, with_e
 use Rattle.planner.specs.Overload.{overload_fault, over_count, over_bytes, overload_out}
 use Rattle.planner.specs.CrewCheck.{some_misworked, bad_lists, crew_check_fault, crew_found, checked_of}
 use Rattle.plan.specs.declared.Cause.{Cause as Unread}
-use Rattle.plan.specs.declared.Answer.TheVariants as answer
 use Rattle.planner.specs.declared.Cause.TheVariants.{Lists}
-use Rattle.planner.specs.declared.Fault.{Fault}
-use Rattle.planner.specs.declared.CrewChecked.{CrewChecked}
 use Rattle.promises.specs.Ours.{ours}
 use Rattle.promises.specs.Cases.{Cases, plan_g, plan_a_pasted, plan_a_spare, plan_e_pasted, plan_c_thrice, plan_a_wait_pasted, plan_a_wait_spare}
 use Rattle.promises.proofs.RefusalsHold.{unreadables}
@@ -99,7 +97,7 @@ module _ {s : List ℕ} {q : Plan} {f : Fault} (o : OpenedAs s q f) where
   crew_as starts worked = opened_as (λ p g. crew_check_numbers (checking s p g starts worked)) o
 
 -- and of one that is refused
-verdict_refused : (s : List ℕ) {u : Unread} → answer_of s ≡ answer.Refused u → verdict_numbers (ours.verdict s) ≡ unread_numbers u
+verdict_refused : (s : List ℕ) {u : Unread} → answer_of s ≡ Err u → verdict_numbers (ours.verdict s) ≡ unread_numbers u
 verdict_refused s {u} e = ((unreadables s).every u e).verdict
 
 pub cases : Cases ours

@@ -7,11 +7,12 @@ use mathlib.Core.Logic.{inl, inr}
 use Prim.Native.Nat.{ℕ, ◌+◌, ◌-◌}
 use native.Mathlib.Omega.{arith}
 use lib.Dec.{ltb}
+use Rattle.std.specs.Prelude.{Ok, Err}
 use Rattle.plan.specs.Meaning.{Readable}
 use Rattle.plan.specs.declared.Cause.{Cause as Unread}
 use Rattle.schedule.specs.declared.Checked.{Checked}
 use Rattle.schedule.specs.declared.Checked.TheVariants.{Fits, Broken, Overload}
-use Rattle.planner.specs.Faults.{or_cause, or_short}
+use Rattle.planner.specs.Faults.{Fault, or_cause, or_short}
 use Rattle.planner.specs.Open.{plan_in, fault_of}
 use Rattle.planner.specs.Numbers.{numbers_of}
 use Rattle.planner.specs.Answers.{cause_number, verdict_numbers, output_numbers, crew_check_numbers}
@@ -26,8 +27,6 @@ use Rattle.planner.specs.File.{flow_length}
 use Rattle.planner.specs.CrewCheck.{bad_lists, crew_check_fault, crew_found, checked_of}
 use Rattle.planner.specs.declared.Cause.{Cause}
 use Rattle.planner.specs.declared.Cause.TheVariants.{Unreadable, JobCircle, PlanCircle, NoKind, Short, Lists}
-use Rattle.planner.specs.declared.Fault.{Fault}
-use Rattle.planner.specs.declared.Fault.TheVariants.{Fine, Refused}
 use Rattle.planner.proofs.FaultLaws.{cause_before, Every}
 use Rattle.planner.proofs.OpenLaws.{every_open}
 use Rattle.planner.proofs.SheetFaults.{flow_before}
@@ -39,8 +38,8 @@ use Rattle.promises.proofs.CircleFaults.{job_circle_means, plan_circle_means, me
 
 -- ---- a fault of the file is every operation's
 
-module _ (s : List ℕ) (c : Cause) (e : fault_of s ≡ Refused c) where
-  outputs : (f : Fault) (v : ℕ) → f ≡ Refused c → output_numbers (output_of f v) ≡ numbers_of c
+module _ (s : List ℕ) (c : Cause) (e : fault_of s ≡ Err c) where
+  outputs : (f : Fault) (v : ℕ) → f ≡ Err c → output_numbers (output_of f v) ≡ numbers_of c
   outputs f v p = ap (λ (x : Fault). output_numbers (output_of x v)) p
 
   pub every_gives : EveryGives ours s (numbers_of c)
@@ -59,7 +58,7 @@ module _ (s : List ℕ) (c : Cause) (e : fault_of s ≡ Refused c) where
 
 -- a fault with these numbers
 abbrev pub Gives : Fault → List ℕ → Type 0
-Gives f numbers = (c : Cause) × (f ≡ Refused c) × (numbers_of c ≡ numbers)
+Gives f numbers = (c : Cause) × (f ≡ Err c) × (numbers_of c ≡ numbers)
 
 pub heads : {x y : ℕ} {xs ys : List ℕ} → x ∷ xs ≡ y ∷ ys → x ≡ y
 heads e = cc
@@ -70,27 +69,27 @@ module _ (n : ℕ) (ys : List ℕ) (one : OneOf opening n) where
   other {x} e q = one_not opening n x one e (sym (heads q))
 
   output_gives : (f : Fault) (v : ℕ) → output_numbers (output_of f v) ≡ n ∷ ys → Gives f (n ∷ ys)
-  output_gives Fine v e = absurd (other refl e)
-  output_gives (Refused c) v e = (c, refl, e)
+  output_gives (Ok _) v e = absurd (other refl e)
+  output_gives (Err c) v e = (c, refl, e)
 
   verdict_gives : (f : Fault) (m k : ℕ) → verdict_numbers (verdict_of f m k) ≡ n ∷ ys → Gives f (n ∷ ys)
-  verdict_gives Fine m k e = absurd (other refl e)
-  verdict_gives (Refused c) m k e = (c, refl, e)
+  verdict_gives (Ok _) m k e = absurd (other refl e)
+  verdict_gives (Err c) m k e = (c, refl, e)
 
   crew_gives : (f : Fault) (x : Checked) → crew_check_numbers (checked_of f x) ≡ n ∷ ys → Gives f (n ∷ ys)
-  crew_gives Fine Fits e = absurd (other refl e)
-  crew_gives Fine (Broken i j) e = absurd (other refl e)
-  crew_gives Fine (Overload t k) e = absurd (other refl e)
-  crew_gives (Refused c) x e = (c, refl, e)
+  crew_gives (Ok _) Fits e = absurd (other refl e)
+  crew_gives (Ok _) (Broken i j) e = absurd (other refl e)
+  crew_gives (Ok _) (Overload t k) e = absurd (other refl e)
+  crew_gives (Err c) x e = (c, refl, e)
 
   -- a later cause has a number of its own
   turn_gives : (f : Fault) (b : Bool) (d : Cause) → is_one opening (cause_number d) ≡ false → Gives (or_cause f b d) (n ∷ ys) → Gives f (n ∷ ys)
-  turn_gives Fine true d h g = absurd (other h (ap numbers_of (same g.1) ∙ g.2))
+  turn_gives (Ok _) true d h g = absurd (other h (ap numbers_of (same g.1) ∙ g.2))
     where
-      same : {c d : Cause} → ◌≡◌ {A = Fault} (Refused c) (Refused d) → c ≡ d
+      same : {c d : Cause} → ◌≡◌ {A = Fault} (Err c) (Err d) → c ≡ d
       same e = cc
-  turn_gives Fine false d h g = g
-  turn_gives (Refused c) b d h g = g
+  turn_gives (Ok _) false d h g = g
+  turn_gives (Err c) b d h g = g
 
   -- of an operation with one cause more, 9
   nine : (s : List ℕ) (lent length v : ℕ) → output_numbers (output_of (or_short (fault_of s) lent length) v) ≡ n ∷ ys → Gives (fault_of s) (n ∷ ys)
@@ -141,10 +140,10 @@ circles s r =
       five = λ i L. every_gives s (JobCircle (i + 1)) (means_job_circle s i r L);
       five_means = λ i g.
           let w = fault_gives 5 ((i + 1) ∷ []) (one_after reading (5 ∷ 6 ∷ []) 5 (inl refl)) s g in
-          (job_circle_means s i (w.1 ∙ ap Refused (is_five s (i + 1) w.0 w.1 w.2))).1;
+          (job_circle_means s i (w.1 ∙ ap Err (is_five s (i + 1) w.0 w.1 w.2))).1;
       six = λ i free L. every_gives s (PlanCircle (i + 1)) (means_plan_circle s i r free L);
       six_means = λ i g.
           let w = fault_gives 6 ((i + 1) ∷ []) (one_after reading (5 ∷ 6 ∷ []) 6 (inr (inl refl))) s g in
-          let v = plan_circle_means s i (w.1 ∙ ap Refused (is_six s (i + 1) w.0 w.1 w.2)) in
+          let v = plan_circle_means s i (w.1 ∙ ap Err (is_six s (i + 1) w.0 w.1 w.2)) in
           (v.1, v.2);
     }

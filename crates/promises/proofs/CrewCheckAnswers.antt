@@ -8,6 +8,7 @@ use Prim.Native.Nat.{ℕ, zero, suc, ◌+◌, ◌≤◌, ◌<◌}
 use native.Mathlib.Omega.{arith}
 use native.Mathlib.Decide.{dec_lt}
 use lib.ListN.{length}
+use Rattle.std.specs.Prelude.{Ok}
 use Rattle.words.proofs.Tests.{holds}
 use Rattle.plan.specs.Meaning.{Readable, file_kinds, file_available}
 use Rattle.plan.specs.Records.{activity_count}
@@ -17,12 +18,12 @@ use Rattle.schedule.specs.Lists.{at}
 use Rattle.schedule.specs.declared.Checked.{Checked}
 use Rattle.schedule.specs.declared.Checked.TheVariants.{Fits, Broken, Overload}
 use Rattle.planner.specs.Open.{plan_in, Opens}
+use Rattle.planner.specs.Faults.{CrewChecked}
 use Rattle.planner.specs.CrewCheck.{bad_lists, crew_work, crew_found, crew_check_answer}
 use Rattle.planner.specs.Times.{arc_weight, crew_occupies}
 use Rattle.planner.proofs.OpenLaws.{opens_readable}
 use Rattle.planner.proofs.CrewCheckLaws.{bad_work, lists_fine, works_listed, crew_occupied}
 use Rattle.planner.proofs.QuotedNeeds.{count_in, kinds_in, kind_in, available_in_lem}
-use Rattle.planner.specs.declared.CrewChecked.TheVariants.{Found}
 use Rattle.planner.specs.Answers.{found_numbers, crew_check_numbers}
 use Rattle.promises.specs.Ours.{ours}
 use Rattle.promises.specs.Paper.{RightLists, NeverOver, FirstOverload, CrewCheck}
@@ -35,7 +36,7 @@ not_ten Fits m e = let z : ◌≡◌ {A = ℕ} 0 10 = cc in omega arith
 not_ten (Broken i j) m e = let z : ◌≡◌ {A = ℕ} 254 10 = cc in omega arith
 not_ten (Overload t k) m e = let z : ◌≡◌ {A = ℕ} 255 10 = cc in omega arith
 
-same_found : {x y : Checked} → Found x ≡ Found y → x ≡ y
+same_found : {x y : Checked} → ◌≡◌ {A = CrewChecked} (Ok x) (Ok y) → x ≡ y
 same_found e = cc
 
 -- where something is occupied, it is in period 1 or later
@@ -69,10 +70,10 @@ module _ (s : List ℕ) (o : Opens s) (starts worked : List ℕ) where
         sym (bad_work (plan_in s).count (plan_in s).duration starts worked starts_count worked_count (sym ((works_listed s worked readable worked_count).1 R.working)))
 
     -- what is answered is what is found
-    answers : (x : Checked) → (crew_check_answer s starts worked ≡ Found x) ↔ (crew_found s starts worked ≡ x)
+    answers : (x : Checked) → (crew_check_answer s starts worked ≡ Ok x) ↔ (crew_found s starts worked ≡ x)
     answers x =
         let e = crew_looks s starts worked o not_bad in
-        ((λ q. same_found (sym e ∙ q)), (λ q. e ∙ ap Found q))
+        ((λ q. same_found (sym e ∙ q)), (λ q. e ∙ ap Ok q))
 
     -- ---- more is occupied than there is: by the plan's demands, which are the file's
 

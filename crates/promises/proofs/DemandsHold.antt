@@ -5,9 +5,9 @@ use mathlib.Core.List.{List}
 use mathlib.Core.Logic.{◌↔◌}
 use Prim.Native.Nat.{ℕ, ◌<◌}
 use native.Mathlib.Omega.{arith}
+use Rattle.std.specs.Prelude.{Err}
 use Rattle.plan.specs.Meaning.{file_kinds}
 use Rattle.planner.specs.declared.Cause.{Cause}
-use Rattle.planner.specs.declared.Decision.TheVariants.{Refused}
 use Rattle.promises.specs.Planner.{Planner}
 use Rattle.promises.specs.Ours.{ours}
 use Rattle.promises.specs.PriceList.{quoted_need, PriceList}
@@ -28,12 +28,12 @@ module _ (P Q : Planner) (s : List ℕ) (L : PriceList P s) (M : PriceList Q s) 
       let b = M.some_set k h in
       omega (arith, a.2, M.every_set k h a.0 a.1, b.2, L.every_set k h b.0 b.1)
 
-  same_refusal : (c : Cause) → P.verdict s ≡ Refused c → (d : Cause) × (Q.verdict s ≡ Refused d)
+  same_refusal : (c : Cause) → P.verdict s ≡ Err c → (d : Cause) × (Q.verdict s ≡ Err d)
   same_refusal c e =
       let x = L.refuses.0 (c, e) in
       M.refuses.1 (x.0, (x.1.0, omega (arith, x.1.1, same_need x.0 x.1.0)))
 
 -- two planners that keep the sentence refuse the same plans
 pub same_verdict : (P Q : Planner) (s : List ℕ) → PriceList P s → PriceList Q s
-    → ((c : Cause) × (P.verdict s ≡ Refused c)) ↔ ((c : Cause) × (Q.verdict s ≡ Refused c))
+    → ((c : Cause) × (P.verdict s ≡ Err c)) ↔ ((c : Cause) × (Q.verdict s ≡ Err c))
 same_verdict P Q s L M = ((λ r. same_refusal P Q s L M r.0 r.1), (λ r. same_refusal Q P s M L r.0 r.1))

@@ -6,6 +6,7 @@ use Prim.Native.Nat.{ℕ, ◌+◌, ◌≤◌, ◌<◌}
 use native.Mathlib.Omega.{arith}
 use lib.ListN.{length, get_or, drop, length-append, length-drop, get_or-append}
 use lib.Seq.{drop_at}
+use Rattle.std.specs.Prelude.{Ok}
 use Rattle.order.specs.Before.{Before}
 use Rattle.plan.specs.Meaning.{Readable, FileArc, file_duration}
 use Rattle.plan.specs.Records.{activity_count}
@@ -13,7 +14,6 @@ use Rattle.schedule.specs.Lists.{LargestOr0, FinishOf, at}
 use Rattle.planner.specs.Open.{plan_in, Opens}
 use Rattle.planner.specs.Starts.{needed, first_starts, end_start, start_numbers, starts_out}
 use Rattle.planner.specs.Times.{arc_weight, KeepsArcs, NoWaits}
-use Rattle.planner.specs.declared.Output.TheVariants.{Written}
 use Rattle.planner.proofs.OpenLaws.{opens_readable}
 use Rattle.planner.proofs.StartsLaws.{before_end, at_end, length_numbers}
 use Rattle.planner.proofs.FileOrders.{starts_keep, starts_least, starts_largest, end_largest}
@@ -74,7 +74,7 @@ module _ (s : List ℕ) (o : Opens s) (out : List ℕ) (h : activity_count s + 1
   pub earliest_starts : EarliestStarts ours s (arc_weight s) out
   earliest_starts =
       record {
-        answers = starts_written s (length out) o fits ∙ ap (λ (n : ℕ). Written (n + 1)) m;
+        answers = starts_written s (length out) o fits ∙ ap (λ (n : ℕ). Ok (n + 1)) m;
         end = end;
         least = least;
         end_least = end_least;

@@ -8,11 +8,12 @@ use Prim.Native.Nat.{ℕ, ◌-◌}
 use lib.Dec.{eqb, ltb}
 use lib.ListN.{length}
 use borrow.Author.Tests.{eqb-true, eq-eqb}
+use Rattle.std.specs.Prelude.{Ok, Err}
 use Rattle.words.proofs.Tests.{or_left, or_right, or_cases}
 use Rattle.plan.specs.declared.Cause.{Cause as Unread}
 use Rattle.plan.specs.declared.Cause.TheVariants.{Length, RecordType, Field, MilestoneDemand, Spare, RepeatedArc}
 use Rattle.schedule.specs.declared.Checked.{Checked}
-use Rattle.planner.specs.Faults.{or_cause}
+use Rattle.planner.specs.Faults.{Fault, accepted, or_cause}
 use Rattle.planner.specs.Open.{plan_in, fault_of}
 use Rattle.planner.specs.Output.{output_of, lent_after}
 use Rattle.planner.specs.Need.{is_overloaded, over_cause}
@@ -25,11 +26,6 @@ use Rattle.planner.specs.File.{flow_length}
 use Rattle.planner.specs.CrewCheck.{bad_lists, crew_check_fault, crew_found, checked_of}
 use Rattle.planner.specs.declared.Cause.{Cause}
 use Rattle.planner.specs.declared.Cause.TheVariants.{Unreadable, Short, Lists}
-use Rattle.planner.specs.declared.Fault.{Fault}
-use Rattle.planner.specs.declared.Fault.TheVariants.{Fine, Refused}
-use Rattle.planner.specs.declared.Decision.TheVariants as verdict
-use Rattle.planner.specs.declared.Output.TheVariants as output
-use Rattle.planner.specs.declared.CrewChecked.TheVariants as crew
 use Rattle.planner.proofs.FaultLaws.{Every, every_turn}
 use Rattle.planner.proofs.OpenLaws.{every_open}
 use Rattle.planner.proofs.OutputLaws.{output_is_refused, lent_refused}
@@ -108,21 +104,21 @@ then_only s b d = only_cause (opening ++ cause_number d ∷ []) (fault_of s) b d
 -- ---- the answers
 
 pub output_by : (xs : List ℕ) (f : Fault) (v : ℕ) → Only xs f
-    → ((r : ℕ) × (output_of f v ≡ output.Written r)) ⊎ ((c : Cause) × (output_of f v ≡ output.Refused c) × OneOf xs (cause_number c))
-output_by xs Fine v h = inl (v, refl)
-output_by xs (Refused c) v h = inr (c, refl, h c refl)
+    → ((r : ℕ) × (output_of f v ≡ Ok r)) ⊎ ((c : Cause) × (output_of f v ≡ Err c) × OneOf xs (cause_number c))
+output_by xs (Ok _) v h = inl (v, refl)
+output_by xs (Err c) v h = inr (c, refl, h c refl)
 
 verdict_by_lem : (xs : List ℕ) (f : Fault) (m n : ℕ) → Only xs f
-    → ((p : ℕ) × (q : ℕ) × (verdict_of f m n ≡ verdict.Accepted p q)) ⊎ ((c : Cause) × (verdict_of f m n ≡ verdict.Refused c) × OneOf xs (cause_number c))
-verdict_by_lem xs Fine m n h = inl (m, n, refl)
-verdict_by_lem xs (Refused c) m n h = inr (c, refl, h c refl)
+    → ((p : ℕ) × (q : ℕ) × (verdict_of f m n ≡ accepted p q)) ⊎ ((c : Cause) × (verdict_of f m n ≡ Err c) × OneOf xs (cause_number c))
+verdict_by_lem xs (Ok _) m n h = inl (m, n, refl)
+verdict_by_lem xs (Err c) m n h = inr (c, refl, h c refl)
 
 checked_by : (xs : List ℕ) (f : Fault) (x : Checked) → Only xs f
-    → ((y : Checked) × (checked_of f x ≡ crew.Found y)) ⊎ ((c : Cause) × (checked_of f x ≡ crew.Refused c) × OneOf xs (cause_number c))
-checked_by xs Fine x h = inl (x, refl)
-checked_by xs (Refused c) x h = inr (c, refl, h c refl)
+    → ((y : Checked) × (checked_of f x ≡ Ok y)) ⊎ ((c : Cause) × (checked_of f x ≡ Err c) × OneOf xs (cause_number c))
+checked_by xs (Ok _) x h = inl (x, refl)
+checked_by xs (Err c) x h = inr (c, refl, h c refl)
 
-pub kept : (f : Fault) (v : ℕ) (written out : List ℕ) (c : Cause) → output_of f v ≡ output.Refused c → lent_after f written out ≡ out
+pub kept : (f : Fault) (v : ℕ) (written out : List ℕ) (c : Cause) → output_of f v ≡ Err c → lent_after f written out ≡ out
 kept f v written out c e = lent_refused f c written out (output_is_refused f v c e)
 
 -- ---- the faults of the operations

@@ -8,6 +8,7 @@ use native.Mathlib.Omega.{arith}
 use lib.Dec.{ltb}
 use lib.ListN.{length, get_or, replicate, length-replicate}
 use borrow.Author.Tests.{ltb-true}
+use Rattle.std.specs.Prelude.{Ok, Err}
 use Rattle.words.specs.Bits.{digit, bit}
 use Rattle.words.specs.Sums.{sum}
 use Rattle.words.specs.Tables.{table}
@@ -24,7 +25,7 @@ use Rattle.plan.specs.Meaning.{Readable, FileArc, file_demand, file_kinds, file_
 use Rattle.flow_math.specs.Heaviest.{heaviest, need_of}
 use Rattle.kinds.specs.Needs.{demands_for}
 use Rattle.kinds.specs.Reading.{units_read}
-use Rattle.planner.specs.Faults.{is_fine, or_cause}
+use Rattle.planner.specs.Faults.{Fault, Decision, accepted, is_fine, or_cause}
 use Rattle.planner.specs.Open.{plan_in, fault_of}
 use Rattle.planner.specs.Output.{output_of, lent_after}
 use Rattle.planner.specs.Need.{available_for, need_for}
@@ -33,11 +34,6 @@ use Rattle.planner.specs.Needs.{needs_fault}
 use Rattle.planner.specs.Flow.{flow_fault}
 use Rattle.planner.specs.File.{flow_length}
 use Rattle.planner.specs.declared.Cause.{Cause}
-use Rattle.planner.specs.declared.Fault.{Fault}
-use Rattle.planner.specs.declared.Fault.TheVariants as fault
-use Rattle.planner.specs.declared.Decision.{Decision}
-use Rattle.planner.specs.declared.Decision.TheVariants.{Accepted, Refused}
-use Rattle.planner.specs.declared.Output.TheVariants.{Written}
 use Rattle.planner.proofs.FaultLaws.{fine_is, short_none}
 use Rattle.planner.proofs.OutputLaws.{output_is_fine, lent_front}
 use Rattle.planner.proofs.QuotedNeeds.{kinds_in, kind_in, available_in_lem}
@@ -67,8 +63,8 @@ are_bytes (b ∷ bs) e (suc i) = are_bytes bs (and_right (ltb b 256) (all_small 
 -- ---- what computes: the plans A and C have no fault, one kind with 4 available, and equal activities and crew; A needs 4 and C needs 8
 
 record Computes : Type 0 where
-  a_fault : fault_of plan_a ≡ fault.Fine
-  c_fault : fault_of plan_c ≡ fault.Fine
+  a_fault : fault_of plan_a ≡ Ok tt
+  c_fault : fault_of plan_c ≡ Ok tt
   a_kinds : file_kinds plan_a ≡ 1
   c_kinds : file_kinds plan_c ≡ 1
   a_available : file_available plan_a 0 ≡ 4
@@ -103,7 +99,7 @@ computes =
 abbrev Readies : List ℕ → Type 0
 Readies s = AreBytes s × Readable s × Acyclic (FileArc s)
 
-ready : (s : List ℕ) → all_small s ≡ true → fault_of s ≡ fault.Fine → Readies s
+ready : (s : List ℕ) → all_small s ≡ true → fault_of s ≡ Ok tt → Readies s
 ready s e f = let w = (opens_when s).0 (ap is_fine f) in (are_bytes s e, w.0, w.1)
 
 a_ready : Readies plan_a
@@ -112,7 +108,7 @@ a_ready = ready plan_a refl computes.a_fault
 c_ready : Readies plan_c
 c_ready = ready plan_c refl computes.c_fault
 
-not_both : (d : Decision) (m n : ℕ) (c : Cause) → d ≡ Accepted m n → d ≡ Refused c → ⊥
+not_both : (d : Decision) (m n : ℕ) (c : Cause) → d ≡ accepted m n → d ≡ Err c → ⊥
 not_both d m n c p q = let z : ◌≡◌ {A = ℕ} 0 1 = cc in omega arith
 
 -- no record, no units
@@ -153,7 +149,7 @@ module _ (P : Planner) (p : PriceListSentence P) where
       let out : List ℕ = replicate 360 0 in
       let w = a_said.flows a_enough 0 (omega (arith, computes.a_kinds)) out (omega (arith, computes.a_room)) in
       let z = empty plan_a 1 (length out) w.0 w.1 in
-      let F = a_said.meets 0 out 0 (w.1 ∙ ap Written z) in
+      let F = a_said.meets 0 out 0 (w.1 ∙ ap Ok z) in
       omega (arith, F.into 0 (omega (arith, computes.a_count)), none_read (activity_count plan_a + 2) ((P.flow 1).left plan_a out), computes.a_demand)
 
 pub hollow_fail : HollowFail
@@ -173,27 +169,27 @@ hollow_fail =
 
 -- ---- the five planners have these properties
 
-by_true : (f : Fault) (c : Cause) (m n : ℕ) → (d : Cause) × (verdict_of (or_cause f true c) m n ≡ Refused d)
-by_true fault.Fine c m n = (c, refl)
-by_true (fault.Refused d) c m n = (d, refl)
+by_true : (f : Fault) (c : Cause) (m n : ℕ) → (d : Cause) × (verdict_of (or_cause f true c) m n ≡ Err d)
+by_true (Ok _) c m n = (c, refl)
+by_true (Err d) c m n = (d, refl)
 
-opened : (s : List ℕ) → Readable s → Acyclic (FileArc s) → fault_of s ≡ fault.Fine
+opened : (s : List ℕ) → Readable s → Acyclic (FileArc s) → fault_of s ≡ Ok tt
 opened s r free = fine_is (fault_of s) ((opens_when s).1 (r, free))
 
-accepted : AcceptsAll accepts_all
-accepted s r free = ((plan_in s).count, (plan_in s).kinds, ap (λ (f : Fault). verdict_of f (plan_in s).count (plan_in s).kinds) (opened s r free))
+all_accepted : AcceptsAll accepts_all
+all_accepted s r free = ((plan_in s).count, (plan_in s).kinds, ap (λ (f : Fault). verdict_of f (plan_in s).count (plan_in s).kinds) (opened s r free))
 
-no_records : (f : Fault) (r : ℕ) → output_of f 0 ≡ Written r → r ≡ 0
+no_records : (f : Fault) (r : ℕ) → output_of f 0 ≡ Ok r → r ≡ 0
 no_records f r e = sym (output_is_fine f r 0 e).1
 
-room_fine : (s : List ℕ) (n : ℕ) → fault_of s ≡ fault.Fine → (plan_in s).kinds ≤ n → needs_fault s n ≡ fault.Fine
+room_fine : (s : List ℕ) (n : ℕ) → fault_of s ≡ Ok tt → (plan_in s).kinds ≤ n → needs_fault s n ≡ Ok tt
 unfolding needs_fault
 room_fine s n f h = short_none (fault_of s) n (plan_in s).kinds (ap is_fine f) h
 
 available_written : NeedIsAvailable available_as_need
 available_written s r free k h =
     let n : ℕ = length {A = ℕ} (replicate (file_kinds s) 0) in
-    let f : needs_fault s n ≡ fault.Fine = room_fine s n (opened s r free) (omega (arith, length-replicate {A = ℕ} (file_kinds s) 0, kinds_in s r)) in
+    let f : needs_fault s n ≡ Ok tt = room_fine s n (opened s r free) (omega (arith, length-replicate {A = ℕ} (file_kinds s) 0, kinds_in s r)) in
     let l : k < (plan_in s).kinds = omega (arith, h, kinds_in s r) in
     lent_front (needs_fault s n) (table (plan_in s).kinds (available_for (plan_in s))) (replicate (file_kinds s) 0) f k
     (omega (arith, l, length_table (plan_in s).kinds (available_for (plan_in s))))
@@ -205,12 +201,12 @@ unweighed test seven s t rs fs rt ft e w =
     go (test (unordered s)) (test (unordered t)) (ap test e) (sym (ap (λ (f : Fault). verdict_of (or_cause f (test (unordered s)) (seven s)) (plan_in s).count (plan_in s).kinds) (opened s rs fs)) ∙ w.1)
     (ap (λ (f : Fault). verdict_of (or_cause f (test (unordered t)) (seven t)) (plan_in t).count (plan_in t).kinds) (opened t rt ft))
   where
-    go : (a b : Bool) → a ≡ b → verdict_of (or_cause fault.Fine a (seven s)) (plan_in s).count (plan_in s).kinds ≡ Refused w.0
-        → (seven_unweighed test seven).verdict t ≡ verdict_of (or_cause fault.Fine b (seven t)) (plan_in t).count (plan_in t).kinds
+    go : (a b : Bool) → a ≡ b → verdict_of (or_cause (Ok tt) a (seven s)) (plan_in s).count (plan_in s).kinds ≡ Err w.0
+        → (seven_unweighed test seven).verdict t ≡ verdict_of (or_cause (Ok tt) b (seven t)) (plan_in t).count (plan_in t).kinds
         → Refuses (seven_unweighed test seven) t
     go a true p q r = (seven t, r)
     go true false p q r = clash refl p
-    go false false p q r = absurd (not_both (Accepted (plan_in s).count (plan_in s).kinds) (plan_in s).count (plan_in s).kinds w.0 refl q)
+    go false false p q r = absurd (not_both (accepted (plan_in s).count (plan_in s).kinds) (plan_in s).count (plan_in s).kinds w.0 refl q)
 
 pub hollow_planners_fail : HollowPlannersFail
 hollow_planners_fail =
@@ -218,7 +214,7 @@ hollow_planners_fail =
       refusing_all = λ seven.
           let all : RefusesAll (refuses_all seven) = λ s. by_true (fault_of s) (seven s) (plan_in s).count (plan_in s).kinds in
           hollow_fail.refusing_all (refuses_all seven) all;
-      accepting_all = hollow_fail.accepting_all accepts_all accepted;
+      accepting_all = hollow_fail.accepting_all accepts_all all_accepted;
       empty_flows = let empty : EmptyFlows empty_flow = λ s kind n r e. no_records (flow_fault s kind n) r e in hollow_fail.empty_flows empty_flow empty;
       available_needs = hollow_fail.available_needs available_as_need available_written;
       unweighed_seven = λ test seven. hollow_fail.unweighed_seven (seven_unweighed test seven) (unweighed test seven);

@@ -4,6 +4,7 @@ use mathlib.Core.List.{List}
 use Prim.Native.Nat.{ℕ, ◌+◌, ◌<◌}
 use native.Mathlib.Omega.{arith}
 use lib.ListN.{length}
+use Rattle.std.specs.Prelude.{Ok}
 use Rattle.words.proofs.Sums.{sum_term}
 use Rattle.words.proofs.Tests.{fails}
 use Rattle.order.specs.Before.{Acyclic, last, more}
@@ -15,7 +16,6 @@ use Rattle.plan.proofs.Milestones.{milestone_idle, demanding_refused, refused_de
 use Rattle.flow_math.specs.Crew.{active}
 use Rattle.flow_math.proofs.Crew.{active_says}
 use Rattle.kinds.specs.Reading.{units_read}
-use Rattle.planner.specs.declared.Output.TheVariants.{Written}
 use Rattle.planner.proofs.QuotedNeeds.{kind_in}
 use Rattle.promises.specs.Ours.{ours}
 use Rattle.promises.specs.Paper.{Paper}
@@ -40,7 +40,7 @@ module _ (s : List ℕ) (small : AreBytes s) (r : Readable s) (free : Acyclic (F
 
   module _ (z : Milestone s i) where
     -- into and out of it goes its demand in all, which is none
-    none_in : (k : ℕ) → k < file_kinds s → (out : List ℕ) (n : ℕ) → (ours.flow (k + 1)).answer s (length out) ≡ Written n
+    none_in : (k : ℕ) → k < file_kinds s → (out : List ℕ) (n : ℕ) → (ours.flow (k + 1)).answer s (length out) ≡ Ok n
         → (u : ℕ) → u < activity_count s + 2 → units_read n ((ours.flow (k + 1)).left s out) u (i + 1) ≡ 0
     none_in k h out n e u b =
         omega (
@@ -50,7 +50,7 @@ module _ (s : List ℕ) (small : AreBytes s) (r : Readable s) (free : Acyclic (F
           milestone_idle s r i k l (kind_in s r h) z,
         )
 
-    none_out : (k : ℕ) → k < file_kinds s → (out : List ℕ) (n : ℕ) → (ours.flow (k + 1)).answer s (length out) ≡ Written n
+    none_out : (k : ℕ) → k < file_kinds s → (out : List ℕ) (n : ℕ) → (ours.flow (k + 1)).answer s (length out) ≡ Ok n
         → (v : ℕ) → v < activity_count s + 2 → units_read n ((ours.flow (k + 1)).left s out) (i + 1) v ≡ 0
     none_out k h out n e v b =
         omega (

@@ -8,6 +8,7 @@ use native.Mathlib.Omega.{arith}
 use lib.Dec.{ltb}
 use lib.ListN.{length, get_or, replicate, length-replicate}
 use borrow.Author.Tests.{lt-ltb, ltb-true, ltb-false}
+use Rattle.std.specs.Prelude.{Ok}
 use Rattle.words.specs.Bits.{bit}
 use Rattle.words.specs.Members.{count}
 use Rattle.words.proofs.Firsts.{first_below, at_first, before_first}
@@ -21,8 +22,6 @@ use Rattle.planner.specs.Need.{available_for, need_for, over_kind, is_overloaded
 use Rattle.planner.specs.Needs.{needs_fault, need_numbers, needs_answer, needs_out}
 use Rattle.promises.specs.Ours.{ours}
 use Rattle.promises.specs.PriceList.{quoted_need, Exceeds, Enough, Shown}
-use Rattle.planner.specs.declared.Fault.TheVariants.{Fine}
-use Rattle.planner.specs.declared.Output.TheVariants.{Written}
 use Rattle.planner.proofs.FaultLaws.{short_none}
 use Rattle.planner.proofs.OutputLaws.{output_fine, lent_front}
 use Rattle.planner.proofs.OpenLaws.{opens_readable}
@@ -39,13 +38,13 @@ module _ (s : List ℕ) (small : AreBytes s) (o : Opens s) where
   -- ---- NEEDS WRITES THE NEED OF EACH KIND, whatever is lent, if it is long enough
 
   module _ (out : List ℕ) (h : file_kinds s ≤ length out) where
-    needs_fine : needs_fault s (length out) ≡ Fine
+    needs_fine : needs_fault s (length out) ≡ Ok tt
     unfolding needs_fault
     needs_fine =
         short_none (fault_of s) (length out) (plan_in s).kinds o (omega (arith, h, kinds_in s readable))
 
-    pub needs_answers : needs_answer s (length out) ≡ Written (file_kinds s)
-    needs_answers = output_fine (needs_fault s (length out)) (plan_in s).kinds needs_fine ∙ ap Written (kinds_in s readable)
+    pub needs_answers : needs_answer s (length out) ≡ Ok (file_kinds s)
+    needs_answers = output_fine (needs_fault s (length out)) (plan_in s).kinds needs_fine ∙ ap Ok (kinds_in s readable)
 
     pub need_written : (k : ℕ) → k < file_kinds s → get_or (needs_out s out) k 0 ≡ need_for (plan_in s) k
     unfolding needs_out need_numbers

@@ -7,6 +7,7 @@ use Prim.Native.Nat.{ℕ, ◌+◌, ◌-◌, ◌^◌, ◌≤◌, ◌<◌}
 use native.Mathlib.Omega.{arith}
 use lib.Dec.{ltb}
 use lib.ListN.{length, drop}
+use Rattle.std.specs.Prelude.{Ok, Err}
 use Rattle.words.specs.Bits.{bit}
 use Rattle.words.specs.Members.{count}
 use Rattle.words.proofs.Tests.{by_test, cond_true}
@@ -20,7 +21,7 @@ use Rattle.plan.specs.Records.{activity_count}
 use Rattle.kinds.specs.Needs.{demands_for}
 use Rattle.kinds.specs.Reading.{units_read}
 use Rattle.solver.proofs.QuoteSound.{need_small}
-use Rattle.planner.specs.Faults.{is_fine, or_cause}
+use Rattle.planner.specs.Faults.{Fault, Decision, accepted, is_fine, or_cause}
 use Rattle.planner.specs.Open.{plan_in, plan_order, fault_of, Opens}
 use Rattle.planner.specs.Numbers.{numbers_of}
 use Rattle.planner.specs.Need.{need_for, over_kind, is_overloaded, shown_set, over_cause}
@@ -33,11 +34,6 @@ use Rattle.promises.specs.Ours.{ours}
 use Rattle.promises.specs.PriceList.{quoted_need, Exceeds, Enough, IsSeven, Shown, PriceList, PriceListSentence}
 use Rattle.planner.specs.declared.Cause.{Cause}
 use Rattle.planner.specs.declared.Cause.TheVariants.{NoKind, Short}
-use Rattle.planner.specs.declared.Fault.{Fault}
-use Rattle.planner.specs.declared.Fault.TheVariants as fault
-use Rattle.planner.specs.declared.Decision.{Decision}
-use Rattle.planner.specs.declared.Decision.TheVariants.{Accepted, Refused}
-use Rattle.planner.specs.declared.Output.TheVariants as output
 use Rattle.planner.proofs.FaultLaws.{cause_none, cause_next, fine_is}
 use Rattle.planner.proofs.OutputLaws.{output_fine, output_is_fine, output_is_refused, lent_fine}
 use Rattle.planner.proofs.OpenLaws.{opens_readable}
@@ -52,14 +48,14 @@ use Rattle.promises.proofs.OverloadShown.{few, needs_answers, need_written, quot
 
 -- ---- answers and causes
 
-pub not_refused : (m n : ℕ) (c : Cause) → Accepted m n ≡ Refused c → ⊥
+pub not_refused : (m n : ℕ) (c : Cause) → accepted m n ≡ Err c → ⊥
 not_refused m n c e = let z : ◌≡◌ {A = ℕ} 0 1 = cc in omega arith
 
-same_cause : (c d : Cause) → ◌≡◌ {A = Decision} (Refused c) (Refused d) → c ≡ d
+same_cause : (c d : Cause) → ◌≡◌ {A = Decision} (Err c) (Err d) → c ≡ d
 same_cause c d e = cc
 
 -- of three causes in turn, the first whose test holds
-first_of : (a b t : Bool) (N S O c : Cause) → or_cause (or_cause (or_cause fault.Fine a N) b S) t O ≡ fault.Refused c → (c ≡ N) ⊎ ((c ≡ S) ⊎ ((t ≡ true) × (c ≡ O)))
+first_of : (a b t : Bool) (N S O c : Cause) → or_cause (or_cause (or_cause (Ok tt) a N) b S) t O ≡ Err c → (c ≡ N) ⊎ ((c ≡ S) ⊎ ((t ≡ true) × (c ≡ O)))
 first_of true b t N S O c e = inl cc
 first_of false true t N S O c e = inr (inl cc)
 first_of false false true N S O c e = inr (inr (refl, cc))
@@ -71,24 +67,24 @@ module _ (s : List ℕ) (small : AreBytes s) (o : Opens s) where
 
   -- ---- Decision
 
-  pub verdict_refused : is_overloaded (plan_in s) ≡ true → verdict_answer s ≡ Refused (over_cause (plan_in s))
+  pub verdict_refused : is_overloaded (plan_in s) ≡ true → verdict_answer s ≡ Err (over_cause (plan_in s))
   unfolding verdict_fault fault_of
   verdict_refused e =
       ap (λ (f : Fault). verdict_of f (plan_in s).count (plan_in s).kinds) (cause_next (fault_of s) (is_overloaded (plan_in s)) (over_cause (plan_in s)) o e)
 
-  verdict_accepted : is_overloaded (plan_in s) ≡ false → verdict_answer s ≡ Accepted (plan_in s).count (plan_in s).kinds
+  verdict_accepted : is_overloaded (plan_in s) ≡ false → verdict_answer s ≡ accepted (plan_in s).count (plan_in s).kinds
   unfolding verdict_fault fault_of
   verdict_accepted e =
       ap (λ (f : Fault). verdict_of f (plan_in s).count (plan_in s).kinds) (cause_none (fault_of s) (is_overloaded (plan_in s)) (over_cause (plan_in s)) o e)
 
   -- a verdict that refuses is 7, of an overloaded plan
-  refused_over : (c : Cause) → verdict_answer s ≡ Refused c → (is_overloaded (plan_in s) ≡ true) × (c ≡ over_cause (plan_in s))
+  refused_over : (c : Cause) → verdict_answer s ≡ Err c → (is_overloaded (plan_in s) ≡ true) × (c ≡ over_cause (plan_in s))
   refused_over c e =
       by_test (is_overloaded (plan_in s))
       (λ t. (t, same_cause c (over_cause (plan_in s)) (sym e ∙ verdict_refused t)))
       (λ t. absurd (not_refused (plan_in s).count (plan_in s).kinds c (sym (verdict_accepted t) ∙ e)))
 
-  refuses : ((c : Cause) × (verdict_answer s ≡ Refused c)) ↔ ((k : ℕ) × Exceeds ours s k)
+  refuses : ((c : Cause) × (verdict_answer s ≡ Err c)) ↔ ((k : ℕ) × Exceeds ours s k)
   refuses = (
     (λ r. (over_kind (plan_in s), over_kind_lem s small o (refused_over r.0 r.1).0)),
     (λ x. (over_cause (plan_in s), verdict_refused (over_when s small o x.0 x.1))),
@@ -106,7 +102,7 @@ module _ (s : List ℕ) (small : AreBytes s) (o : Opens s) where
     shown s small o t,
   )
 
-  shows : (c : Cause) → verdict_answer s ≡ Refused c
+  shows : (c : Cause) → verdict_answer s ≡ Err c
       → (kind : ℕ) × (need : ℕ) × (set : ℕ) × (size : ℕ) × IsSeven c kind need set size × Shown ours s kind need set size
   shows c e =
       let w = refused_over c e in
@@ -145,7 +141,7 @@ module _ (s : List ℕ) (small : AreBytes s) (o : Opens s) where
           need_small (plan_in s).count (plan_order s) (demands_for (plan_in s).demand (over_kind (plan_in s))) (quotable s small o (over_kind (plan_in s)) h),
         )
 
-    over_out : (out : List ℕ) → overload_fault s (length out) ≡ fault.Fine
+    over_out : (out : List ℕ) → overload_fault s (length out) ≡ Ok tt
         → overload_out s out
         ≡ overload_record (over_kind (plan_in s) + 1) (size_of (shown_set (plan_in s) (over_kind (plan_in s)))) (need_for (plan_in s) (over_kind (plan_in s)))
         (number_of (shown_set (plan_in s) (over_kind (plan_in s)))) ++ drop (length (over_bytes (plan_in s))) out
@@ -154,7 +150,7 @@ module _ (s : List ℕ) (small : AreBytes s) (o : Opens s) where
         lent_fine (overload_fault s (length out)) (over_bytes (plan_in s)) out f
         ∙ ap (λ (r : List ℕ). r ++ drop (length (over_bytes (plan_in s))) out) (cond_true _ [] t)
 
-    over_read : (out : List ℕ) → overload_fault s (length out) ≡ fault.Fine
+    over_read : (out : List ℕ) → overload_fault s (length out) ≡ Ok tt
         → Shown ours s (byte (overload_out s out) 1) (field (overload_out s out) 4 4) (field (overload_out s out) 8 8) (byte (overload_out s out) 2)
     over_read out f =
         let k = over_kind (plan_in s) in
@@ -162,7 +158,7 @@ module _ (s : List ℕ) (small : AreBytes s) (o : Opens s) where
         (drop (length (over_bytes (plan_in s))) out) need_fits (set_fits s small o k (few s small o (over_below s small o t)).1) in
         rw (over_out out f, w.0, w.1, w.2, w.3) (shown s small o t)
 
-  overload_shows : (out : List ℕ) → overload_answer s (length out) ≡ output.Written 1
+  overload_shows : (out : List ℕ) → overload_answer s (length out) ≡ Ok 1
       → Shown ours s (byte (overload_out s out) 1) (field (overload_out s out) 4 4) (field (overload_out s out) 8 8) (byte (overload_out s out) 2)
   unfolding over_count
   overload_shows out e =
@@ -173,7 +169,7 @@ module _ (s : List ℕ) (small : AreBytes s) (o : Opens s) where
 
   -- ---- Flow
 
-  flow_shows : (asked n : ℕ) (c : Cause) (kind need set size : ℕ) → flow_answer s asked n ≡ output.Refused c → IsSeven c kind need set size → Shown ours s kind need set size
+  flow_shows : (asked n : ℕ) (c : Cause) (kind need set size : ℕ) → flow_answer s asked n ≡ Err c → IsSeven c kind need set size → Shown ours s kind need set size
   unfolding flow_fault
   flow_shows asked n c kind need set size e i =
       let f = output_is_refused (flow_fault s asked n) (flow_count (plan_in s) (asked - 1)) c e in
@@ -191,15 +187,15 @@ module _ (s : List ℕ) (small : AreBytes s) (o : Opens s) where
       go (inr (inr w)) = seven_shown c kind need set size w.0 w.1 i
 
   flows : Enough ours s → (k : ℕ) → k < file_kinds s → (out : List ℕ) → flow_length (activity_count s) ≤ length out
-      → (n : ℕ) × (flow_answer s (k + 1) (length out) ≡ output.Written n)
+      → (n : ℕ) × (flow_answer s (k + 1) (length out) ≡ Ok n)
   flows en k h out l =
       let room : flow_length (plan_in s).count ≤ length out = rw (count_in s readable) l in
       let there = is_kind_lem (k + 1) (plan_in s).kinds (omega arith) (omega (arith, h, kinds_in s readable)) in
       let f = fine_flow s (k + 1) (length out) o there room (enough_not s small o en) in
       (flow_count (plan_in s) (k + 1 - 1), output_fine (flow_fault s (k + 1) (length out)) (flow_count (plan_in s) (k + 1 - 1)) f)
 
-  module _ (k : ℕ) (out : List ℕ) (n : ℕ) (e : flow_answer s (k + 1) (length out) ≡ output.Written n) where
-    left : (flow_fault s (k + 1) (length out) ≡ fault.Fine) × (n ≡ flow_count (plan_in s) k) × (flow_out s (k + 1) out ≡ starting_with (record_bytes (plan_in s) k) out)
+  module _ (k : ℕ) (out : List ℕ) (n : ℕ) (e : flow_answer s (k + 1) (length out) ≡ Ok n) where
+    left : (flow_fault s (k + 1) (length out) ≡ Ok tt) × (n ≡ flow_count (plan_in s) k) × (flow_out s (k + 1) out ≡ starting_with (record_bytes (plan_in s) k) out)
     left = flow_left s k out n e
 
     went : Opens s × (is_kind (k + 1) (plan_in s).kinds ≡ true) × (flow_length (plan_in s).count ≤ length out) × (is_overloaded (plan_in s) ≡ false)
@@ -239,7 +235,7 @@ module _ (s : List ℕ) (small : AreBytes s) (o : Opens s) where
         shows = shows;
         overload_shows = overload_shows;
         flow_shows = flow_shows;
-        accepts = λ en. verdict_accepted (enough_not s small o en) ∙ ap₂ Accepted (count_in s readable) (kinds_in s readable);
+        accepts = λ en. verdict_accepted (enough_not s small o en) ∙ ap₂ accepted (count_in s readable) (kinds_in s readable);
         flows = flows;
         meets = meets;
         unused = unused;

@@ -4,12 +4,13 @@ use mathlib.Core.Bool.{Bool, true, cond}
 use mathlib.Core.List.{List, [], ◌∷◌}
 use Prim.Native.Nat.{ℕ, ◌+◌, ◌-◌, ◌≤◌}
 use native.Mathlib.Omega.{arith}
+use Rattle.std.specs.Prelude.{Ok, Err}
 use Rattle.records.specs.Bytes.{AreBytes}
 use Rattle.plan.specs.Meaning.{Readable, file_kinds}
 use Rattle.plan.specs.Records.{activity_count}
 use Rattle.plan.specs.Causes.{answer_of}
 use Rattle.plan.specs.declared.Cause.{Cause as Unread}
-use Rattle.plan.specs.declared.Answer.TheVariants as answer
+use Rattle.planner.specs.Faults.{Fault}
 use Rattle.planner.specs.Open.{plan_in, fault_of, Opens}
 use Rattle.planner.specs.Numbers.{numbers_of}
 use Rattle.planner.specs.Answers.{unread_numbers, verdict_numbers, output_numbers}
@@ -23,8 +24,6 @@ use Rattle.planner.specs.Flow.{is_kind, kind_fault, flow_fault, flow_count, flow
 use Rattle.planner.specs.File.{flow_length}
 use Rattle.planner.specs.declared.Cause.{Cause}
 use Rattle.planner.specs.declared.Cause.TheVariants.{Unreadable, NoKind, Short}
-use Rattle.planner.specs.declared.Fault.{Fault}
-use Rattle.planner.specs.declared.Fault.TheVariants.{Fine, Refused}
 use Rattle.planner.proofs.FaultLaws.{cause_next, short_next, short_none, Every}
 use Rattle.planner.proofs.OpenLaws.{opens_readable, every_open, unread_apart}
 use Rattle.planner.proofs.QuotedNeeds.{count_in, kinds_in}
@@ -56,21 +55,21 @@ unreadables s =
       some = λ n values one g.
           let w = fault_gives n values (one_more reading (5 ∷ 6 ∷ []) n one) s g in
           let v = is_unread s n values one w.0 w.1 w.2 in
-          (v.0, unreadable_means s v.0 (w.1 ∙ ap Refused v.1), sym (ap numbers_of v.1) ∙ w.2);
+          (v.0, unreadable_means s v.0 (w.1 ∙ ap Err v.1), sym (ap numbers_of v.1) ∙ w.2);
     }
 
 -- and where an operation answers by the numbers of a cause, that is what the reader finds
-pub unread_given : (s : List ℕ) (u : Unread) → SomeGives ours s (unread_numbers u) → answer_of s ≡ answer.Refused u
+pub unread_given : (s : List ℕ) (u : Unread) → SomeGives ours s (unread_numbers u) → answer_of s ≡ Err u
 unread_given s u g =
     let w = (unreadables s).some _ _ (unread_one u) g in
-    w.1 ∙ ap answer.Refused (unread_apart w.0 u w.2)
+    w.1 ∙ ap Err (unread_apart w.0 u w.2)
 
 -- ---- the other causes, of a plan that opens
 
-pub given : (f : Fault) (v : ℕ) (c : Cause) → f ≡ Refused c → output_numbers (output_of f v) ≡ numbers_of c
+pub given : (f : Fault) (v : ℕ) (c : Cause) → f ≡ Err c → output_numbers (output_of f v) ≡ numbers_of c
 given f v c e = ap (λ (x : Fault). output_numbers (output_of x v)) e
 
-done : (f : Fault) (v : ℕ) → f ≡ Fine → output_numbers (output_of f v) ≡ 0 ∷ v ∷ []
+done : (f : Fault) (v : ℕ) → f ≡ Ok tt → output_numbers (output_of f v) ≡ 0 ∷ v ∷ []
 done f v e = ap (λ (x : Fault). output_numbers (output_of x v)) e
 
 pub two : (x : ℕ) {a b : ℕ} → a ≡ b → ◌≡◌ {A = List ℕ} (x ∷ a ∷ []) (x ∷ b ∷ [])
@@ -100,7 +99,7 @@ module _ (s : List ℕ) (small : AreBytes s) (o : Opens s) where
   there kind p q = is_kind_lem kind (plan_in s).kinds p (omega (arith, q, K))
 
   -- 8, 9 and 7 in their turn
-  flow_gives : (kind n : ℕ) (c : Cause) → kind_fault s kind n (flow_length (plan_in s).count) ≡ Refused c → output_numbers (flow_answer s kind n) ≡ numbers_of c
+  flow_gives : (kind n : ℕ) (c : Cause) → kind_fault s kind n (flow_length (plan_in s).count) ≡ Err c → output_numbers (flow_answer s kind n) ≡ numbers_of c
   unfolding flow_fault
   flow_gives kind n c e = given (flow_fault s kind n) (flow_count (plan_in s) (kind - 1)) c e
 

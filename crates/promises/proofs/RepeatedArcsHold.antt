@@ -3,11 +3,10 @@ use mathlib.Core.Path.{◌≡◌, refl, ap}
 use mathlib.Core.List.{List, ◌∷◌}
 use Prim.Native.Nat.{ℕ}
 use native.Mathlib.Omega.{arith}
-use Rattle.plan.specs.Causes.{is_readable, answer_of}
+use Rattle.std.specs.Prelude.{Ok, Err}
+use Rattle.plan.specs.Causes.{is_readable, answer_of, Answer}
 use Rattle.plan.specs.Meaning.{Readable}
 use Rattle.plan.specs.declared.Cause.TheVariants.{RepeatedArc}
-use Rattle.plan.specs.declared.Answer.{Answer}
-use Rattle.plan.specs.declared.Answer.TheVariants as answer
 use Rattle.plan.proofs.RepeatedArcs.{repeated_refused, refused_repeated, arcs_once}
 use Rattle.promises.specs.Ours.{ours}
 use Rattle.promises.specs.EveryInput.{OneOf, reading}
@@ -21,8 +20,8 @@ one_given : (s : List ℕ) → (Readable s → ⊥) → (n : ℕ) × (values : L
 one_given s never = go (answer_of s) refl
   where
     go : (a : Answer) → answer_of s ≡ a → (n : ℕ) × (values : List ℕ) × OneOf reading n × EveryGives ours s (n ∷ values)
-    go answer.Readable e = absurd (never (ap is_readable e))
-    go (answer.Refused u) e = (_, _, unread_one u, (unreadables s).every u e)
+    go (Ok _) e = absurd (never (ap is_readable e))
+    go (Err u) e = (_, _, unread_one u, (unreadables s).every u e)
 
 pub arcs_once_keep : ArcsOnceSentence ours
 arcs_once_keep s =

@@ -6,10 +6,12 @@ use Prim.Native.Nat.{ℕ, ◌+◌, ◌-◌, ◌≤◌, ◌<◌}
 use native.Mathlib.Omega.{arith}
 use lib.ListN.{length, drop, length-append, length-drop}
 use lib.Seq.{drop_at}
+use Rattle.std.specs.Prelude.{Ok, Err}
 use Rattle.words.proofs.Tests.{by_test}
 use Rattle.crew_sheet.specs.Sheet.{page_bytes, pages_of, sheet_page}
 use Rattle.crew_sheet.proofs.Filling.{length_page}
 use Rattle.plan.specs.Meaning.{file_kinds}
+use Rattle.planner.specs.Faults.{Fault}
 use Rattle.planner.specs.Open.{plan_in, Opens}
 use Rattle.planner.specs.Need.{is_overloaded}
 use Rattle.planner.specs.Starts.{start_numbers}
@@ -18,9 +20,6 @@ use Rattle.planner.specs.Output.{output_of}
 use Rattle.planner.specs.Answers.{output_numbers}
 use Rattle.planner.specs.Sheet.{is_page, sheet_pages, sheet_fault, sheet_answer, sheet_out}
 use Rattle.planner.specs.declared.Cause.TheVariants.{NoPage}
-use Rattle.planner.specs.declared.Fault.{Fault}
-use Rattle.planner.specs.declared.Fault.TheVariants as fault
-use Rattle.planner.specs.declared.Output.TheVariants.{Written}
 use Rattle.planner.proofs.OutputLaws.{output_fine, lent_fine, lent_refused}
 use Rattle.planner.proofs.OpenLaws.{opens_readable}
 use Rattle.planner.proofs.QuotedNeeds.{kinds_in}
@@ -45,20 +44,20 @@ module _ (s : List ℕ) (o : Opens s) (k : ℕ) (h : k < file_kinds s) (free : i
 
   -- ---- the answer
 
-  fine : (n : ℕ) → page_bytes ≤ n → kind_fault s (k + 1) n page_bytes ≡ fault.Fine
+  fine : (n : ℕ) → page_bytes ≤ n → kind_fault s (k + 1) n page_bytes ≡ Ok tt
   fine n l =
       fine_kind s (k + 1) n page_bytes o (is_kind_lem (k + 1) (plan_in s).kinds (omega arith) (omega (arith, h, kinds_in s (opens_readable s o)))) l free
 
-  a_page : (page n : ℕ) → page_bytes ≤ n → IsPage (pages_of count) page → sheet_fault s (k + 1) page n ≡ fault.Fine
+  a_page : (page n : ℕ) → page_bytes ≤ n → IsPage (pages_of count) page → sheet_fault s (k + 1) page n ≡ Ok tt
   a_page page n l p =
       fine_page s (k + 1) page n (fine n l) (is_kind_lem page (sheet_pages s (k + 1)) p.0 (omega (arith, p.1, pages_are)))
 
-  not_page : (page n : ℕ) → page_bytes ≤ n → (IsPage (pages_of count) page → ⊥) → sheet_fault s (k + 1) page n ≡ fault.Refused (NoPage (sheet_pages s (k + 1)))
+  not_page : (page n : ℕ) → page_bytes ≤ n → (IsPage (pages_of count) page → ⊥) → sheet_fault s (k + 1) page n ≡ Err (NoPage (sheet_pages s (k + 1)))
   not_page page n l p =
       no_page s (k + 1) page n (fine n l) (not_kind page (sheet_pages s (k + 1)) (λ w. p (w.0, omega (arith, w.1, pages_are))))
 
-  pub counted : (page n : ℕ) → page_bytes ≤ n → IsPage (pages_of count) page → sheet_answer s (k + 1) page n ≡ Written (pages_of count)
-  counted page n l p = output_fine (sheet_fault s (k + 1) page n) (sheet_pages s (k + 1)) (a_page page n l p) ∙ ap Written pages_are
+  pub counted : (page n : ℕ) → page_bytes ≤ n → IsPage (pages_of count) page → sheet_answer s (k + 1) page n ≡ Ok (pages_of count)
+  counted page n l p = output_fine (sheet_fault s (k + 1) page n) (sheet_pages s (k + 1)) (a_page page n l p) ∙ ap Ok pages_are
 
   pub eleven : (page n : ℕ) → page_bytes ≤ n → (IsPage (pages_of count) page → ⊥) → output_numbers (sheet_answer s (k + 1) page n) ≡ 11 ∷ pages_of count ∷ []
   eleven page n l p =

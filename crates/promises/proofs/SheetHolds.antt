@@ -6,6 +6,7 @@ use mathlib.Core.Logic.{◌≢◌}
 use Prim.Native.Nat.{ℕ, ◌+◌, ◌-◌, ◌≤◌, ◌<◌}
 use native.Mathlib.Omega.{arith}
 use lib.ListN.{length, drop}
+use Rattle.std.specs.Prelude.{Ok, Err}
 use Rattle.records.specs.Bytes.{AreBytes}
 use Rattle.records.specs.Records.{starting_with}
 use Rattle.crew_sheet.specs.Sheet.{page_bytes, sheet_page}
@@ -21,8 +22,6 @@ use Rattle.planner.specs.Flow.{kind_fault, flow_fault, flow_count, record_bytes,
 use Rattle.planner.specs.Sheet.{sheet_pages, sheet_fault, sheet_out}
 use Rattle.planner.specs.declared.Cause.{Cause}
 use Rattle.planner.specs.declared.Cause.TheVariants.{NoKind, Short}
-use Rattle.planner.specs.declared.Fault.TheVariants as fault
-use Rattle.planner.specs.declared.Output.TheVariants.{Written}
 use Rattle.planner.proofs.OpenLaws.{opens_readable}
 use Rattle.planner.proofs.OutputLaws.{output_refused, output_is_refused}
 use Rattle.planner.proofs.QuotedNeeds.{count_in, kinds_in}
@@ -54,10 +53,10 @@ module _ (s : List ℕ) (small : AreBytes s) (o : Opens s) where
   readable = opens_readable s o
 
   -- a refusal before 11
-  refused : (kind page n : ℕ) (c : Cause) → kind_fault s kind n page_bytes ≡ fault.Refused c → output_numbers (output_of (sheet_fault s kind page n) (sheet_pages s kind)) ≡ numbers_of c
+  refused : (kind page n : ℕ) (c : Cause) → kind_fault s kind n page_bytes ≡ Err c → output_numbers (output_of (sheet_fault s kind page n) (sheet_pages s kind)) ≡ numbers_of c
   refused kind page n c e = given (sheet_fault s kind page n) (sheet_pages s kind) c (sheet_kind s kind page n c e)
 
-  printed : Enough ours s → (k : ℕ) → k < file_kinds s → (lent : List ℕ) (n : ℕ) → flow_answer s (k + 1) (length lent) ≡ Written n
+  printed : Enough ours s → (k : ℕ) → k < file_kinds s → (lent : List ℕ) (n : ℕ) → flow_answer s (k + 1) (length lent) ≡ Ok n
       → (room : List ℕ) → activity_count s + 1 ≤ length room → Printed our_sheet s k n (flow_out s (k + 1) lent) (starts_out s room)
   printed en k h lent n e room l =
       let w = flow_left s k lent n e in

@@ -8,6 +8,7 @@ use Prim.Native.Nat.{ℕ, ◌*◌, ◌≤◌}
 use native.Mathlib.Omega.{arith}
 use lib.ListN.{length, take, drop, length-append, length-drop}
 use lib.Seq.{take_at, drop_at}
+use Rattle.std.specs.Prelude.{Ok, Err}
 use Rattle.words.proofs.Counts.{count_le}
 use Rattle.records.specs.Bytes.{AreBytes}
 use Rattle.order.specs.Stored.{elements}
@@ -18,6 +19,7 @@ use Rattle.plan.specs.Filtered.{filtered}
 use Rattle.plan.specs.model.ArcRows.{stays_by}
 use Rattle.plan.specs.model.Plans.{with_extra}
 use Rattle.plan.proofs.Filtered.{filtered_count, stays_arcs}
+use Rattle.planner.specs.Faults.{Fault}
 use Rattle.planner.specs.Open.{plan_in, fault_of, Opens}
 use Rattle.planner.specs.Need.{is_overloaded, over_cause}
 use Rattle.planner.specs.Answers.{cause_number}
@@ -25,10 +27,6 @@ use Rattle.planner.specs.Verdict.{is_accepted, verdict_fault, verdict_of}
 use Rattle.planner.specs.Trim.{trimmed_rows, trimmed_file, trim_fault, trim_answer, trim_out}
 use Rattle.planner.specs.declared.Cause.{Cause}
 use Rattle.planner.specs.declared.Cause.TheVariants.{Short}
-use Rattle.planner.specs.declared.Decision.TheVariants as verdict
-use Rattle.planner.specs.declared.Fault.{Fault}
-use Rattle.planner.specs.declared.Fault.TheVariants as fault
-use Rattle.planner.specs.declared.Output.TheVariants as output
 use Rattle.planner.proofs.FaultLaws.{cause_before, cause_from, from_before}
 use Rattle.planner.proofs.OutputLaws.{output_refused, output_fine, output_is_refused, lent_fine}
 use Rattle.planner.proofs.TrimLaws.{fine_trim, trim_before, trim_from, trim_short, trim_over}
@@ -93,14 +91,14 @@ trim_only s n =
 
 -- the trimmed file, trimmed again
 trimmed_again : (s : List ℕ) → AreBytes s → Opens s → Accepts ours s → (more : List ℕ) → length (trimmed_file s) ≤ length more
-    → (trim_answer (trimmed_file s) (length more) ≡ output.Written (record_count (trimmed_file s))) × (trim_out (trimmed_file s) more ≡ trimmed_file s ++ drop (length (trimmed_file s)) more)
+    → (trim_answer (trimmed_file s) (length more) ≡ Ok (record_count (trimmed_file s))) × (trim_out (trimmed_file s) more ≡ trimmed_file s ++ drop (length (trimmed_file s)) more)
 unfolding trim_out trimmed_file
 trimmed_again s bytes o acc more h =
     let file : List ℕ = filtered (stays_by (trimmed_rows s) s) s in
     let same = again s bytes o in
     let w = accepts_opens file (trimmed s bytes o (accepts_plan s (opens_readable s o) acc)).accepted in
     let fine = fine_trim file (length more) w.0 h w.1 in (
-      output_fine (trim_fault file (length more)) (record_count (trimmed_file file)) fine ∙ ap (λ (x : List ℕ). output.Written (record_count x)) same,
+      output_fine (trim_fault file (length more)) (record_count (trimmed_file file)) fine ∙ ap (λ (x : List ℕ). Ok (record_count x)) same,
       lent_fine (trim_fault file (length more)) (trimmed_file file) more fine ∙ ap (λ (x : List ℕ). x ++ drop (length x) more) same,
     )
 
@@ -123,7 +121,7 @@ trims s bytes acc out l =
       trimmed = subst (Trimmed ours s) (sym front) T;
       no_longer = few;
       rest = ap (drop (24 * record_count file)) left_is ∙ drop_at file (drop (length file) out) (24 * record_count file) whole ∙ ap (λ (n : ℕ). drop n out) whole;
-      again = λ more h. subst (λ (x : List ℕ). length x ≤ length more → (trim_answer x (length more) ≡ output.Written (record_count file)) × (trim_out x more ≡ x ++ drop (length x) more)) (sym front)
+      again = λ more h. subst (λ (x : List ℕ). length x ≤ length more → (trim_answer x (length more) ≡ Ok (record_count file)) × (trim_out x more ≡ x ++ drop (length x) more)) (sym front)
           (λ h. trimmed_again s bytes o acc more h) h;
       room = ap length left_is ∙ length-append file (drop (length file) out) ∙ omega (arith, length-drop (length file) out, whole, few, l);
     }
@@ -150,10 +148,10 @@ trim_keeps =
       trims = trims;
     }
   where
-    overloads : (s : List ℕ) → Opens s → (n : ℕ) → length s ≤ n → (c : Cause) → ours.verdict s ≡ verdict.Refused c → our_trim.answer s n ≡ output.Refused c
+    overloads : (s : List ℕ) → Opens s → (n : ℕ) → length s ≤ n → (c : Cause) → ours.verdict s ≡ Err c → our_trim.answer s n ≡ Err c
     overloads s o n h c v =
         let r = refused_fault (verdict_fault s) (plan_in s).count (plan_in s).kinds c v in
         ⊎_elim
         (λ e. output_refused (trim_fault s n) c (record_count (trimmed_file s)) (trim_before s n c e))
-        (λ w. output_refused (trim_fault s n) c (record_count (trimmed_file s)) (trim_over s n o h w.1 ∙ ap fault.Refused w.2))
+        (λ w. output_refused (trim_fault s n) c (record_count (trimmed_file s)) (trim_over s n o h w.1 ∙ ap Err w.2))
         (cause_from (fault_of s) (is_overloaded (plan_in s)) (over_cause (plan_in s)) c r)

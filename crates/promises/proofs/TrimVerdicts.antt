@@ -6,6 +6,7 @@ use mathlib.Core.Logic.{inl, inr, ⊎_elim}
 use Prim.Native.Nat.{ℕ}
 use native.Mathlib.Omega.{arith}
 use borrow.Author.Tests.{not-false}
+use Rattle.std.specs.Prelude.{Ok, Err}
 use Rattle.words.proofs.Tests.{fails}
 use Rattle.records.specs.Bytes.{AreBytes}
 use Rattle.order.specs.Before.{Acyclic}
@@ -16,14 +17,11 @@ use Rattle.plan.specs.declared.Plan.{Plan}
 use Rattle.plan.specs.model.ArcRows.{arc_rows}
 use Rattle.plan.specs.model.Plans.{with_extra}
 use Rattle.plan.proofs.Said.{plan_but}
-use Rattle.planner.specs.Faults.{is_fine}
+use Rattle.planner.specs.Faults.{Fault, accepted, is_fine}
 use Rattle.planner.specs.Open.{plan_in, fault_of, Opens}
 use Rattle.planner.specs.Need.{is_overloaded, over_cause}
 use Rattle.planner.specs.Verdict.{is_accepted, verdict_fault, verdict_of}
 use Rattle.planner.specs.declared.Cause.{Cause}
-use Rattle.planner.specs.declared.Decision.TheVariants.{Accepted, Refused}
-use Rattle.planner.specs.declared.Fault.{Fault}
-use Rattle.planner.specs.declared.Fault.TheVariants as fault
 use Rattle.planner.proofs.FaultLaws.{fine_is, cause_fine}
 use Rattle.planner.proofs.OpenLaws.{plan_in_lem, opens_plan}
 use Rattle.planner.proofs.FileOrders.{opens_when}
@@ -36,13 +34,13 @@ use Rattle.promises.proofs.PriceListHolds.{not_refused, verdict_refused}
 
 -- ---- the answer, by the fault
 
-pub accepted_fault : (f : Fault) (m n a b : ℕ) → verdict_of f m n ≡ Accepted a b → f ≡ fault.Fine
-accepted_fault fault.Fine m n a b e = refl
-accepted_fault (fault.Refused c) m n a b e = absurd (not_refused a b c (sym e))
+pub accepted_fault : (f : Fault) (m n a b : ℕ) → verdict_of f m n ≡ accepted a b → f ≡ Ok tt
+accepted_fault (Ok _) m n a b e = refl
+accepted_fault (Err c) m n a b e = absurd (not_refused a b c (sym e))
 
-pub refused_fault : (f : Fault) (m n : ℕ) (c : Cause) → verdict_of f m n ≡ Refused c → f ≡ fault.Refused c
-refused_fault fault.Fine m n c e = absurd (not_refused m n c e)
-refused_fault (fault.Refused d) m n c e = let q : d ≡ c = cc in ap fault.Refused q
+pub refused_fault : (f : Fault) (m n : ℕ) (c : Cause) → verdict_of f m n ≡ Err c → f ≡ Err c
+refused_fault (Ok _) m n c e = absurd (not_refused m n c e)
+refused_fault (Err d) m n c e = let q : d ≡ c = cc in ap Err q
 
 -- an accepted plan opens, and is not overloaded
 pub accepts_opens : (s : List ℕ) → Accepts ours s → Opens s × (is_overloaded (plan_in s) ≡ false)
@@ -58,7 +56,7 @@ module _ (s : List ℕ) (e : Readable s) where
 
   pub plan_accepts : is_accepted (plan_in s) ≡ true → Accepts ours s
   plan_accepts t =
-      ap (λ (f : Fault). verdict_of f (plan_in s).count (plan_in s).kinds) (fine_is (verdict_fault s) (verdict_by_plan s e ∙ t)) ∙ ap₂ Accepted (count_in s e) (kinds_in s e)
+      ap (λ (f : Fault). verdict_of f (plan_in s).count (plan_in s).kinds) (fine_is (verdict_fault s) (verdict_by_plan s e ∙ t)) ∙ ap₂ accepted (count_in s e) (kinds_in s e)
 
   pub overloads_plan : Overloads ours s → is_accepted (plan_in s) ≡ false
   overloads_plan h = fails (is_accepted (plan_in s)) (λ t. not_refused (activity_count s) (file_kinds s) h.0 (sym (plan_accepts t) ∙ h.1))

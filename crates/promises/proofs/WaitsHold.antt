@@ -11,8 +11,7 @@ use Rattle.records.specs.Bytes.{AreBytes}
 use Rattle.plan.specs.Records.{activity_count}
 use Rattle.plan.specs.Meaning.{Readable, JobArc, ExtraArc, FileArc, job_wait, extra_wait}
 use Rattle.plan.specs.Differing.{OnlyInWaits}
-use Rattle.plan.specs.model.Reads.{read_of}
-use Rattle.plan.specs.declared.Reading.{Reading}
+use Rattle.plan.specs.model.Reads.{read_of, Reading}
 use Rattle.plan.proofs.Waits.{job_wait_lem, extra_wait_lem, no_job_wait, no_extra_wait, job_waits, extra_waits, file_wait_small}
 use Rattle.plan.proofs.Differing.{only_in_waits}
 use Rattle.flow_math.specs.Kept.{Keeps}

@@ -4,14 +4,13 @@
 -- what the marked pairs are in the paper, where A is the job order, X are the extra arcs, f is the flow
 -- shown, of all kinds, and T(E) is what comes before what by E. Quotations are from document 02,
 -- change 6, where no other is named.
-use Rattle.std.specs.Prelude.{◌≡◌, List, ◌↔◌, ℕ, ◌+◌, ◌<◌, length}
+use Rattle.std.specs.Prelude.{◌≡◌, List, ◌↔◌, ℕ, ◌+◌, ◌<◌, length, Ok}
 use Rattle.order.specs.Before.{Before, Joined, Acyclic}
 use Rattle.records.specs.Bytes.{AreBytes}
 use Rattle.records.specs.Records.{from_of, to_of, added_of}
 use Rattle.plan.specs.Records.{activity_count}
 use Rattle.plan.specs.Meaning.{Readable, JobArc, FileArc}
 use Rattle.planner.specs.File.{Added}
-use Rattle.planner.specs.declared.Output.TheVariants.{Written}
 use Rattle.promises.specs.Planner.{Planner}
 
 -- Flow writes, of some kind (`kind` counts from 0: the file's number is `kind + 1`) and to whatever it is
@@ -20,7 +19,7 @@ pub record Writes (P : Planner) (s : List ℕ) (u v mark : ℕ) : Type 0 where
   pub kind : ℕ
   pub lent : List ℕ
   pub count : ℕ
-  pub answers : (P.flow (kind + 1)).answer s (length lent) ≡ Written count
+  pub answers : (P.flow (kind + 1)).answer s (length lent) ≡ Ok count
   pub place : ℕ
   pub written : place < count
   pub from_is : from_of ((P.flow (kind + 1)).left s lent) place ≡ u

@@ -1,12 +1,10 @@
 -- DEMAND 1 of document 00, about a planner P: "every input gets a result or a numbered refusal of
 -- document 01, and a refusal leaves every lent byte and number as before." It holds of ours:
 -- `every_input` of proofs/EveryInputHolds.antt, for every list of numbers, bytes or not.
-use Rattle.std.specs.Prelude.{◌≡◌, List, [], ◌∷◌, ◌++◌, ◌⊎◌, ℕ, length}
+use Rattle.std.specs.Prelude.{◌≡◌, List, [], ◌∷◌, ◌++◌, ◌⊎◌, ℕ, length, Ok, Err}
 use Rattle.schedule.specs.declared.Checked.{Checked}
+use Rattle.planner.specs.Faults.{accepted}
 use Rattle.planner.specs.declared.Cause.{Cause}
-use Rattle.planner.specs.declared.Decision.TheVariants as verdict
-use Rattle.planner.specs.declared.Output.TheVariants.{Written, Refused}
-use Rattle.planner.specs.declared.CrewChecked.TheVariants as crew
 use Rattle.planner.specs.Answers.{cause_number}
 use Rattle.promises.specs.Planner.{Writing, Planner}
 
@@ -29,18 +27,18 @@ opening = reading ++ 5 ∷ 6 ∷ []
 abbrev pub AnswersBy : List ℕ → Writing → Type 0
 AnswersBy numbers W =
     (s : List ℕ) (n : ℕ)
-    → ((r : ℕ) × (W.answer s n ≡ Written r))
-    ⊎ ((c : Cause) × (W.answer s n ≡ Refused c) × OneOf numbers (cause_number c))
+    → ((r : ℕ) × (W.answer s n ≡ Ok r))
+    ⊎ ((c : Cause) × (W.answer s n ≡ Err c) × OneOf numbers (cause_number c))
 
 -- "a refusal leaves every lent byte and number as before"
 abbrev pub KeepsLent : Writing → Type 0
-KeepsLent W = (s out : List ℕ) (c : Cause) → W.answer s (length out) ≡ Refused c → W.left s out ≡ out
+KeepsLent W = (s out : List ℕ) (c : Cause) → W.answer s (length out) ≡ Err c → W.left s out ≡ out
 
 pub record EveryInput (P : Planner) : Type 0 where
   -- "After that Verdict: 7." "Verdict: accepted with m and K, or 1–7."
   pub verdict : (s : List ℕ)
-      → ((m : ℕ) × (n : ℕ) × (P.verdict s ≡ verdict.Accepted m n))
-      ⊎ ((c : Cause) × (P.verdict s ≡ verdict.Refused c) × OneOf (opening ++ 7 ∷ []) (cause_number c))
+      → ((m : ℕ) × (n : ℕ) × (P.verdict s ≡ accepted m n))
+      ⊎ ((c : Cause) × (P.verdict s ≡ Err c) × OneOf (opening ++ 7 ∷ []) (cause_number c))
   -- "Needs, Starts, Overload: 9." "Needs, Starts, Overload and Crew check never give 7."
   pub needs : AnswersBy (opening ++ 9 ∷ []) P.needs
   pub starts : AnswersBy (opening ++ 9 ∷ []) P.starts
@@ -49,8 +47,8 @@ pub record EveryInput (P : Planner) : Type 0 where
   pub flow : (kind : ℕ) → AnswersBy (opening ++ 8 ∷ 9 ∷ 7 ∷ []) (P.flow kind)
   -- "Crew check: 10."
   pub crew_check : (s starts worked : List ℕ)
-      → ((x : Checked) × (P.crew_check s starts worked ≡ crew.Found x))
-      ⊎ ((c : Cause) × (P.crew_check s starts worked ≡ crew.Refused c)
+      → ((x : Checked) × (P.crew_check s starts worked ≡ Ok x))
+      ⊎ ((c : Cause) × (P.crew_check s starts worked ≡ Err c)
       × OneOf (opening ++ 10 ∷ []) (cause_number c))
   -- "Left as it was | all lent memory" (Verdict and Crew check are lent nothing that they could change)
   pub needs_kept : KeepsLent P.needs

@@ -2,13 +2,13 @@
 -- of none of them: `HollowPlannersFail` of five planners that are ours but for their hollow part, and
 -- `HollowFail` of every planner with such a part (`hollow_planners_fail` and `hollow_fail` of
 -- proofs/HollowFail.antt).
-use Rattle.std.specs.Prelude.{◌≡◌, Bool, true, List, ℕ, ◌+◌, ◌*◌, ◌<◌, ltb, length, take}
+use Rattle.std.specs.Prelude.{◌≡◌, Bool, true, List, ℕ, ◌+◌, ◌*◌, ◌<◌, ltb, length, take, Ok, Err}
 use Rattle.words.specs.Members.{some}
 use Rattle.words.specs.Tables.{table}
 use Rattle.order.specs.Before.{Acyclic}
 use Rattle.plan.specs.Meaning.{Readable, FileArc, file_kinds, file_demand, file_available}
 use Rattle.plan.specs.Records.{activity_count}
-use Rattle.planner.specs.Faults.{or_cause}
+use Rattle.planner.specs.Faults.{Decision, accepted, or_cause}
 use Rattle.planner.specs.Open.{plan_in, fault_of}
 use Rattle.planner.specs.Output.{output_of, lent_after}
 use Rattle.planner.specs.Need.{available_for}
@@ -16,9 +16,6 @@ use Rattle.planner.specs.Verdict.{verdict_of}
 use Rattle.planner.specs.Needs.{needs_fault}
 use Rattle.planner.specs.Flow.{flow_fault}
 use Rattle.planner.specs.declared.Cause.{Cause}
-use Rattle.planner.specs.declared.Decision.{Decision}
-use Rattle.planner.specs.declared.Decision.TheVariants as verdict
-use Rattle.planner.specs.declared.Output.TheVariants.{Written}
 use Rattle.promises.specs.Planner.{Writing, Planner}
 use Rattle.promises.specs.Ours.{ours}
 use Rattle.promises.specs.PriceList.{quoted_need, PriceListSentence}
@@ -82,7 +79,7 @@ one_demand s =
 -- ---- the same five as properties, of planners that may do anything else
 
 abbrev pub Refuses : Planner → List ℕ → Type 0
-Refuses P s = (c : Cause) × (P.verdict s ≡ verdict.Refused c)
+Refuses P s = (c : Cause) × (P.verdict s ≡ Err c)
 
 abbrev pub RefusesAll : Planner → Type 0
 RefusesAll P = (s : List ℕ) → Refuses P s
@@ -90,10 +87,10 @@ RefusesAll P = (s : List ℕ) → Refuses P s
 abbrev pub AcceptsAll : Planner → Type 0
 AcceptsAll P =
     (s : List ℕ) → Readable s → Acyclic (FileArc s)
-    → (m : ℕ) × (n : ℕ) × (P.verdict s ≡ verdict.Accepted m n)
+    → (m : ℕ) × (n : ℕ) × (P.verdict s ≡ accepted m n)
 
 abbrev pub EmptyFlows : Planner → Type 0
-EmptyFlows P = (s : List ℕ) (kind n r : ℕ) → (P.flow kind).answer s n ≡ Written r → r ≡ 0
+EmptyFlows P = (s : List ℕ) (kind n r : ℕ) → (P.flow kind).answer s n ≡ Ok r → r ≡ 0
 
 abbrev pub NeedIsAvailable : Planner → Type 0
 NeedIsAvailable P =

@@ -2,7 +2,7 @@
 -- `milestones_keep` of proofs/MilestonesHold.antt. In which durations a crew can work, and a crew check
 -- takes, is `Workable` of planner's Times, of which demands 2 and 3 speak; here is what follows for
 -- milestones, and 12. Quotations are from document 02, change 2.
-use Rattle.std.specs.Prelude.{◌≡◌, false, List, [], ◌∷◌, ℕ, ◌+◌, ◌≤◌, ◌<◌, length, get_or}
+use Rattle.std.specs.Prelude.{◌≡◌, false, List, [], ◌∷◌, ℕ, ◌+◌, ◌≤◌, ◌<◌, length, get_or, Ok}
 use Rattle.order.specs.Before.{Before, Acyclic}
 use Rattle.records.specs.Bytes.{AreBytes}
 use Rattle.plan.specs.Records.{activity_count}
@@ -12,7 +12,6 @@ use Rattle.flow_math.specs.Crew.{active}
 use Rattle.kinds.specs.Reading.{units_read}
 use Rattle.planner.specs.Answers.{crew_check_numbers}
 use Rattle.planner.specs.Times.{FileCrew}
-use Rattle.planner.specs.declared.Output.TheVariants.{Written}
 use Rattle.promises.specs.Planner.{Planner}
 use Rattle.promises.specs.Paper.{EveryGives, SomeGives}
 
@@ -28,10 +27,10 @@ pub record Milestones (P : Planner) (s : List ℕ) (i : ℕ) : Type 0 where
   pub nobody : (k : ℕ) → k < 8 → file_demand s k i ≡ 0
   -- and nobody is handed over to it or by it: in the flow of any kind, as its n records say
   pub takes_over : (k : ℕ) → k < file_kinds s
-      → (out : List ℕ) (n : ℕ) → (P.flow (k + 1)).answer s (length out) ≡ Written n
+      → (out : List ℕ) (n : ℕ) → (P.flow (k + 1)).answer s (length out) ≡ Ok n
       → (u : ℕ) → u < activity_count s + 2 → units_read n ((P.flow (k + 1)).left s out) u (i + 1) ≡ 0
   pub hands_over : (k : ℕ) → k < file_kinds s
-      → (out : List ℕ) (n : ℕ) → (P.flow (k + 1)).answer s (length out) ≡ Written n
+      → (out : List ℕ) (n : ℕ) → (P.flow (k + 1)).answer s (length out) ≡ Ok n
       → (v : ℕ) → v < activity_count s + 2 → units_read n ((P.flow (k + 1)).left s out) (i + 1) v ≡ 0
   -- "A milestone is never at work": in no period of any crew
   pub never : (x w : ℕ → ℕ) → FileCrew s x w → (t : ℕ) → active x w t i ≡ false

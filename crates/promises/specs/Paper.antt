@@ -7,7 +7,8 @@
 -- what is occupied in a period is here what it is in demand 3: `crew_occupies` of Times. By which steps it is
 -- added up is `LoadSentence L` (02, change 4); ours meets it: `loads`, beside `paper`. Quotations are from
 -- document 01, where no other is named.
-use Rattle.std.specs.Prelude.{◌≡◌, Bool, true, cond, ◌&&◌, List, [], ◌∷◌, ◌⊎◌, ◌↔◌, ℕ, ◌+◌, ◌-◌, ◌^◌, ◌≤◌, ◌<◌, length, get_or, drop}
+use Rattle.std.specs.Prelude.{◌≡◌, ◌&&◌, [], ◌∷◌, ◌⊎◌, ◌↔◌, ◌+◌, ◌-◌, ◌^◌, ◌≤◌, ◌<◌}
+use Rattle.std.specs.Prelude.{Bool, true, cond, List, ℕ, length, get_or, drop, Ok}
 use Rattle.words.specs.Sums.{sum}
 use Rattle.order.specs.Before.{Before, Acyclic}
 use Rattle.records.specs.Bytes.{AreBytes}
@@ -21,8 +22,6 @@ use Rattle.flow_math.specs.Breaks.{FirstBroken}
 use Rattle.flow_math.specs.Crew.{active}
 use Rattle.planner.specs.File.{FileFlow}
 use Rattle.planner.specs.Times.{arc_weight, NoWaits, Workable, crew_occupies}
-use Rattle.planner.specs.declared.Output.TheVariants.{Written}
-use Rattle.planner.specs.declared.CrewChecked.TheVariants.{Found}
 use Rattle.planner.specs.Answers.{verdict_numbers, output_numbers, crew_check_numbers}
 use Rattle.promises.specs.Planner.{Planner}
 
@@ -80,7 +79,7 @@ paper_rule w i j = w i
 -- and the end still follows the last finish." (02, change 5)
 pub record EarliestStarts (P : Planner) (s : List ℕ) (rule : Rule) (out : List ℕ) : Type 0 where
   -- "Starts: m+1 numbers, activities 1 to m and then the end."
-  pub answers : P.starts.answer s (length out) ≡ Written (activity_count s + 1)
+  pub answers : P.starts.answer s (length out) ≡ Ok (activity_count s + 1)
   -- "the end starts at the largest finish of all, or at 0."
   pub end : LargestOr0 (FinishOf (λ i. i < activity_count s) (at (P.starts.left s out)) (file_duration s))
       (get_or (P.starts.left s out) (activity_count s) 0)
@@ -129,16 +128,16 @@ pub record CrewCheck (P : Planner) (s : List ℕ) (rule : Rule) (starts worked :
       ↔ (RightLists s starts worked → ⊥)
   -- "fits": exactly when every arc is kept, and no period of any kind is over
   pub fits : RightLists s starts worked
-      → (P.crew_check s starts worked ≡ Found Fits)
+      → (P.crew_check s starts worked ≡ Ok Fits)
       ↔ (Keeps (FileArc s) (at starts) (rule (at worked)) × NeverOver s starts worked)
   -- "find the first arc i to j, by from and then to, with start of i plus its duration greater than the start
   -- of j.": by the rule, that is
   pub broken : RightLists s starts worked → (i j : ℕ)
-      → (P.crew_check s starts worked ≡ Found (Broken (i + 1) (j + 1)))
+      → (P.crew_check s starts worked ≡ Ok (Broken (i + 1) (j + 1)))
       ↔ FirstBroken (FileArc s) (at starts) (rule (at worked)) i j
   -- "If none, find the first period, then lowest kind, whose occupied sum exceeds the availability."
   pub overload : RightLists s starts worked → (t k : ℕ)
-      → (P.crew_check s starts worked ≡ Found (Overload t (k + 1)))
+      → (P.crew_check s starts worked ≡ Ok (Overload t (k + 1)))
       ↔ (Keeps (FileArc s) (at starts) (rule (at worked)) × FirstOverload s starts worked t k)
 
 -- ---- the load of a period: "its steps shall follow the text of section 1 of source document 000: started
@@ -200,7 +199,7 @@ pub record PaperTimes (P : Planner) (s : List ℕ) : Type 0 where
 pub record Paper (P : Planner) (s : List ℕ) : Type 0 where
   -- "For kind k, a flow gives each pair (i, j) a whole number of units (000, equations 1 and 2).": the
   -- records that Flow writes, read back
-  pub flows : (k : ℕ) (out : List ℕ) (n : ℕ) → (P.flow (k + 1)).answer s (length out) ≡ Written n
+  pub flows : (k : ℕ) (out : List ℕ) (n : ℕ) → (P.flow (k + 1)).answer s (length out) ≡ Ok n
       → FileFlow s k (units_read n ((P.flow (k + 1)).left s out))
   pub starts : (out : List ℕ) → activity_count s + 1 ≤ length out → EarliestStarts P s (arc_weight s) out
   pub crews : (starts worked : List ℕ) → CrewCheck P s (arc_weight s) starts worked

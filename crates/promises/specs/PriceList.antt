@@ -3,7 +3,8 @@
 -- it: `price_list` of proofs/PriceListHolds.antt. The hollow planners of document 01 do not: Hollow. Two
 -- planners that meet it refuse the same plans: `same_verdict` of proofs/DemandsHold.antt. Sets, crews, flows
 -- and the file's fields are those of planner's File and Times.
-use Rattle.std.specs.Prelude.{◌≡◌, Bool, true, List, [], ◌∷◌, ◌↔◌, ℕ, ◌+◌, ◌-◌, ◌≤◌, ◌<◌, length, get_or, replicate}
+use Rattle.std.specs.Prelude.{◌≡◌, [], ◌∷◌, ◌↔◌, ◌+◌, ◌-◌, ◌≤◌, ◌<◌}
+use Rattle.std.specs.Prelude.{Bool, true, List, ℕ, length, get_or, replicate, Ok, Err}
 use Rattle.words.specs.Bits.{bit}
 use Rattle.words.specs.Members.{count}
 use Rattle.order.specs.Stored.{elements}
@@ -12,13 +13,12 @@ use Rattle.records.specs.Bytes.{AreBytes, byte, field}
 use Rattle.plan.specs.Meaning.{Readable, FileArc, file_kinds, file_demand, file_available}
 use Rattle.plan.specs.Records.{activity_count}
 use Rattle.kinds.specs.Reading.{units_read}
+use Rattle.planner.specs.Faults.{accepted}
 use Rattle.planner.specs.Numbers.{numbers_of}
 use Rattle.planner.specs.File.{Unrelated, demand_sum, FileFlow, flow_length}
 use Rattle.planner.specs.Times.{FileCrew, crew_occupies}
 use Rattle.promises.specs.Planner.{Planner}
 use Rattle.planner.specs.declared.Cause.{Cause}
-use Rattle.planner.specs.declared.Decision.TheVariants as verdict
-use Rattle.planner.specs.declared.Output.TheVariants.{Written, Refused}
 
 -- the quoted need of kind k: what Needs writes at k where K numbers are lent
 abbrev pub quoted_need : Planner → List ℕ → ℕ → ℕ
@@ -54,7 +54,7 @@ pub record PriceList (P : Planner) (s : List ℕ) : Type 0 where
   -- "They share one number for each kind of worker, the quoted need, as Needs writes it.": whatever
   -- is lent, if it is long enough
   pub answers : (out : List ℕ) → file_kinds s ≤ length out
-      → P.needs.answer s (length out) ≡ Written (file_kinds s)
+      → P.needs.answer s (length out) ≡ Ok (file_kinds s)
   pub writes : (out : List ℕ) → file_kinds s ≤ length out
       → (k : ℕ) → k < file_kinds s → get_or (P.needs.left s out) k 0 ≡ quoted_need P s k
   -- "It is the greatest demand of any set of activities no two of which are ordered: some such set demands
@@ -71,29 +71,29 @@ pub record PriceList (P : Planner) (s : List ℕ) : Type 0 where
       × FileCrew s starts worked × (1 ≤ t) × (crew_occupies s k starts worked t ≡ quoted_need P s k)
   -- "Verdict refuses the plan as overloaded exactly when some need exceeds what is available, and shows such
   -- a set that demands exactly this need."
-  pub refuses : ((c : Cause) × (P.verdict s ≡ verdict.Refused c)) ↔ ((k : ℕ) × Exceeds P s k)
-  pub shows : (c : Cause) → P.verdict s ≡ verdict.Refused c
+  pub refuses : ((c : Cause) × (P.verdict s ≡ Err c)) ↔ ((k : ℕ) × Exceeds P s k)
+  pub shows : (c : Cause) → P.verdict s ≡ Err c
       → (kind : ℕ) × (need : ℕ) × (set : ℕ) × (size : ℕ)
       × IsSeven c kind need set size × Shown P s kind need set size
   -- "Any set that Overload or Flow shows is one too.": in the record that Overload writes,
   -- and in a refusal of Flow as 7
-  pub overload_shows : (out : List ℕ) → P.overload.answer s (length out) ≡ Written 1
+  pub overload_shows : (out : List ℕ) → P.overload.answer s (length out) ≡ Ok 1
       → Shown P s
       (byte (P.overload.left s out) 1) (field (P.overload.left s out) 4 4)
       (field (P.overload.left s out) 8 8) (byte (P.overload.left s out) 2)
   pub flow_shows : (kind₀ n : ℕ) (c : Cause) (kind need set size : ℕ)
-      → (P.flow kind₀).answer s n ≡ Refused c → IsSeven c kind need set size → Shown P s kind need set size
+      → (P.flow kind₀).answer s n ≡ Err c → IsSeven c kind need set size → Shown P s kind need set size
   -- "Otherwise Verdict accepts,
-  pub accepts : Enough P s → P.verdict s ≡ verdict.Accepted (activity_count s) (file_kinds s)
+  pub accepts : Enough P s → P.verdict s ≡ accepted (activity_count s) (file_kinds s)
   -- and the flow shown for a kind meets the paper's equations, passes units only along the order,
   -- and leaves exactly available minus need unused.": a flow is shown for each kind, and its n records,
   -- read back, say so
   pub flows : Enough P s → (k : ℕ) → k < file_kinds s
       → (out : List ℕ) → flow_length (activity_count s) ≤ length out
-      → (n : ℕ) × ((P.flow (k + 1)).answer s (length out) ≡ Written n)
-  pub meets : (k : ℕ) (out : List ℕ) (n : ℕ) → (P.flow (k + 1)).answer s (length out) ≡ Written n
+      → (n : ℕ) × ((P.flow (k + 1)).answer s (length out) ≡ Ok n)
+  pub meets : (k : ℕ) (out : List ℕ) (n : ℕ) → (P.flow (k + 1)).answer s (length out) ≡ Ok n
       → FileFlow s k (units_read n ((P.flow (k + 1)).left s out))
-  pub unused : (k : ℕ) (out : List ℕ) (n : ℕ) → (P.flow (k + 1)).answer s (length out) ≡ Written n
+  pub unused : (k : ℕ) (out : List ℕ) (n : ℕ) → (P.flow (k + 1)).answer s (length out) ≡ Ok n
       → units_read n ((P.flow (k + 1)).left s out) 0 (activity_count s + 1)
       ≡ file_available s k - quoted_need P s k
 

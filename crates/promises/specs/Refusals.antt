@@ -2,14 +2,13 @@
 -- asked, which of the numbered refusals a planner P gives, or which result. It holds of ours:
 -- `refusals` of proofs/RefusalsHold.antt. 5 and 6 are said in Paper (Circles), 10 there too
 -- (CrewCheck), Verdict's 7 in PriceList.
-use Rattle.std.specs.Prelude.{◌≡◌, List, [], ◌∷◌, ℕ, ◌+◌, ◌≤◌, ◌<◌}
+use Rattle.std.specs.Prelude.{◌≡◌, List, [], ◌∷◌, ℕ, ◌+◌, ◌≤◌, ◌<◌, Err}
 use Rattle.order.specs.Before.{Acyclic}
 use Rattle.records.specs.Bytes.{AreBytes}
 use Rattle.plan.specs.Meaning.{Readable, FileArc, file_kinds}
 use Rattle.plan.specs.Causes.{answer_of}
 use Rattle.plan.specs.Records.{activity_count}
 use Rattle.plan.specs.declared.Cause.{Cause as Unread}
-use Rattle.plan.specs.declared.Answer.TheVariants as answer
 use Rattle.planner.specs.Answers.{unread_numbers, verdict_numbers, output_numbers}
 use Rattle.planner.specs.File.{flow_length}
 use Rattle.promises.specs.Planner.{Planner}
@@ -21,9 +20,9 @@ use Rattle.promises.specs.PriceList.{Exceeds, Enough}
 -- (`answer_of` of plan's Causes, and its meaning in plan's Refused) every operation gives, and none
 -- gives one of these numbers otherwise
 pub record Unreadables (P : Planner) (s : List ℕ) : Type 0 where
-  pub every : (u : Unread) → answer_of s ≡ answer.Refused u → EveryGives P s (unread_numbers u)
+  pub every : (u : Unread) → answer_of s ≡ Err u → EveryGives P s (unread_numbers u)
   pub some : (n : ℕ) (values : List ℕ) → OneOf reading n → SomeGives P s (n ∷ values)
-      → (u : Unread) × (answer_of s ≡ answer.Refused u) × (unread_numbers u ≡ n ∷ values)
+      → (u : Unread) × (answer_of s ≡ Err u) × (unread_numbers u ≡ n ∷ values)
 
 -- of a readable plan without a circle
 pub record Refusals (P : Planner) (s : List ℕ) : Type 0 where

@@ -2,7 +2,8 @@
 -- page: `SheetSentence P S`. Ours keeps it: `sheet_keeps` of proofs/SheetHolds.antt. What is printed on a
 -- line is read back column by column (crew_sheet's Printed), and compared with the records that Flow writes
 -- and the starts that Starts writes, whatever made them. Quotations are from document 02, change 1.
-use Rattle.std.specs.Prelude.{◌≡◌, List, [], ◌∷◌, ◌++◌, ℕ, ◌+◌, ◌*◌, ◌-◌, ◌≤◌, ◌<◌, length, drop, replicate}
+use Rattle.std.specs.Prelude.{◌≡◌, [], ◌∷◌, ◌++◌, ◌+◌, ◌*◌, ◌-◌, ◌≤◌, ◌<◌}
+use Rattle.std.specs.Prelude.{List, ℕ, length, drop, replicate, Ok, Err}
 use Rattle.order.specs.Before.{Acyclic}
 use Rattle.records.specs.Bytes.{AreBytes}
 use Rattle.records.specs.Records.{from_of, to_of, units_of}
@@ -13,7 +14,6 @@ use Rattle.plan.specs.Meaning.{Readable, FileArc, file_kinds}
 use Rattle.plan.specs.Records.{activity_count}
 use Rattle.planner.specs.Answers.{cause_number, verdict_numbers, output_numbers}
 use Rattle.planner.specs.declared.Cause.{Cause}
-use Rattle.planner.specs.declared.Output.TheVariants.{Written, Refused}
 use Rattle.promises.specs.Planner.{Writing, Planner}
 use Rattle.promises.specs.EveryInput.{OneOf, opening, AnswersBy, KeepsLent}
 use Rattle.promises.specs.PriceList.{Exceeds, Enough}
@@ -39,7 +39,7 @@ pub record Printed (S : SheetOperation) (s : List ℕ) (k n : ℕ) (flow starts 
   -- "and the page count is returned": on every page, and for a page that there is not, with "11, page not 1
   -- to the page count, returned with that count"
   pub counted : (page lent : ℕ) → page_bytes ≤ lent → IsPage pages page
-      → (S (k + 1) page).answer s lent ≡ Written pages
+      → (S (k + 1) page).answer s lent ≡ Ok pages
   pub eleven : (page lent : ℕ) → page_bytes ≤ lent → (IsPage pages page → ⊥)
       → output_numbers ((S (k + 1) page).answer s lent) ≡ 11 ∷ pages ∷ []
   -- the lines of all pages, one after another, count from 0: which record is on each
@@ -85,7 +85,7 @@ pub record Sheets (P : Planner) (S : SheetOperation) (s : List ℕ) : Type 0 whe
   -- otherwise the sheet is printed: "the flow is the one Flow gives", and the receiver's start is the one
   -- that Starts gives, the end's where the receiver is the end
   pub printed : Enough P s → (k : ℕ) → k < file_kinds s
-      → (lent : List ℕ) (n : ℕ) → (P.flow (k + 1)).answer s (length lent) ≡ Written n
+      → (lent : List ℕ) (n : ℕ) → (P.flow (k + 1)).answer s (length lent) ≡ Ok n
       → (room : List ℕ) → activity_count s + 1 ≤ length room
       → Printed S s k n ((P.flow (k + 1)).left s lent) (P.starts.left s room)
 
@@ -98,8 +98,8 @@ pub record SheetSentence (P : Planner) (S : SheetOperation) : Type 0 where
   pub kept : (kind page : ℕ) → KeepsLent (S kind page)
   -- the numbers of the opening it gives exactly where Flow gives them, with the same values
   pub opens : (s : List ℕ) (kind page n lent : ℕ) (c : Cause) → OneOf opening (cause_number c)
-      → (((P.flow kind).answer s lent ≡ Refused c) → ((S kind page).answer s n ≡ Refused c))
-      × (((S kind page).answer s n ≡ Refused c) → ((P.flow kind).answer s lent ≡ Refused c))
+      → (((P.flow kind).answer s lent ≡ Err c) → ((S kind page).answer s n ≡ Err c))
+      × (((S kind page).answer s n ≡ Err c) → ((P.flow kind).answer s lent ≡ Err c))
   pub sheets : (s : List ℕ) → AreBytes s → Readable s → Acyclic (FileArc s) → Sheets P S s
   -- "plans with the same activities, crew, set of job arcs and set of extra arcs get equal flows" (01, Flow):
   -- and with the same waits, since a sheet shows starts, equal sheets

@@ -4,27 +4,27 @@
 -- of these bytes says (plan's Meaning), and by what Verdict says of it and of other files. That every choice
 -- of arcs can be left out of a readable file, is plan's law of a filtered file (proofs/Filtered.antt).
 -- Quotations are from document 02, change 7.
-use Rattle.std.specs.Prelude.{◌≡◌, List, [], ◌∷◌, ◌++◌, ◌⊎◌, ◌↔◌, ℕ, ◌*◌, ◌≤◌, ◌<◌, length, take, drop}
+use Rattle.std.specs.Prelude.{◌≡◌, [], ◌∷◌, ◌++◌, ◌⊎◌, ◌↔◌, ◌*◌, ◌≤◌, ◌<◌}
+use Rattle.std.specs.Prelude.{List, ℕ, length, take, drop, Ok, Err}
 use Rattle.order.specs.Before.{Acyclic}
 use Rattle.records.specs.Bytes.{AreBytes}
 use Rattle.plan.specs.Records.{activity_count}
 use Rattle.plan.specs.Meaning.{Readable, ExtraArc, FileArc, file_kinds, job_wait, extra_wait}
 use Rattle.plan.specs.Filtered.{Selected}
+use Rattle.planner.specs.Faults.{accepted}
 use Rattle.planner.specs.Answers.{cause_number, output_numbers}
 use Rattle.planner.specs.declared.Cause.{Cause}
-use Rattle.planner.specs.declared.Decision.TheVariants as verdict
-use Rattle.planner.specs.declared.Output.TheVariants.{Written, Refused}
 use Rattle.promises.specs.Planner.{Writing, Planner}
 use Rattle.promises.specs.EveryInput.{OneOf, opening, AnswersBy, KeepsLent}
 use Rattle.promises.specs.Same.{SameWork}
 
 -- Verdict accepts the plan
 abbrev pub Accepts : Planner → List ℕ → Type 0
-Accepts P s = P.verdict s ≡ verdict.Accepted (activity_count s) (file_kinds s)
+Accepts P s = P.verdict s ≡ accepted (activity_count s) (file_kinds s)
 
 -- Verdict refuses it as overloaded, by 7
 abbrev pub Overloads : Planner → List ℕ → Type 0
-Overloads P s = (c : Cause) × (P.verdict s ≡ verdict.Refused c) × (cause_number c ≡ 7)
+Overloads P s = (c : Cause) × (P.verdict s ≡ Err c) × (cause_number c ≡ 7)
 
 -- ---- leaving out extra arcs of wait 0
 
@@ -85,7 +85,7 @@ pub record Trimmed (P : Planner) (s t : List ℕ) : Type 0 where
 -- "its record count is returned and the bytes after it are unchanged"
 pub record Trims (P : Planner) (T : Writing) (s out : List ℕ) : Type 0 where
   pub count : ℕ
-  pub answers : T.answer s (length out) ≡ Written count
+  pub answers : T.answer s (length out) ≡ Ok count
   pub trimmed : Trimmed P s (take (24 * count) (T.left s out))
   pub no_longer : 24 * count ≤ length s
   pub rest : drop (24 * count) (T.left s out) ≡ drop (24 * count) out
@@ -94,7 +94,7 @@ pub record Trims (P : Planner) (T : Writing) (s out : List ℕ) : Type 0 where
   pub again : (more : List ℕ)
       → let t = take (24 * count) (T.left s out) in
       length t ≤ length more
-      → (T.answer t (length more) ≡ Written count) × (T.left t more ≡ t ++ drop (length t) more)
+      → (T.answer t (length more) ≡ Ok count) × (T.left t more ≡ t ++ drop (length t) more)
 
 -- ---- the sentence
 
@@ -105,13 +105,13 @@ pub record TrimSentence (P : Planner) (T : Writing) : Type 0 where
   pub kept : KeepsLent T
   -- the numbers of the opening it gives exactly where Verdict gives them, with the same values
   pub opens : (s : List ℕ) (n : ℕ) (c : Cause) → OneOf opening (cause_number c)
-      → (P.verdict s ≡ verdict.Refused c) ↔ (T.answer s n ≡ Refused c)
+      → (P.verdict s ≡ Err c) ↔ (T.answer s n ≡ Err c)
   -- "9 comes after the circles and needs the given file's length; 7 comes last.",
   -- and is Verdict's, with the same set
   pub short : (s : List ℕ) → Readable s → Acyclic (FileArc s) → (n : ℕ) → n < length s
       → output_numbers (T.answer s n) ≡ 9 ∷ length s ∷ []
   pub overloaded : (s : List ℕ) → Readable s → Acyclic (FileArc s) → (n : ℕ) → length s ≤ n
-      → (c : Cause) → P.verdict s ≡ verdict.Refused c → T.answer s n ≡ Refused c
+      → (c : Cause) → P.verdict s ≡ Err c → T.answer s n ≡ Err c
   -- "Trim takes an accepted plan"
   pub trims : (s : List ℕ) → AreBytes s → Accepts P s
       → (out : List ℕ) → length s ≤ length out → Trims P T s out

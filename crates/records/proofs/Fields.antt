@@ -3,17 +3,12 @@ use mathlib.Core.Path.{◌≡◌, refl, ap, ap₂, ◌∙◌}
 use mathlib.Core.List.{List, [], ◌∷◌, ◌++◌}
 use Prim.Native.Nat.{ℕ, zero, suc, ◌+◌, ◌*◌, ◌/◌, ◌%◌, ◌^◌, ◌≤◌, ◌<◌}
 use native.Mathlib.Omega.{arith}
-use native.Mathlib.Nat.{pow-zero, pow-suc, mod-lt, mod-add-div, div-lt_iff_lt-mul}
+use native.Mathlib.Nat.{pow-zero, pow-suc, pow-le-pow_right, mod-lt, mod-add-div, div-lt_iff_lt-mul}
 use lib.Arith.{mod-mul}
 use lib.ListN.{length, drop, replicate, get_or-append}
 use lib.Seq.{get_or-drop}
 use Rattle.records.specs.Bytes.{byte, field, AreBytes}
 use Rattle.records.specs.Records.{bytes}
-
-pub length_bytes : (n x : ℕ) → length (bytes n x) ≡ n
-unfolding bytes
-length_bytes zero x = refl
-length_bytes (suc n) x = ap suc (length_bytes n (x / 256))
 
 power_pos : (n : ℕ) → 0 < 256 ^ n
 power_pos zero = omega (arith, pow-zero 256)
@@ -99,3 +94,9 @@ pub field_below : (l : List ℕ) (i n : ℕ) → AreBytes l → field l i n < 25
 unfolding field
 field_below l i zero h = omega (arith, pow-zero 256)
 field_below l i (suc n) h = omega (arith, pow-suc 256 n, h i, field_below l (i + 1) n h)
+
+-- a field of three bytes or fewer leaves room for one more in a word of 32 bits
+pub field_few : (l : List ℕ) (i n : ℕ) → AreBytes l → n < 4 → field l i n < 16777216
+field_few l i n h few =
+    let most = pow-le-pow_right {n = 256} (omega arith) {i = n} {j = 3} (omega arith) in
+    omega (arith, field_below l i n h)

@@ -1,7 +1,6 @@
 pub mod Fields
 pub mod Zeros
 pub mod Records
-pub mod Puts
 pub mod Steps
 pub mod Runs
 pub mod Kept

@@ -1,32 +1,52 @@
 -- The steps by which a record is written, put together.
-use mathlib.Core.Path.{◌≡◌, ◌∙◌}
-use mathlib.Core.List.{List, ◌++◌, append_assoc, append-nil}
-use Prim.Native.Nat.{ℕ, ◌+◌, ◌-◌, ◌≤◌}
+use mathlib.Core.Path.{◌≡◌, refl, sym, ap, ap₂, ◌∙◌}
+use mathlib.Core.List.{List, [], ◌∷◌, ◌++◌, append_assoc, append-nil}
+use Prim.Native.Nat.{ℕ, zero, suc, ◌+◌, ◌-◌, ◌/◌, ◌%◌, ◌^◌, ◌≤◌}
 use native.Mathlib.Omega.{arith}
 use native.Mathlib.Nat.{le_of_eq}
-use lib.ListN.{length, set, take, drop, length-append, length-drop, drop_of_length-le}
+use lib.ListN.{length, set, take, drop, replicate, length-append, length-drop, drop_of_length-le}
 use lib.Seq.{length-take-le, take_all, drop-drop}
 use borrow.Rule.Slice.PartMut.{put_mid}
-use Rattle.records.specs.Records.{bytes, flow_record, overload_record, begun, starting_with, written_at}
+use Rattle.std.specs.Int.{to_le_bytes, w32, w64, bytes_low_first, byte_at}
+use Rattle.std.proofs.Math.Nat.{div-div-eq-div-mul, pow-suc}
+use Rattle.records.specs.Records.{bytes, flow_record, overload_record, starting_with, written_at}
 
 -- a writing that has room changes no length
 pub length_written_at : (at : ℕ) (r out : List ℕ) → at + length r ≤ length out → length (written_at at r out) ≡ length out
 length_written_at at r out h = rw (length-append, length-append, length-take-le at out (omega arith), length-drop) (omega arith)
 
-pub begin_steps : (b0 b1 b2 b3 : ℕ) (out o : List ℕ) → o ≡ written_at 0 (bytes 24 0) out
-    → set (set (set (set o 0 b0) 1 b1) 2 b2) 3 b3 ≡ starting_with (begun b0 b1 b2 b3) out
-unfolding bytes begun
-begin_steps b0 b1 b2 b3 out o e = rw e
+-- the front of the lent bytes, filled with zeros
+pub zeroed : (out : List ℕ) {z : List ℕ} → z ≡ replicate (length (take 24 out)) 0 → 24 ≤ length out → z ≡ replicate 24 0
+zeroed out e room = e ∙ ap (λ (n : ℕ). replicate n 0) (length-take-le 24 out room)
 
-pub flow_steps : (kind from to units mark : ℕ) (out o p : List ℕ) → o ≡ starting_with (begun 33 kind from to) out → p ≡ written_at 4 (bytes 4 units) o
-    → set p 8 mark ≡ starting_with (flow_record kind from to units mark) out
-unfolding bytes begun flow_record
-flow_steps kind from to units mark out o p e f = rw (f, e)
+-- the bytes of a number from byte i on, as the library has them
+low_first : (i k x : ℕ) → bytes_low_first i k x ≡ bytes k (x / 256 ^ i)
+unfolding bytes
+low_first i zero x = refl
+low_first i (suc k) x =
+    let on : x / 256 ^ suc i ≡ x / 256 ^ i / 256 = ap (λ (p : ℕ). x / p) (pow-suc 256 i) ∙ sym (div-div-eq-div-mul x (256 ^ i) 256) in
+    ap₂ (λ (b : ℕ) (l : List ℕ). b ∷ l) (first i) (low_first (suc i) k x ∙ ap (λ (y : ℕ). bytes k y) on)
+  where
+    first : (j : ℕ) → byte_at j x ≡ x / 256 ^ j % 256
+    first zero = omega arith
+    first (suc j) = refl
 
-pub overload_steps : (kind size need members : ℕ) (out o p q : List ℕ) → o ≡ starting_with (begun 32 kind size 0) out → p ≡ written_at 4 (bytes 4 need) o
-    → q ≡ written_at 8 (bytes 8 members) p → q ≡ starting_with (overload_record kind size need members) out
-unfolding bytes begun overload_record
-overload_steps kind size need members out o p q e f g = rw (g, f, e)
+pub four_bytes : (x : ℕ) → to_le_bytes w32 x ≡ bytes 4 x
+four_bytes x = low_first 0 4 x ∙ ap (λ (y : ℕ). bytes 4 y) (omega arith)
+
+pub eight_bytes : (x : ℕ) → to_le_bytes w64 x ≡ bytes 8 x
+eight_bytes x = low_first 0 8 x ∙ ap (λ (y : ℕ). bytes 8 y) (omega arith)
+
+pub flow_steps : (kind from to units mark : ℕ) (out z h u : List ℕ) → z ≡ replicate 24 0 → h ≡ 33 ∷ kind ∷ from ∷ to ∷ []
+    → u ≡ bytes 4 units → set (put_mid 4 4 (h ++ drop 4 (z ++ drop 24 out)) u) 8 mark ≡ starting_with (flow_record kind from to units mark) out
+unfolding bytes flow_record
+flow_steps kind from to units mark out z h u e f g = rw (g, e, f)
+
+pub overload_steps : (kind size need members : ℕ) (out z h u w : List ℕ) → z ≡ replicate 24 0 → h ≡ 32 ∷ kind ∷ size ∷ 0 ∷ []
+    → u ≡ bytes 4 need → w ≡ bytes 8 members
+    → put_mid 8 8 (put_mid 4 4 (h ++ drop 4 (z ++ drop 24 out)) u) w ≡ starting_with (overload_record kind size need members) out
+unfolding bytes overload_record
+overload_steps kind size need members out z h u w e f g i = rw (g, i, e, f)
 
 -- ---- the tail `&mut out[a..]`, lent to a writer
 

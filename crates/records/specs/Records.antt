@@ -32,10 +32,6 @@ added_of flow i = byte flow (24 * i + 8)
 unfoldable pub overload_record : ℕ → ℕ → ℕ → ℕ → List ℕ
 overload_record kind size need set = 32 ∷ kind ∷ size ∷ 0 ∷ bytes 4 need ++ bytes 8 set ++ replicate 8 0
 
--- 24 bytes: four, and zeros
-unfoldable pub begun : ℕ → ℕ → ℕ → ℕ → List ℕ
-begun b0 b1 b2 b3 = b0 ∷ b1 ∷ b2 ∷ b3 ∷ replicate 20 0
-
 -- the lent bytes, with what they begin with replaced by a record
 abbrev pub starting_with : List ℕ → List ℕ → List ℕ
 starting_with r out = r ++ drop (length r) out

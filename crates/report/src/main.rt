@@ -13,14 +13,15 @@ use std::io::Read;
 // A file of more than 49,152 bytes is refused for its length; so it is enough to read one byte more than that.
 const INPUT_BYTES: usize = 49_152 + 1;
 
-// Zeros, for the whole text: as many as `report_text` asks for.
+// Zeros, for the whole text: as many as `report_text` asks for. (A function, since its contract tells the length.)
 fn text_buffer() -> [u8; REPORT_BYTES]
     ensures { text_room ≡ length result }
 {
     [0; REPORT_BYTES]
 }
 
-// Reads until buf is full or the input ends, and gives how many bytes it put at the start of buf.
+// Reads until buf is full or the input ends, and gives how many bytes it put at the start of buf. (`read_exact` refuses
+// an input that is shorter, and `read_to_end` wants a heap.)
 fn read_full<R: Read>(input: &mut R, buf: &mut [u8]) -> io::Result<usize>
     ensures { ReadsAtMost result buf.new }
 {

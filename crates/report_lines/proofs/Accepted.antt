@@ -1,44 +1,37 @@
 -- What the planner answers of an accepted plan, and what it writes.
-use mathlib.Core.Path.{◌≡◌, refl, sym, ◌∙◌}
-use mathlib.Core.Bool.{true, false}
+use mathlib.Core.Path.{◌≡◌, ap}
+use mathlib.Core.Bool.{false}
 use mathlib.Core.List.{List, ◌++◌}
 use Prim.Native.Nat.{ℕ, ◌-◌, ◌*◌, ◌≤◌, ◌<◌}
 use native.Mathlib.Omega.{arith}
 use lib.ListN.{length, get_or, drop}
-use borrow.Author.Tests.{le-leb}
+use Rattle.std.specs.Prelude.{Ok}
 use Rattle.records.specs.Bytes.{AreBytes}
-use Rattle.planner.specs.Faults.{is_fine}
+use Rattle.planner.specs.declared.Accepted.{Accepted}
 use Rattle.planner.specs.Open.{plan_in, fault_of, Opens}
 use Rattle.planner.specs.Need.{is_overloaded, over_cause}
-use Rattle.planner.specs.Verdict.{verdict_fault, verdict_of, verdict_answer}
+use Rattle.planner.specs.Verdict.{verdict_fault, verdict_answer}
 use Rattle.planner.specs.Needs.{needs_fault, need_numbers, needs_out}
 use Rattle.planner.specs.Starts.{needed, starts_fault, start_numbers, starts_out}
 use Rattle.planner.specs.Flow.{most_records, flow_fault, flow_count, record_bytes, flow_answer, flow_out}
-use Rattle.planner.specs.declared.Fault.{Fault}
-use Rattle.planner.specs.declared.Fault.TheVariants.{Fine, Refused}
-use Rattle.planner.specs.declared.Decision.{Decision}
-use Rattle.planner.specs.declared.Decision.TheVariants as decision
-use Rattle.planner.specs.declared.Output.TheVariants.{Written}
-use Rattle.planner.proofs.FaultLaws.{cause_fine, short_none}
+use Rattle.planner.proofs.FaultLaws.{outcome_fine, cause_fine, short_none}
 use Rattle.planner.proofs.OutputLaws.{output_fine, lent_fine, lent_front}
 use Rattle.planner.proofs.OpenLaws.{count_within}
 use Rattle.planner.proofs.QuotedNeeds.{kinds_few}
 use Rattle.planner.proofs.NeedsLaws.{length_numbers as length_needs}
 use Rattle.planner.proofs.StartsLaws.{length_numbers as length-starts}
-use Rattle.planner.proofs.FlowLaws.{kind_some, fine_flow, not_over}
+use Rattle.planner.proofs.FlowLaws.{fine_flow, not_over}
+use Rattle.planner.proofs.SheetFaults.{is_kind_lem}
 use Rattle.planner.proofs.FlowUnits.{count_room, length_few}
 use Rattle.report_lines.specs.Report.{Accepts}
 
 -- ---- Verdict
 
-accepted_is : (f : Fault) (a b m n : ℕ) → verdict_of f a b ≡ decision.Accepted m n → (is_fine f ≡ true) × (m ≡ a) × (n ≡ b)
-accepted_is Fine a b m n e = (refl, cc, cc)
-accepted_is (Refused c) a b m n e = absurd (let z : ◌≡◌ {A = ℕ} 0 1 = cc in omega arith)
-
 -- an accepted plan has no fault, and the answer says its sizes
-pub accepted : (s : List ℕ) {r : Decision} (m n : ℕ) → r ≡ verdict_answer s → r ≡ decision.Accepted m n
-    → Accepts s × (m ≡ (plan_in s).count) × (n ≡ (plan_in s).kinds)
-accepted s m n q e = accepted_is (verdict_fault s) (plan_in s).count (plan_in s).kinds m n (sym q ∙ e)
+pub accepted_says : (s : List ℕ) {a : Accepted} → Ok a ≡ verdict_answer s → Accepts s × (a.activities ≡ (plan_in s).count) × (a.kinds ≡ (plan_in s).kinds)
+accepted_says s {a} e =
+    let w = outcome_fine (verdict_fault s) _ a e in
+    (w.0, ap (λ (x : Accepted). x.activities) w.1, ap (λ (x : Accepted). x.kinds) w.1)
 
 -- ---- the rest, of a plan that is accepted
 
@@ -72,12 +65,12 @@ module _ (s : List ℕ) (fine : Accepts s) where
 
   -- with enough bytes lent it is written
   module _ (kind : ℕ) (some : 1 ≤ kind) (within : kind ≤ (plan_in s).kinds) (out : List ℕ) (room : 24 * most_records ≤ length out) where
-    flow_goes : flow_fault s kind (length out) ≡ Fine
+    flow_goes : flow_fault s kind (length out) ≡ Ok tt
     flow_goes =
-        fine_flow s kind (length out) opens.0 (sym (kind_some kind (plan_in s).kinds some) ∙ le-leb kind (plan_in s).kinds within)
+        fine_flow s kind (length out) opens.0 (is_kind_lem kind (plan_in s).kinds some within)
         (omega (arith, length_few (plan_in s).count (count_within s))) opens.1
 
-    pub flow_answers : flow_answer s kind (length out) ≡ Written (flow_count (plan_in s) (kind - 1))
+    pub flow_answers : flow_answer s kind (length out) ≡ Ok (flow_count (plan_in s) (kind - 1))
     flow_answers = output_fine (flow_fault s kind (length out)) (flow_count (plan_in s) (kind - 1)) flow_goes
 
     pub flow_writes : flow_out s kind out ≡ record_bytes (plan_in s) (kind - 1) ++ drop (length (record_bytes (plan_in s) (kind - 1))) out

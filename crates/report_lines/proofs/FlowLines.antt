@@ -1,15 +1,17 @@
 -- The lines of a flow: how long one is, what the code holds of one, and that only the records matter.
 use mathlib.Core.Path.{◌≡◌, refl, sym, ◌∙◌}
 use mathlib.Core.List.{List, [], ◌∷◌, ◌++◌}
-use Prim.Native.Nat.{ℕ, ◌+◌, ◌-◌, ◌*◌, ◌^◌, ◌≤◌, ◌<◌}
+use Prim.Native.Nat.{ℕ, ◌+◌, ◌*◌, ◌^◌, ◌≤◌, ◌<◌}
 use native.Mathlib.Omega.{arith}
-use lib.ListN.{length, take, drop, length-append, get_or-append}
-use lib.Seq.{get_or-drop}
+use lib.ListN.{length, get_or, take, drop, length-append, get_or-append}
+use lib.Seq.{get_or-take, get_or-drop}
 use Rattle.records.specs.Bytes.{AreBytes, byte, field}
 use Rattle.records.specs.Records.{joined}
 use Rattle.records.proofs.Fields.{field_below}
 use Rattle.records.proofs.Runs.{joined_same}
-use Rattle.records.proofs.Steps.{rest_of_lem}
+use Rattle.plan.specs.Records.{record_at}
+use Rattle.plan.specs.model.Lists.{RecordsOf}
+use Rattle.plan.proofs.RecordLists.{own_byte}
 use Rattle.lines.specs.Text.{places, decimal, spaced, line_of}
 use Rattle.lines.proofs.Decimals.{places_fewest, length_decimal}
 use Rattle.report_lines.specs.Lines.{flow_word, flow_numbers, flow_lines}
@@ -56,10 +58,6 @@ flow_line records i = line_of flow_word (flow_numbers (drop (24 * i) records))
 pub flow_short : (records : List ℕ) → AreBytes records → (i : ℕ) → length (flow_line records i) ≤ 32
 flow_short records b i = line_short (drop (24 * i) records) (λ j. rw (get_or-drop) (b (24 * i + j)))
 
--- the line of the record that the code hands on
-pub flow_line_lem : (records : List ℕ) (i : ℕ) → line_of flow_word (flow_numbers (take (length records - 24 * i) (drop (24 * i) records))) ≡ flow_line records i
-flow_line_lem records i = rw rest_of_lem
-
 pub flow_end : (n : ℕ) (records : List ℕ) → joined (flow_line records) n ≡ flow_lines n records
 unfolding flow_lines
 flow_end n records = refl
@@ -82,6 +80,18 @@ line_same r t e =
     record_line_lem t (at 1 (omega arith)) (at 2 (omega arith)) (at 3 (omega arith))
     (sym (units_field r refl refl refl refl) ∙ units_field t (at 4 (omega arith)) (at 5 (omega arith)) (at 6 (omega arith)) (at 7 (omega arith)))
     (at 8 (omega arith))
+
+-- the line of the record that the code hands on: a chunk of the first 24 * n bytes
+pub flow_line_lem : (records : List ℕ) (n : ℕ) (rs : List (List ℕ)) → RecordsOf (take (24 * n) records) rs
+    → 24 * n ≤ length records → (i : ℕ) → i < n → i < length rs → line_of flow_word (flow_numbers (get_or rs i [])) ≡ flow_line records i
+flow_line_lem records n rs each enough i h l =
+    let front : List ℕ = take (24 * n) records in
+    line_same (get_or rs i []) (drop (24 * i) records)
+    (λ b k.
+    own_byte (get_or rs i []) (record_at front i) (each i l) b k
+    ∙ get_or-drop (24 * i) front b 0
+    ∙ get_or-take (24 * n) records (24 * i + b) 0 (omega arith)
+    ∙ sym (get_or-drop (24 * i) records b 0))
 
 pub flow_front : (n : ℕ) (r rest : List ℕ) → 24 * n ≤ length r → flow_lines n (r ++ rest) ≡ flow_lines n r
 unfolding flow_lines

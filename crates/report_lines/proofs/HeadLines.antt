@@ -8,9 +8,9 @@ use lib.ListN.{length, get_or, length-append}
 use Rattle.records.specs.Records.{joined}
 use Rattle.records.proofs.Runs.{joined_same}
 use Rattle.plan.specs.Records.{activities}
-use Rattle.lines.specs.Text.{Text, line_of, text, more}
-use Rattle.lines.proofs.Texts.{more_more, grown, line_length}
-use Rattle.lines.proofs.Putting.{joined_short}
+use Rattle.lines.specs.Text.{Text, line_of, more}
+use Rattle.lines.proofs.Texts.{line_length}
+use Rattle.lines.proofs.Putting.{Short, short_room, short_more, joined_short}
 use Rattle.report_lines.specs.Lines.{head_room, need_word, start_word, plan_word, end_word, need_lines, start_lines, head_lines}
 
 -- ---- the needs and the starts
@@ -27,9 +27,9 @@ need_short needs available k = line_length need_word ((k + 1) ∷ get_or needs k
 pub start_short : (starts : List ℕ) (i : ℕ) → length (start_line starts i) ≤ 48
 start_short starts i = line_length start_word ((i + 1) ∷ get_or starts i 0 ∷ [])
 
-pub need_line_lem : (needs available : List ℕ) (k : ℕ) {x y : ℕ} → x ≡ get_or needs k 0 → y ≡ get_or available k 0
-    → line_of need_word ((k + 1) ∷ x ∷ y ∷ []) ≡ need_line needs available k
-need_line_lem needs available k p q = rw (p, q)
+pub need_line_lem : (needs available : List ℕ) (k : ℕ) {i x y : ℕ} → i ≡ k + 1 → x ≡ get_or needs k 0
+    → y ≡ get_or available k 0 → line_of need_word (i ∷ x ∷ y ∷ []) ≡ need_line needs available k
+need_line_lem needs available k e p q = rw (e, p, q)
 
 pub start_line_lem : (starts : List ℕ) (i : ℕ) {x : ℕ} → x ≡ get_or starts i 0 → line_of start_word ((i + 1) ∷ x ∷ []) ≡ start_line starts i
 start_line_lem starts i p = rw p
@@ -71,63 +71,40 @@ pub head_same : (m n : ℕ) (needs needs' available starts starts' : List ℕ) �
     → ((i : ℕ) → i ≤ m → get_or starts i 0 ≡ get_or starts' i 0) → head_lines m n needs available starts ≡ head_lines m n needs' available starts'
 unfolding head_lines need_lines start_lines
 head_same m n needs needs' available starts starts' p q =
-    let a = joined_same (need_line needs available) (need_line needs' available) n (λ k h. need_line_lem needs' available k (p k h) refl) in
-    let b = joined_same (start_line starts) (start_line starts') m (λ i h. start_line_lem starts' i (q i (omega arith))) in
+    let a =
+    joined_same (need_line needs available) (need_line needs' available) n
+    (λ k h. need_line_lem needs' available k refl (p k h) refl) in
+    let b =
+    joined_same (start_line starts) (start_line starts') m (λ i h. start_line_lem starts' i (q i (omega arith))) in
     rw (a, b, q m (omega arith))
 
-module _ (m n : ℕ) (needs available starts old one two three : List ℕ) (named needed started : ℕ)
-    (few : m ≤ activities) (kinds : n ≤ 8) (fits : head_room ≤ length old) (first : text named one ≡ more (text 0 old) (line_of plan_word (m ∷ n ∷ []))) where
-  named_at : (named ≤ 47) × (length one ≡ length old)
-  named_at =
-      let l = line_length plan_word (m ∷ n ∷ []) in
-      let g = grown 0 named (line_of plan_word (m ∷ n ∷ [])) old one (omega arith) first in
-      (omega arith, g.1)
+module _ (m n : ℕ) (needs available starts : List ℕ) (t : Text) (few : m ≤ activities) (kinds : n ≤ 8)
+    (fits : t.at + head_room ≤ length t.out) {one : Text} (first : one ≡ more t (line_of plan_word (m ∷ n ∷ []))) where
+  named : Short t 47 (line_of plan_word (m ∷ n ∷ [])) one
+  named = record { done = first; few = line_length plan_word (m ∷ n ∷ []) }
 
-  pub needs_room : named + 68 * n ≤ length one
-  needs_room = omega (arith, named_at)
+  pub needs_room : one.at + 68 * n ≤ length one.out
+  needs_room = short_room named (68 * n) (omega arith)
 
-  module _ (second : text needed two ≡ more (text named one) (need_lines n needs available)) where
-    needed_at : (needed ≤ 47 + 68 * n) × (length two ≡ length old)
-    needed_at =
-        let l = needs_short n needs available in
-        let g = grown named needed (need_lines n needs available) one two (omega (arith, named_at)) second in
-        (omega (arith, named_at), omega (arith, named_at))
+  module _ {two : Text} (second : two ≡ more one (need_lines n needs available)) where
+    needed : Short t (47 + 68 * n) (line_of plan_word (m ∷ n ∷ []) ++ need_lines n needs available) two
+    needed = short_more named (68 * n) (need_lines n needs available) second (needs_short n needs available) (omega arith)
 
-    pub starts_room : needed + 48 * m ≤ length two
-    starts_room = omega (arith, needed_at)
+    pub starts_room : two.at + 48 * m ≤ length two.out
+    starts_room = short_room needed (48 * m) (omega arith)
 
-    module _ (third : text started three ≡ more (text needed two) (start_lines m starts)) where
-      pub started_at : (started ≤ 47 + 68 * n + 48 * m) × (length three ≡ length old)
-      started_at =
-          let l = starts_short m starts in
-          let g = grown needed started (start_lines m starts) two three (omega (arith, needed_at)) third in
-          (omega (arith, needed_at), omega (arith, needed_at))
+    module _ {three : Text} (third : three ≡ more two (start_lines m starts)) where
+      started : Short t (47 + 68 * n + 48 * m)
+          (line_of plan_word (m ∷ n ∷ []) ++ need_lines n needs available ++ start_lines m starts) three
+      started = short_more needed (48 * m) (start_lines m starts) third (starts_short m starts) (omega arith)
 
-      module _ (end last : ℕ) (four : List ℕ) (fourth : text end four ≡ more (text started three) (line_of end_word (last ∷ []))) where
-        pub head_length : length four ≡ length old
-        head_length =
-            let l = line_length end_word (last ∷ []) in
-            let g = grown started end (line_of end_word (last ∷ [])) three four (omega (arith, started_at)) fourth in
-            omega (arith, started_at)
+      pub end_room : three.at + 25 ≤ length three.out
+      end_room = short_room started 25 (omega arith)
 
-        pub head_end : last ≡ get_or starts m 0 → text end four ≡ more (text 0 old) (head_lines m n needs available starts)
-        unfolding head_lines
-        head_end is =
-            let a = line_of plan_word (m ∷ n ∷ []) in
-            let b = need_lines n needs available in
-            let c = start_lines m starts in
-            let d = line_of end_word (get_or starts m 0 ∷ []) in
-            let la = line_length plan_word (m ∷ n ∷ []) in
-            let lb = needs_short n needs available in
-            let lc = starts_short m starts in
-            let ld = line_length end_word (get_or starts m 0 ∷ []) in
-            let lab = length-append a b in
-            let labc = length-append (a ++ b) c in
-            fourth
-            ∙ ap (λ (x : ℕ). more (text started three) (line_of end_word (x ∷ []))) is
-            ∙ ap (λ (t : Text). more t d) (
-            third
-            ∙ ap (λ (t : Text). more t c) (second ∙ ap (λ (t : Text). more t b) first ∙ more_more (text 0 old) a b (omega arith))
-            ∙ more_more (text 0 old) (a ++ b) c (omega arith)
-            )
-            ∙ more_more (text 0 old) (a ++ b ++ c) d (omega arith)
+      pub head_end : {four : Text} {last : ℕ} → four ≡ more three (line_of end_word (last ∷ [])) → last ≡ get_or starts m 0
+          → four ≡ more t (head_lines m n needs available starts)
+      unfolding head_lines
+      head_end fourth is =
+          let numbers : List ℕ = get_or starts m 0 ∷ [] in
+          let last = ap (λ (x : ℕ). more three (line_of end_word (x ∷ []))) is in
+          (short_more started 25 (line_of end_word numbers) (fourth ∙ last) (line_length end_word numbers) (omega arith)).done

@@ -5,20 +5,19 @@ use mathlib.Core.List.{List}
 use Prim.Native.Nat.{ℕ, zero, suc, ◌+◌, ◌*◌, ◌≤◌, ◌<◌}
 use native.Mathlib.Omega.{arith}
 use lib.ListN.{length, length-append}
+use Rattle.std.specs.Prelude.{Ok, Err}
 use Rattle.order.specs.Orders.{is_before}
 use Rattle.records.specs.Bytes.{AreBytes}
 use Rattle.records.specs.Records.{joined}
 use Rattle.lines.proofs.Putting.{joined_short}
 use Rattle.kinds.proofs.NodeUnits.{mark_most}
 use Rattle.kinds.proofs.RecordsWritten.{flow_bytes_lem}
-use Rattle.planner.specs.Faults.{is_fine}
+use Rattle.planner.specs.Faults.{Fault, is_fine}
 use Rattle.planner.specs.Open.{plan_in, job_order_for}
 use Rattle.planner.specs.Needs.{need_numbers}
 use Rattle.planner.specs.Starts.{start_numbers}
 use Rattle.planner.specs.Flow.{flow_units, flow_mark, flow_count, record_bytes}
 use Rattle.planner.specs.Verdict.{verdict_fault, verdict_of}
-use Rattle.planner.specs.declared.Fault.{Fault}
-use Rattle.planner.specs.declared.Fault.TheVariants.{Fine, Refused}
 use Rattle.planner.proofs.OpenLaws.{count_within}
 use Rattle.planner.proofs.QuotedNeeds.{kinds_few}
 use Rattle.report_lines.specs.Lines.{head_lines}
@@ -74,8 +73,8 @@ module _ (s : List ℕ) (bytes : AreBytes s) (fine : Accepts s) where
 -- ---- any bytes
 
 short_by : (s : List ℕ) (f : Fault) (m n : ℕ) → (is_fine f ≡ true → length (plan_lines s) ≤ text_room) → length (report_by (verdict_of f m n) s) ≤ text_room
-short_by s Fine m n plan = plan refl
-short_by s (Refused c) m n plan = omega (arith, refused_short c)
+short_by s (Ok _) m n plan = plan refl
+short_by s (Err c) m n plan = omega (arith, refused_short c)
 
 pub report_short : (s : List ℕ) → AreBytes s → length (report_of s) ≤ text_room
 unfolding report_of

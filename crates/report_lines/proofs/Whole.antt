@@ -6,14 +6,14 @@ use native.Mathlib.Omega.{arith}
 use lib.ListN.{length}
 use lib.Seq.{length-take-le}
 use Rattle.records.specs.Records.{joined}
-use Rattle.lines.specs.Text.{Text, text, more}
-use Rattle.lines.proofs.Texts.{more_more, grown, grown_by}
+use Rattle.lines.specs.Text.{Text, more}
+use Rattle.lines.proofs.Putting.{Short, short_room, short_more}
 use Rattle.plan.specs.Records.{activities as most}
+use Rattle.planner.specs.Faults.{Decision}
 use Rattle.planner.specs.Open.{plan_in}
 use Rattle.planner.specs.Verdict.{verdict_answer}
 use Rattle.planner.specs.Needs.{need_numbers, needs_out}
 use Rattle.planner.specs.Starts.{start_numbers, starts_out}
-use Rattle.planner.specs.declared.Decision.{Decision}
 use Rattle.planner.proofs.OpenLaws.{count_within}
 use Rattle.planner.proofs.QuotedNeeds.{kinds_few}
 use Rattle.report_lines.specs.Lines.{head_room, head_lines}
@@ -46,29 +46,25 @@ module _ (s : List ℕ) {m n : ℕ} (activities : m ≡ (plan_in s).count) (kind
       (λ i h. rw b (start_front s fine starts (omega (arith, sizes_few)) i (omega arith))))
 
   -- and of the text: the head is written, then the flows behind it
-  module _ (old : List ℕ) {one : List ℕ} {at : ℕ} (fits : text_room ≤ length old) (first : text at one ≡ more (text 0 old) (head_of s m n)) where
-    head_at : (length (head_of s m n) ≤ head_room) × (at ≡ length (head_of s m n)) × (length one ≡ length old)
-    head_at =
-        let h = head_short m n (need_numbers s) (plan_in s).available (start_numbers s) sizes_few.0 sizes_few.1 in
-        let g = grown 0 at (head_of s m n) old one (omega arith) first in
-        (h, omega arith, g.1)
+  module _ (t : Text) {one : Text} (fits : t.at + text_room ≤ length t.out) (first : one ≡ more t (head_of s m n)) where
+    headed : Short t head_room (head_of s m n) one
+    headed =
+        let few = head_short m n (need_numbers s) (plan_in s).available (start_numbers s) sizes_few.0 sizes_few.1 in
+        record { done = first; few = few }
 
-    pub flows_room : at + flow_room * n + 78 ≤ length one
-    flows_room = omega (arith, head_at, sizes_few)
+    pub flows_room : one.at + flow_room * n + 78 ≤ length one.out
+    flows_room = omega (arith, short_room headed (flow_room * n + 78) (omega (arith, sizes_few)))
 
-    module _ {two : List ℕ} {end : ℕ} (second : text end two ≡ more (text at one) (joined (kind_lines (plan_in s)) n)) (short : end ≤ at + flow_room * n) where
-      pub plan_end : (text end two ≡ more (text 0 old) (plan_lines s)) × Counts end two
-      unfolding plan_lines
-      plan_end =
-          let flows : List ℕ = joined (kind_lines (plan_in s)) n in
-          let l = grown_by at end flows one two second in
-          let g = grown at end flows one two (omega (arith, flows_room)) second in (
-            second
-                ∙ ap (λ (t : Text). more t flows) first
-                ∙ more_more (text 0 old) (head_of s m n) flows (omega (arith, flows_room, head_at))
-                ∙ ap₂ (λ (x y : ℕ). more (text 0 old) (head_of s x y ++ joined (kind_lines (plan_in s)) y)) activities kinds,
-            counts_within end two (omega (arith, flows_room)),
-          )
+    pub plan_end : {two : Text} → two ≡ more one (joined (kind_lines (plan_in s)) n) → two.at ≤ one.at + flow_room * n
+        → (two ≡ more t (plan_lines s)) × (two.at ≤ length two.out)
+    unfolding plan_lines
+    plan_end {two} second short =
+        let flows : List ℕ = joined (kind_lines (plan_in s)) n in
+        let long : two.at ≡ one.at + length flows = ap (λ (x : Text). x.at) second in
+        let whole = short_more headed (flow_room * n) flows second (omega arith) (omega (arith, sizes_few)) in (
+          whole.done ∙ ap₂ (λ (x y : ℕ). more t (head_of s x y ++ joined (kind_lines (plan_in s)) y)) activities kinds,
+          omega (arith, short_room whole 0 (omega (arith, sizes_few))),
+        )
 
 -- ---- the report is the one of the answer that the code holds
 

@@ -1,6 +1,6 @@
 -- The lines of the report (document 01, "Plans A to F"): "Fields: m, K; kind, need, availability; activity,
 -- start; end's start; kind, from, to, units, added mark. Kinds ascend." Every line ends in a newline.
-use Rattle.std.specs.Prelude.{List, [], ◌∷◌, ◌++◌, map, ℕ, suc, ◌+◌, ◌*◌, get_or, take, drop}
+use Rattle.std.specs.Prelude.{List, [], ◌∷◌, ◌++◌, map, ℕ, suc, ◌+◌, ◌*◌, get_or, drop}
 use Rattle.words.specs.Listing.{members}
 use Rattle.order.specs.Stored.{elements, number_of}
 use Rattle.records.specs.Bytes.{byte, field}
@@ -10,6 +10,8 @@ use Rattle.plan.specs.Records.{activities}
 use Rattle.planner.specs.Numbers.{refusal_of}
 use Rattle.planner.specs.declared.Cause.{Cause}
 use Rattle.planner.specs.declared.Refusal.{Refusal}
+use Rattle.planner.specs.declared.Values.{Values}
+use Rattle.planner.specs.declared.Values.TheVariants.{Nothing, One, Need}
 
 -- plan, need, start, end, flow, refused
 abbrev pub plan_word : List ℕ
@@ -61,12 +63,14 @@ flow_lines n records = joined (λ i. line_of flow_word (flow_numbers (drop (24 *
 -- activity (5, 6), or kind, need and members ascending (7).
 -- A number added later is followed by what it returns."
 
--- whatever the cause: its number, its plain values, and the members of its set, as activities. (Where it
--- shows no set, there are no members: `plain_numbers` of proofs/RefusalLine.antt.)
+-- of a set its members, as activities
+abbrev pub values_shown : Values → List ℕ
+values_shown Nothing = []
+values_shown (One n) = n ∷ []
+values_shown (Need k need set) = k ∷ need ∷ map suc (members elements (number_of set))
+
 abbrev pub refusal_numbers : Refusal → List ℕ
-refusal_numbers r =
-    r.number
-    ∷ (take r.values (r.first ∷ r.second ∷ []) ++ map suc (members elements (number_of r.set)))
+refusal_numbers r = r.number ∷ values_shown r.values
 
 abbrev pub refused_numbers : Cause → List ℕ
 refused_numbers c = refusal_numbers (refusal_of c)

@@ -1,16 +1,14 @@
 -- THE REPORT of a file's bytes (document 01, "Plans A to F"): `report_of`, which `report_text` of src/text.rt
 -- writes. Its lines are those of Lines.
-use Rattle.std.specs.Prelude.{◌≡◌, true, List, ◌++◌, ℕ, ◌+◌, ◌*◌, ◌≤◌, length, take}
+use Rattle.std.specs.Prelude.{◌≡◌, true, List, ◌++◌, ℕ, ◌+◌, ◌*◌, ◌≤◌, length, take, Ok, Err}
 use Rattle.records.specs.Records.{joined}
 use Rattle.plan.specs.declared.Plan.{Plan}
-use Rattle.planner.specs.Faults.{is_fine}
+use Rattle.planner.specs.Faults.{Decision, is_fine}
 use Rattle.planner.specs.Open.{plan_in}
 use Rattle.planner.specs.Needs.{need_numbers}
 use Rattle.planner.specs.Starts.{start_numbers}
 use Rattle.planner.specs.Flow.{most_records, flow_count, record_bytes}
 use Rattle.planner.specs.Verdict.{verdict_fault, verdict_answer}
-use Rattle.planner.specs.declared.Decision.{Decision}
-use Rattle.planner.specs.declared.Decision.TheVariants.{Accepted, Refused}
 use Rattle.report_lines.specs.Lines.{head_room, head_lines, flow_lines, refused_line}
 
 -- the lines of the flow of kind k + 1, from the records that Flow writes
@@ -33,8 +31,8 @@ plan_lines s =
 
 -- the report of a file's bytes, by what Verdict answers
 abbrev pub report_by : Decision → List ℕ → List ℕ
-report_by (Accepted m n) s = plan_lines s
-report_by (Refused c) s = refused_line c
+report_by (Ok a) s = plan_lines s
+report_by (Err c) s = refused_line c
 
 unfoldable pub report_of : List ℕ → List ℕ
 report_of s = report_by (verdict_answer s) s

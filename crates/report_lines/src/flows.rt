@@ -1,49 +1,39 @@
 // The lines of a flow, from its records.
-ghost use Rattle.std.specs.Prelude.{◌≡◌, ◌+◌, ◌*◌, ◌≤◌, ◌<◌, length};
-ghost use Rattle.records.specs.Bytes.{field};
+ghost use Rattle.std.specs.Prelude.{◌≡◌, ◌+◌, ◌*◌, ◌≤◌, length};
 ghost use Rattle.planner.specs.Flow.{most_records};
 ghost use Rattle.lines.specs.Text.{text, more, line_of};
 ghost use Rattle.report_lines.specs.Lines.{flow_word, flow_numbers, flow_lines};
 
-// A byte, as a number of 64 bits.
-fn wide(x: u8) -> u64
-    ensures { (result ≡ x) × (result < 256) }
-{
-    x as u64
-}
+use lines::Draft;
 
-// The four bytes from byte 4 on, lowest byte first.
-fn units(bytes: &[u8]) -> u64
-    requires { 24 ≤ length bytes.now }
-    ensures { result ≡ field bytes.now 4 4 }
-{
-    wide(bytes[4]) + 256 * (wide(bytes[5]) + 256 * (wide(bytes[6]) + 256 * wide(bytes[7])))
-}
-
-// Writes the line of one record behind what is written.
-fn put_record(out: &mut [u8], at: usize, bytes: &[u8]) -> usize
-    requires { (24 ≤ length bytes.now) × (at + 110 ≤ length out.old) }
-    ensures { text result out.new ≡ more (text at out.old) (line_of flow_word (flow_numbers bytes.now)) }
+// Writes the line of one record.
+fn put_record(draft: &mut Draft, handover: &[u8; 24])
+    requires { draft.old.at + 110 ≤ length draft.old.out.now }
+    ensures same_reference { draft.new.out.ghost_name ≡ draft.old.out.ghost_name }
+    ensures written { text draft.new.at draft.new.out.now
+        ≡ more (text draft.old.at draft.old.out.now) (line_of flow_word (flow_numbers handover.now)) }
 {
     let numbers = [
-        wide(bytes[1]),
-        wide(bytes[2]),
-        wide(bytes[3]),
-        units(bytes),
-        wide(bytes[8]),
+        u64::from(handover[1]),
+        u64::from(handover[2]),
+        u64::from(handover[3]),
+        u64::from(records::field::<4>(handover, 4)),
+        u64::from(handover[8]),
     ];
-    lines::put_line(out, at, b"flow", &numbers)
+    draft.put_line(b"flow", &numbers);
 }
 
-// Writes the lines of n records behind what is written, each of at most 32 bytes.
-pub fn put_records(out: &mut [u8], at: usize, records: &[u8], n: usize) -> usize
-    requires { (n ≤ most_records) × (24 * n ≤ length records.now) × (at + 32 * n + 78 ≤ length out.old) }
-    ensures out_after { text result out.new ≡ more (text at out.old) (flow_lines n records.now) }
-    ensures upper_bound { result ≤ at + 32 * n }
+// Writes the lines of n records, each of at most 32 bytes. (n beside the bytes: more may be lent than is written.)
+pub fn put_records(draft: &mut Draft, records: &[u8], n: usize)
+    requires { (n ≤ most_records) × (24 * n ≤ length records.now)
+        × (draft.old.at + 32 * n + 78 ≤ length draft.old.out.now) }
+    ensures same_reference { draft.new.out.ghost_name ≡ draft.old.out.ghost_name }
+    ensures written { text draft.new.at draft.new.out.now
+        ≡ more (text draft.old.at draft.old.out.now) (flow_lines n records.now) }
+    ensures upper_bound { draft.new.at ≤ draft.old.at + 32 * n }
 {
-    let mut end = at;
-    for i in 0..n {
-        end = put_record(out, end, &records[24 * i..]);
+    let (handovers, _) = records[..24 * n].as_chunks::<24>();
+    for handover in handovers {
+        put_record(draft, handover);
     }
-    end
 }

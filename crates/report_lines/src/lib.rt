@@ -3,6 +3,7 @@
 #![tactic(auto)]
 
 use plan::ACTIVITIES;
+use planner::MOST_RECORDS;
 
 mod flows;
 mod head;
@@ -14,7 +15,5 @@ pub use head::head_text;
 pub use refusal::refused_text;
 pub use text::report_text;
 
-// The most records that a flow has, and the most bytes that a report has (`most_records` and `text_room` of the specs).
-const RECORDS: usize = ACTIVITIES * (ACTIVITIES - 1) / 2 + 2 * ACTIVITIES + 1;
-
-pub const REPORT_BYTES: usize = 1024 + 48 * ACTIVITIES + 8 * (32 * RECORDS) + 78;
+// The most bytes that a report has (`text_room` of the specs).
+pub const REPORT_BYTES: usize = 1024 + 48 * ACTIVITIES + 8 * (32 * MOST_RECORDS) + 78;

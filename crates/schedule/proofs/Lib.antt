@@ -1,6 +1,6 @@
 -- Laws of the definitions of `specs/`, which callers cite: the earliest starts of a network, that there is a rank, the
 -- list of starts, that these go by the weights of pairs of elements, the crew check's parts and answers, the load of a
--- period. `Levels` and `Candidates` are for the proofs of the code alone.
+-- period. `Levels`, `Candidates` and `Found` are for the proofs of the code alone.
 pub mod Starts
 pub mod Ranks
 pub mod Arcs
@@ -11,3 +11,4 @@ pub mod Arrays
 pub mod Weights
 pub mod Levels
 pub mod Candidates
+pub mod Found

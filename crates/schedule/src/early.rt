@@ -5,22 +5,20 @@ ghost use Rattle.order.specs.Before.{Acyclic};
 ghost use Rattle.order.specs.Orders.{Direct};
 ghost use Rattle.order.specs.Stored.{elements, number_of};
 ghost use Rattle.schedule.specs.Starts.{asked, end_of};
-ghost use Rattle.schedule.specs.model.Arrays.{net_of, by_duration, with_waits, starts_of, AllAtMost, FinishesFit};
+ghost use Rattle.schedule.specs.model.Arrays.{by_duration, with_waits, starts_of, AllAtMost, FinishesFit};
 ghost use Rattle.schedule.specs.Lists.{at};
 ghost use Rattle.schedule.specs.model.Levels.{waiting_for, ready_of, placed};
 
 use order::{ELEMENTS, Rows, Set};
 
 // The elements that have an arc from one that is not done.
+#[tactic(auto, using(order::proofs::Turns::member_below))]
 fn waiting(rows: &Rows, done: Set) -> Set
     ensures { number_of result ≡ waiting_for elements rows.now (number_of done) }
 {
     let mut held = Set::EMPTY;
-    let mut left = Set::ALL.minus(done);
-    while !left.is_empty() {
-        let i = left.lowest();
+    for i in Set::ALL.minus(done) {
         held = held.union(order::row(rows, i));
-        left = left.without_lowest();
     }
     held
 }
@@ -40,58 +38,63 @@ fn asks(row: Set, j: usize, start: u32) -> u32
     if row.has(j) { start } else { 0 }
 }
 
-// What the arcs into j ask of its start. The wait on the arc from i stands at ELEMENTS * j + i.
-fn latest(
-    rows: &Rows,
-    durations: &[u32; ELEMENTS],
-    waits: &[u32; ELEMENTS * ELEMENTS],
-    starts: &[u32; ELEMENTS],
-    j: usize,
-) -> u32
-    requires j_lt_elements { j < elements }
-    requires finishes_fit { FinishesFit starts.now (with_waits durations.now waits.now) }
-    ensures { result ≡ asked (net_of rows.now (with_waits durations.now waits.now)) (at starts.now) j }
-{
-    let mut best: u32 = 0;
-    for i in 0..ELEMENTS {
-        let wait = waits[ELEMENTS * j + i];
-        let start = starts[i] + durations[i] + wait;
-        best = words::larger(best, asks(order::row(rows, i), j, start));
-    }
-    best
+// A table of arcs as rows, the durations of the elements, and a wait on each arc: that on the arc from i to j stands at
+// ELEMENTS * j + i. (No `Arcs` of the crew check within: `net_in` and `between` of the specs are of one struct each.)
+#[derive(Clone, Copy)]
+struct Net<'a> {
+    rows: &'a Rows,
+    durations: &'a [u32; ELEMENTS],
+    waits: &'a [u32; ELEMENTS * ELEMENTS],
 }
 
-// One level: each element of `ready` gets what the arcs ask of it by the starts `before`.
-fn place(
-    rows: &Rows,
-    durations: &[u32; ELEMENTS],
-    waits: &[u32; ELEMENTS * ELEMENTS],
-    before: &[u32; ELEMENTS],
-    starts: &mut [u32; ELEMENTS],
-    ready: Set,
-)
-    requires { FinishesFit before.now (with_waits durations.now waits.now) }
-    ensures { starts.new ≡ placed (net_of rows.now (with_waits durations.now waits.now)) (at before.now) starts.old (number_of ready) }
-{
-    let mut left = ready;
-    while !left.is_empty() {
-        let j = left.lowest();
-        starts[j] = latest(rows, durations, waits, before, j);
-        left = left.without_lowest();
+impl<'a> Net<'a> {
+    ghost use Rattle.schedule.specs.model.Held.{net_in, weight_in};
+
+    // What the arcs into j ask of its start. (What an arc would ask is summed up where there is none too, so that the
+    // loop has no jump.)
+    fn latest(&self, starts: &[u32; ELEMENTS], j: usize) -> u32
+        requires j_lt_elements { j < elements }
+        requires finishes_fit { FinishesFit starts.now (weight_in self.now) }
+        ensures { result ≡ asked (net_in self.now) (at starts.now) j }
+    {
+        let mut best: u32 = 0;
+        for (i, start) in starts.iter().enumerate() {
+            let wait = self.waits[ELEMENTS * j + i];
+            let start = *start + self.durations[i] + wait;
+            best = best.max(asks(order::row(self.rows, i), j, start));
+        }
+        best
+    }
+
+    // One level: each element of `ready` gets what the arcs ask of it by the starts `before`.
+    #[tactic(auto, using(order::proofs::Turns::member_below))]
+    fn place(&self, before: &[u32; ELEMENTS], starts: &mut [u32; ELEMENTS], ready: Set)
+        requires { FinishesFit before.now (weight_in self.now) }
+        ensures { starts.new ≡ placed (net_in self.now) (at before.now) starts.old (number_of ready) }
+    {
+        for j in ready {
+            starts[j] = self.latest(before, j);
+        }
     }
 }
 
-// The earliest starts over arcs that make no circle, given as rows, with a wait on each.
-pub fn earliest(
-    rows: &Rows,
-    durations: &[u32; ELEMENTS],
-    waits: &[u32; ELEMENTS * ELEMENTS],
+// The earliest starts over arcs that make no circle, given as rows, with a wait on each. (There are no more levels than
+// elements, which is how the loop is seen to end.)
+pub fn earliest<'a>(
+    rows: &'a Rows,
+    durations: &'a [u32; ELEMENTS],
+    waits: &'a [u32; ELEMENTS * ELEMENTS],
 ) -> [u32; ELEMENTS]
     requires acyclic { Acyclic (Direct rows.now) }
     requires all_at_most { AllAtMost 65535 durations.now }
     requires all_at_most_2 { AllAtMost 65535 waits.now }
     ensures { result ≡ starts_of rows.now (with_waits durations.now waits.now) }
 {
+    let net = Net {
+        rows,
+        durations,
+        waits,
+    };
     let mut starts = [0u32; ELEMENTS];
     let mut done = Set::EMPTY;
     for _level in 0..ELEMENTS {
@@ -100,7 +103,7 @@ pub fn earliest(
             return starts;
         }
         let before = starts;
-        place(rows, durations, waits, &before, &mut starts, now_ready);
+        net.place(&before, &mut starts, now_ready);
         done = done.union(now_ready);
     }
     starts
@@ -113,8 +116,9 @@ pub fn end_start(starts: &[u32; ELEMENTS], durations: &[u32; ELEMENTS], m: usize
     ensures { result ≡ end_of m (at starts.now) (at durations.now) }
 {
     let mut last: u32 = 0;
-    for i in 0..m {
-        last = words::larger(last, starts[i] + durations[i]);
+    for (start, duration) in starts[..m].iter().zip(durations) {
+        let finish = *start + *duration;
+        last = last.max(finish);
     }
     last
 }

@@ -2,6 +2,7 @@
 -- files before it lead up to that. `First` says it of the first n elements, where the others have no demand. `Steps` is
 -- what the proofs of the functions share.
 pub mod Steps
+pub mod Takers
 pub mod Digits
 pub mod Stores
 pub mod Balance

@@ -1,5 +1,6 @@
 -- What the model comes to at each step, from the values that the code has in hand.
-use Rattle.std.proofs.Common.{◌≡◌, ℕ, ◌+◌, ◌-◌, ◌*◌, ◌^◌, ◌<◌, ◌≤◌, min, List, get_or, set, sym, refl, ap, ◌∙◌, ap₂, add-one, arith, le-ltb, lt-ltb, eq-eqb, ne_eqb}
+use Rattle.std.proofs.Common.{◌≡◌, true, false, le-leb, leb, Option, Some, None, is_some, MatchOption, ℕ, ◌+◌, ◌-◌, ◌*◌, ◌^◌, ◌<◌, ◌≤◌, min, List, get_or, set, sym, refl, ap, ◌∙◌, ap₂, add-one, arith, le-ltb, lt-ltb, eq-eqb, ne_eqb}
+use borrow.Author.Tests.{lt-leb}
 use lib.Bits.{bit_and, bit_or}
 use Rattle.words.specs.Bits.{minus, with_bit, rest}
 use Rattle.words.specs.model.Loops.{each}
@@ -7,11 +8,12 @@ use Rattle.words.proofs.Tests.{cond_true, cond_false}
 use Rattle.order.specs.Stored.{elements, row as set_at, put_row, set_of}
 use Rattle.solver.specs.model.Search.{Look}
 use Rattle.solver.specs.declared.Quoted.{Quoted}
-use Rattle.solver.specs.model.Search.{low, marks, Seen, seen, visit, reached, fresh, found, onward, advance, begun, reach}
+use Rattle.solver.specs.declared.Search.{Search}
+use Rattle.solver.specs.model.Search.{ended_at, Found, low, marks, Seen, seen, visit, reached, fresh, found, onward, advance, begun, reach}
 use Rattle.order.specs.model.Places.{positive}
-use Rattle.solver.specs.model.Network.{Network, network, wrap, cell, giver, leaders, joined, shifted, walk, handing, augmented}
-use Rattle.solver.specs.model.Solve.{blanks, blank_rows, Round, round, solved, rank_of, ranked_at, ranked, hand_rank, started, sought, rounded, settle}
-use Rattle.solver.specs.model.Quote.{unused, copied, outcome, amount, told, quoted, quote_in, flow_in}
+use Rattle.solver.specs.model.Network.{Network, network, wrap, cell, giver, leaders, move, joined, shifted, walk, handing, augmented}
+use Rattle.solver.specs.model.Solve.{blanks, Round, round, solved, rank_of, ranked_at, ranked, hand_rank, started, sought, rounded, settle}
+use Rattle.solver.specs.model.Quote.{untouched, outcome, amount, told, quoted, quote_in}
 
 -- ---- a search
 
@@ -21,6 +23,22 @@ pub visits : {row new word : ℕ} {marked : List ℕ} (givers : List ℕ) (s : S
 visits givers s j f n u m =
     let e = n ∙ ap (λ (x : ℕ). minus x s.word) f in
     ap₂ seen (u ∙ ap (bit_or s.word) e) (m ∙ ap (λ (x : ℕ). marks s.parents x j) e)
+
+-- what it has found is a taker, or it has found none
+pub found_at : (s : Search) {j : ℕ} → s.at ≡ Some j → Found s → (ended_at s.at ≡ j) × (j < elements)
+found_at s e h = (ap ended_at e, rw e at h)
+
+pub found_none : (s : Search) → s.at ≡ None → ended_at s.at ≡ elements
+found_none s e = ap ended_at e
+
+pub settled_none : (o : Option ℕ) → is_some o ≡ false → leb elements (ended_at o) ≡ true
+settled_none None e = le-leb elements elements (omega arith)
+settled_none (Some j) e = absurd (cc)
+
+pub settled_some : (o : Option ℕ) → is_some o ≡ true → MatchOption o (Unit {0}) (λ j. j < elements)
+    → leb elements (ended_at o) ≡ false
+settled_some None e h = absurd (cc)
+settled_some (Some j) e h = lt-leb elements j h
 
 -- where a search begins
 pub begins : {none begin : ℕ} (able roots : ℕ) → none ≡ 0 → begin ≡ bit_and roots able
@@ -104,26 +122,21 @@ pub given_some : {v : ℕ} (w i n : ℕ) → v ≡ with_bit w i → (n ≡ 0 →
 unfolding giver
 given_some w i n e z = e ∙ sym (cond_false (minus w (2 ^ i)) (with_bit w i) (ne_eqb n 0 z))
 
-pub joins : (f g l r : List ℕ) (i j d n : ℕ) (f' g' : List ℕ)
-    → d ≡ min (get_or l i 0) (get_or r j 0)
-    → n ≡ wrap (get_or f (cell i j) 0 + d)
-    → (f' ≡ set f (cell i j) n) × (g' ≡ put_row g j (giver (set_at g j) i n))
-    → network f' g' (set l i (get_or l i 0 - d)) (set r j (get_or r j 0 - d)) ≡ joined (network f g l r) i j
+pub joins : (s : Network) (i j : ℕ) {d : ℕ} → d ≡ min (get_or s.left i 0) (get_or s.right j 0)
+    → move (network s.flow s.givers (set s.left i (get_or s.left i 0 - d))
+    (set s.right j (get_or s.right j 0 - d))) i j (wrap (get_or s.flow (cell i j) 0 + d))
+    ≡ joined s i j
 unfolding joined
-joins f g l r i j d n f' g' e q p = cc (e, q, p.0, p.1)
+joins s i j e = rw e refl
 
-pub shifts : (f g l r : List ℕ) (i k j d n v : ℕ) (f₁ g₁ f₂ g₂ : List ℕ)
-    → d ≡ min (get_or r j 0) (get_or f (cell i k) 0)
-    → (f₁ ≡ set f (cell i k) (get_or f (cell i k) 0 - d)) × (g₁ ≡ put_row g k (giver (set_at g k) i (get_or f (cell i k) 0 - d)))
-    → n ≡ wrap (get_or f₁ (cell i j) 0 + d)
-    → (f₂ ≡ set f₁ (cell i j) n) × (g₂ ≡ put_row g₁ j (giver (set_at g₁ j) i n))
-    → v ≡ wrap (get_or (set r j (get_or r j 0 - d)) k 0 + d)
-    → network f₂ g₂ l (set (set r j (get_or r j 0 - d)) k v) ≡ shifted (network f g l r) i k j
+pub shifts : (s : Network) (i k j : ℕ) {d : ℕ} {t u : Network}
+    → d ≡ min (get_or s.right j 0) (get_or s.flow (cell i k) 0)
+    → t ≡ move (network s.flow s.givers s.left
+    (set (set s.right j (get_or s.right j 0 - d)) k
+    (wrap (get_or (set s.right j (get_or s.right j 0 - d)) k 0 + d)))) i k (get_or s.flow (cell i k) 0 - d)
+    → u ≡ move t i j (wrap (get_or t.flow (cell i j) 0 + d)) → u ≡ shifted s i k j
 unfolding shifted
-shifts f g l r i k j d n v f₁ g₁ f₂ g₂ e p q p₂ t = cc (e, p.0, p.1, q, p₂.0, p₂.1, t)
-
-pub walks : {s t : Network} (j : ℕ) → s ≡ t → walk s j ≡ walk t j
-walks j e = ap (λ (x : Network). walk x j) e
+shifts s i k j {d} e p q = q ∙ ap (λ (x : Network). move x i j (wrap (get_or x.flow (cell i j) 0 + d))) p ∙ rw e refl
 
 -- where one of the two has nothing left nothing is handed over
 module _ (i : ℕ) (s : Network) where
@@ -137,9 +150,6 @@ module _ (i : ℕ) (s : Network) where
 
   pub hands_spent : get_or s.left i 0 ≡ 0 → (j : ℕ) → handing i s j ≡ s
   hands_spent z j = sym (hands_none j refl (omega arith))
-
-pub rank_none : (row i : ℕ) (b : List ℕ) → row ≡ 0 → b ≡ ranked_at row i b
-rank_none row i b z = sym (cond_true _ _ (eq-eqb row 0 z))
 
 pub rank_some : (row i : ℕ) (b : List ℕ) (c w : ℕ) → (row ≡ 0 → ⊥) → c ≡ rank_of row → w ≡ with_bit (set_at b c) i → put_row b c w ≡ ranked_at row i b
 rank_some row i b c w z e q = cc (e, q) ∙ sym (cond_false _ _ (ne_eqb row 0 z))
@@ -179,13 +189,15 @@ pub tells : (m : ℕ) (l : List ℕ) (q : Look) (w : ℕ) {n v : ℕ} → n ≡ 
     → ◌≡◌ {A = Quoted} (record { need = n; set = set_of (bit_and v w) }) (told m l q w)
 tells m l q w a h = cc (a, h)
 
-module _ (m : ℕ) (rows demand : List ℕ) {b f₀ g₀ l₀ f g l r : List ℕ} {q : Look}
-    (eb : b ≡ ranked m rows) (ef : f₀ ≡ unused) (eg : g₀ ≡ blank_rows) (el : l₀ ≡ copied m demand)
-    (e : round (network f g l r) q ≡ solved m (elements * 65535) rows b (network f₀ g₀ l₀ l₀)) where
-  pub ends_as : round (network f g l r) q ≡ outcome m rows demand
+module _ (m : ℕ) (rows demand : List ℕ) {b : List ℕ} {s t : Network} {q : Look}
+    (eb : b ≡ ranked m rows) (es : s ≡ untouched m demand) (e : round t q ≡ solved m (elements * 65535) rows b s) where
+  ends_as : round t q ≡ outcome m rows demand
   unfolding outcome
   ends_as = cc
 
-  pub quotes : {x : Quoted} {w : ℕ} → x ≡ told m l q w → w ≡ positive m demand → (x ≡ quote_in m rows demand) × (f ≡ flow_in m rows demand)
-  unfolding quote_in flow_in
-  quotes a b = (a ∙ ap (told m l q) b ∙ ap (quoted m demand) ends_as, ap (λ (x : Round). x.now.flow) ends_as)
+  pub ends_at : t ≡ (outcome m rows demand).now
+  ends_at = ap (λ (x : Round). x.now) ends_as
+
+  pub quotes : {x : Quoted} {w : ℕ} → x ≡ told m t.left q w → w ≡ positive m demand → x ≡ quote_in m rows demand
+  unfolding quote_in
+  quotes a b = a ∙ ap (told m t.left q) b ∙ ap (quoted m demand) ends_as

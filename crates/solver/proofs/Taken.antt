@@ -12,9 +12,8 @@ use Rattle.words.proofs.Members.{Has, member_has}
 use Rattle.words.proofs.Tables.{get_d_zeros}
 use Rattle.words.proofs.Tests.{same_or_not}
 use Rattle.order.specs.Stored.{elements, row as set_at}
-use Rattle.solver.specs.model.Network.{Network, cell, dropping, handed, leaders, network, taken_back, taken_from}
-use Rattle.solver.specs.model.Search.{Look}
-use Rattle.solver.specs.model.Solve.{Round, ranked, round}
+use Rattle.solver.specs.model.Network.{Network, cell, dropping, handed, leaders, taken_back, taken_from}
+use Rattle.solver.specs.model.Solve.{ranked}
 use Rattle.solver.specs.model.Quote.{outcome, untouched, unused}
 use Rattle.solver.proofs.StartState.{untouched_linked, unused_long}
 use Rattle.solver.proofs.Cleared.{set_zero}
@@ -111,6 +110,6 @@ module _ (m : ℕ) (rows demand : List ℕ) where
       let e = (linked.says p q hp hq).1 x in
       (nonzero_bit (λ i. set_at s.givers i) elements q hq (λ z. omega (arith, e, ap (λ (y : ℕ). digit y p) z, digit_none p)), e))
 
-  pub takes : {f g l r f' : List ℕ} {q : Look} {w : ℕ} → round (network f g l r) q ≡ outcome m rows demand → w ≡ leaders elements g → f' ≡ taken_back g f w → f' ≡ unused
-  takes {g = g} {f' = f'} e a b =
-      b ∙ ap (taken_back g _) a ∙ ap (λ (x : Round). taken_back x.now.givers x.now.flow (leaders elements x.now.givers)) e ∙ taken_all
+  pub takes : {t : Network} {f : List ℕ} → t ≡ (outcome m rows demand).now
+      → f ≡ taken_back t.givers t.flow (leaders elements t.givers) → f ≡ unused
+  takes e a = a ∙ ap (λ (x : Network). taken_back x.givers x.flow (leaders elements x.givers)) e ∙ taken_all

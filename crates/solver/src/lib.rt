@@ -6,32 +6,58 @@
 ghost use Rattle.std.specs.Prelude.{◌≡◌, ◌≤◌};
 ghost use Rattle.order.specs.Stored.{elements, number_of};
 ghost use Rattle.solver.specs.model.Search.{looked};
-ghost use Rattle.solver.specs.model.Solve.{ranked, LeadsOf};
-ghost use Rattle.solver.specs.model.Quote.{unused, copied, amount, told, Clean, quote_in, flow_in, quote_of, flow_of};
+ghost use Rattle.solver.specs.model.Network.{leaders, network, network_of};
+ghost use Rattle.solver.specs.model.Solve.{blank_rows, ranked};
+ghost use Rattle.solver.specs.model.Quote.{unused, copied, amount, told, untouched, outcome, Clean, quote_in, flow_in, quote_of, flow_of};
 
-use order::{ELEMENTS, Order, Rows, Set};
+use order::{CELLS, ELEMENTS, Order, Rows, Set};
+pub use rounds::ranks;
 
 mod moves;
 mod reach;
 mod rounds;
 
 // What a search carries from turn to turn: givers to go on from, now and next, the givers and takers seen, and the
-// taker that it ended at, or ELEMENTS.
+// taker that it ended at, if it has found one.
 #[derive(Clone, Copy)]
 struct Search {
     frontier: Set,
     next: Set,
     left: Set,
     right: Set,
-    at: usize,
+    at: Option<usize>,
 }
 
-// What the rounds ask of an order and its ranking, for all kinds of a plan the same: the numbers for which the ranking
-// has elements, and the elements that have some after them.
+// Who led a search to each element: to a giver the taker, if it did not begin there, and to a taker the giver.
 #[derive(Clone, Copy)]
-pub struct Leads {
+struct Parents {
+    lefts: [Option<usize>; ELEMENTS],
+    rights: [usize; ELEMENTS],
+}
+
+// A handover under way: the units at i * ELEMENTS + j, for each taker the set of those that give to it, and what
+// givers and takers have left.
+#[derive(Drop)]
+struct Handover<'a> {
+    flow: &'a mut [u32; ELEMENTS * ELEMENTS],
+    givers: Rows,
+    left: [u32; ELEMENTS],
+    right: [u32; ELEMENTS],
+}
+
+// An order of m elements, by its rows, with what the rounds ask of it, for all kinds of a plan the same: its ranking,
+// the numbers for which that has elements, and the elements that have some after them.
+#[derive(Clone, Copy)]
+pub struct Ranking<'a> {
+    rows: &'a Rows,
+    ranks: &'a Rows,
+    m: usize,
     numbers: Set,
     able: Set,
+    ghost within: { m ≤ elements },
+    ghost ranks_of: { ranks.now ≡ ranked m rows.now },
+    ghost numbers_of: { number_of numbers ≡ leaders elements ranks.now },
+    ghost able_of: { number_of able ≡ leaders m rows.now },
 }
 
 // The need, and a set of pairwise unrelated elements that has it.
@@ -48,11 +74,7 @@ pub fn clear(flow: &mut [u32; ELEMENTS * ELEMENTS], m: usize)
     ensures { flow.new ≡ unused }
 {
     let end = m * ELEMENTS;
-    let mut p: usize = 0;
-    while p < end {
-        flow[p] = 0;
-        p += 1;
-    }
+    flow[..end].fill(0);
 }
 
 // The m first demands, in an array of the solver's own. (That an array behind a reference has its entries no proof
@@ -62,11 +84,7 @@ fn copy(a: &[u32; ELEMENTS], m: usize) -> [u32; ELEMENTS]
     ensures { result ≡ copied m a.now }
 {
     let mut b: [u32; ELEMENTS] = [0; ELEMENTS];
-    let mut i: usize = 0;
-    while i < m {
-        b[i] = a[i];
-        i += 1;
-    }
+    b[..m].copy_from_slice(&a[..m]);
     b
 }
 
@@ -76,10 +94,8 @@ fn total(a: &[u32; ELEMENTS], m: usize) -> u32
     ensures { result ≡ amount m a.now }
 {
     let mut t: u32 = 0;
-    let mut i: usize = 0;
-    while i < m {
-        t = std::num::wrapping_add_u32(t, a[i]);
-        i += 1;
+    for x in &a[..m] {
+        t = t.wrapping_add(*x);
     }
     t
 }
@@ -95,82 +111,75 @@ fn told(s: Search, left: &[u32; ELEMENTS], wanted: Set, m: usize) -> Quoted
     Quoted { need, set }
 }
 
-// The m first elements by the number of elements after them: what `quote_ranked` asks of an order, for
-// all kinds of a plan the same.
-pub fn ranks(rows: &Rows, m: usize) -> Rows
-    requires { m ≤ elements }
-    ensures { result ≡ ranked m rows.now }
-{
-    rounds::ranks(rows, m)
+impl<'a> Handover<'a> {
+    // Nothing is handed over yet, and the m first elements have their demands left. `flow` comes in at 0.
+    fn start(
+        flow: &'a mut [u32; ELEMENTS * ELEMENTS],
+        demand: &[u32; ELEMENTS],
+        m: usize,
+    ) -> Handover<'a>
+        requires { m ≤ elements }
+        ensures same_reference { result.flow.ghost_name ≡ flow.entry.ghost_name }
+        ensures value { network_of result ≡ network flow.old blank_rows (copied m demand.now) (copied m demand.now) }
+    {
+        let left = copy(demand, m);
+        Handover {
+            flow,
+            givers: [0; CELLS],
+            left,
+            right: left,
+        }
+    }
+
+    // Hands over all that can be, from nothing, and tells what is left.
+    fn quote(&mut self, ranking: &Ranking, demand: &[u32; ELEMENTS]) -> Quoted
+        requires { network_of self.old ≡ untouched ranking.now.m demand.now }
+        ensures same_reference { self.new.flow.ghost_name ≡ self.old.flow.ghost_name }
+        ensures quoted { result ≡ quote_in ranking.now.m ranking.now.rows.now demand.now }
+        ensures value { network_of self.new ≡ (outcome ranking.now.m ranking.now.rows.now demand.now).now }
+    {
+        let s = self.solve(ranking);
+        told(s, &self.left, order::places(demand, ranking.m), ranking.m)
+    }
 }
 
-// What else they ask, by an order and its ranking.
-pub fn leads_of(rows: &Rows, ranks: &Rows, m: usize) -> Leads
-    requires { m ≤ elements }
-    ensures { LeadsOf m rows.now ranks.now result }
-{
-    let numbers = rounds::leading_of(ranks, ELEMENTS);
-    let able = rounds::leading_of(rows, m);
-    Leads { numbers, able }
-}
+impl<'a> Ranking<'a> {
+    // Of an order that is given by its rows, and its ranking.
+    pub fn of(rows: &'a Rows, ranks: &'a Rows, m: usize) -> Ranking<'a>
+        requires { (m ≤ elements) × (ranks.now ≡ ranked m rows.now) }
+        ensures { (result.rows.now ≡ rows.now) × (result.m ≡ m) }
+    {
+        let numbers = rounds::leading_of(ranks, ELEMENTS);
+        let able = rounds::leading_of(rows, m);
+        Ranking {
+            rows,
+            ranks,
+            m,
+            numbers,
+            able,
+        }
+    }
 
-// The need of an order, given by its rows and its ranking, with a demand for each of its m first elements (the others
-// are passed over), and, in `flow` at i * ELEMENTS + j, what i hands over to j. `flow` comes in at 0.
-fn quote_ranked(
-    rows: &Rows,
-    ranks: &Rows,
-    leads: Leads,
-    m: usize,
-    demand: &[u32; ELEMENTS],
-    flow: &mut [u32; ELEMENTS * ELEMENTS],
-) -> Quoted
-    requires { (m ≤ elements) × (ranks.now ≡ ranked m rows.now) × LeadsOf m rows.now ranks.now leads × (flow.old ≡ unused) }
-    ensures { (result ≡ quote_in m rows.now demand.now) × (flow.new ≡ flow_in m rows.now demand.now) }
-{
-    let mut givers = rounds::blank_rows();
-    let mut left = copy(demand, m);
-    let mut right = left;
-    let s = rounds::solve(
-        rows,
-        ranks,
-        leads,
-        m,
-        flow,
-        &mut givers,
-        &mut left,
-        &mut right,
-    );
-    told(s, &left, order::places(demand, m), m)
-}
+    // The need, with a demand for each of the m elements (the others are passed over), and, in `flow` at
+    // i * ELEMENTS + j, what i hands over to j. `flow` comes in at 0.
+    #[tactic(auto, unfolding(crate::specs::model::Quote::flow_in))]
+    fn quote(&self, demand: &[u32; ELEMENTS], flow: &mut [u32; ELEMENTS * ELEMENTS]) -> Quoted
+        requires { flow.old ≡ unused }
+        ensures { (result ≡ quote_in self.now.m self.now.rows.now demand.now) × (flow.new ≡ flow_in self.now.m self.now.rows.now demand.now) }
+    {
+        Handover::start(flow, demand, self.m).quote(self, demand)
+    }
 
-// The same, where the handover is not asked for: `flow` goes out at 0, as it came in.
-pub fn weigh_ranked(
-    rows: &Rows,
-    ranks: &Rows,
-    leads: Leads,
-    m: usize,
-    demand: &[u32; ELEMENTS],
-    flow: &mut [u32; ELEMENTS * ELEMENTS],
-) -> Quoted
-    requires { (m ≤ elements) × (ranks.now ≡ ranked m rows.now) × LeadsOf m rows.now ranks.now leads × (flow.old ≡ unused) }
-    ensures { (result ≡ quote_in m rows.now demand.now) × (flow.new ≡ unused) }
-{
-    let mut givers = rounds::blank_rows();
-    let mut left = copy(demand, m);
-    let mut right = left;
-    let s = rounds::solve(
-        rows,
-        ranks,
-        leads,
-        m,
-        flow,
-        &mut givers,
-        &mut left,
-        &mut right,
-    );
-    let takers = rounds::leading_of(&givers, ELEMENTS);
-    moves::take_back(flow, &givers, takers);
-    told(s, &left, order::places(demand, m), m)
+    // The same, where the handover is not asked for: `flow` goes out at 0, as it came in.
+    pub fn weigh(&self, demand: &[u32; ELEMENTS], flow: &mut [u32; ELEMENTS * ELEMENTS]) -> Quoted
+        requires { flow.old ≡ unused }
+        ensures { (result ≡ quote_in self.now.m self.now.rows.now demand.now) × (flow.new ≡ unused) }
+    {
+        let mut handover = Handover::start(flow, demand, self.m);
+        let quoted = handover.quote(self, demand);
+        handover.take_back();
+        quoted
+    }
 }
 
 // The same of an order.
@@ -184,7 +193,6 @@ pub fn quote(
     ensures { (result ≡ quote_of m order demand.now) × (flow.new ≡ flow_of m order demand.now) }
 {
     let rows = order.after_rows();
-    let b = rounds::ranks(&rows, m);
-    let l = leads_of(&rows, &b, m);
-    quote_ranked(&rows, &b, l, m, demand, flow)
+    let ranks = ranks(&rows, m);
+    Ranking::of(&rows, &ranks, m).quote(demand, flow)
 }

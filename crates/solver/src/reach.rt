@@ -1,80 +1,74 @@
 // The search for a way to hand over more, level by level, by sets.
 ghost use Rattle.std.specs.Prelude.{◌≡◌, ◌<◌};
 ghost use Rattle.words.specs.model.Loops.{each};
-ghost use Rattle.order.specs.Stored.{elements, bound, number_of};
-ghost use Rattle.solver.specs.model.Search.{looked, marks, seen, visit, reached, advance, begun, reach};
+ghost use Rattle.order.specs.Sets.{lowest_of};
+ghost use Rattle.order.specs.Stored.{elements, number_of};
+ghost use Rattle.solver.specs.model.Search.{Found, takers_of, marks, seen, visit};
+ghost use Rattle.solver.specs.model.Search.{reached, reached_of, advance, begun, reach};
 
-use crate::Search;
+use crate::{Parents, Search};
 use order::{ELEMENTS, Rows, Set};
 
 // Each element of `set` gets the parent `from`.
-pub fn mark(parents: &mut [usize; ELEMENTS], set: Set, from: usize)
+#[tactic(auto, using(order::proofs::Turns::member_below))]
+pub fn mark<T: Copy>(parents: &mut [T; ELEMENTS], set: Set, from: T)
     ensures { parents.new ≡ marks parents.old (number_of set) from }
 {
-    let mut w = set;
-    while !w.is_empty() {
-        let b = w.lowest();
+    for b in set {
         parents[b] = from;
-        w = w.without_lowest();
     }
 }
 
 // The givers of the elements of `set` join those `known`: each new one gets the element as its parent.
-pub fn spread(givers: &Rows, parents: &mut [usize; ELEMENTS], set: Set, known: Set) -> Set
-    ensures { seen (number_of result) parents.new ≡ each elements (visit givers.now) (seen (number_of known) parents.old) (number_of set) }
+#[tactic(auto, using(order::proofs::Turns::member_below))]
+pub fn spread(givers: &Rows, parents: &mut [Option<usize>; ELEMENTS], set: Set, known: Set) -> Set
+    ensures { seen (number_of result) (takers_of parents.new) ≡ each elements (visit givers.now) (seen (number_of known) (takers_of parents.old)) (number_of set) }
 {
-    let mut w = set;
     let mut s = known;
-    while !w.is_empty() {
-        let j = w.lowest();
+    for j in set {
         let back = order::row(givers, j).minus(s);
-        mark(parents, back, j);
+        mark(parents, back, Some(j));
         s = s.union(back);
-        w = w.without_lowest();
     }
     s
 }
 
-// One turn of a search, at the lowest element of its frontier.
-pub fn turn(
+// One turn of a search, at the lowest element i of its frontier.
+fn turn(
     rows: &Rows,
     givers: &Rows,
     slack: Set,
-    lefts: &mut [usize; ELEMENTS],
-    rights: &mut [usize; ELEMENTS],
+    parents: &mut Parents,
     s: Search,
+    i: usize,
 ) -> Search
-    requires { (0 < number_of s.frontier) × (number_of s.frontier < bound) }
-    ensures { reached (looked result) lefts.new rights.new ≡ advance rows.now givers.now (number_of slack) (reached (looked s) lefts.old rights.old) }
+    requires { (i ≡ lowest_of s.frontier) × (i < elements) }
+    ensures within { Found result }
+    ensures value { reached_of result parents.new ≡ advance rows.now givers.now (number_of slack) (reached_of s parents.old) }
 {
-    let frontier = s.frontier;
     let known = s.left;
-    let taken = s.right;
-    let later = s.next;
-    let i = frontier.lowest();
-    let rest = frontier.without_lowest();
-    let new = order::row(rows, i).minus(taken);
-    mark(rights, new, i);
-    let right = taken.union(new);
-    let hit = new.meet(slack);
-    if !hit.is_empty() {
+    let new = order::row(rows, i).minus(s.right);
+    mark(&mut parents.rights, new, i);
+    let right = s.right.union(new);
+    if let Some(at) = new.meet(slack).lowest() {
         return Search {
             frontier: Set::EMPTY,
             next: Set::EMPTY,
             left: known,
             right,
-            at: hit.lowest(),
+            at: Some(at),
         };
     }
-    let left = spread(givers, lefts, new, known);
-    let next = later.union(left.minus(known));
+    let left = spread(givers, &mut parents.lefts, new, known);
+    let next = s.next.union(left.minus(known));
+    let rest = s.frontier.without_lowest();
     if rest.is_empty() {
         Search {
             frontier: next,
             next: Set::EMPTY,
             left,
             right,
-            at: ELEMENTS,
+            at: None,
         }
     } else {
         Search {
@@ -82,7 +76,7 @@ pub fn turn(
             next,
             left,
             right,
-            at: ELEMENTS,
+            at: None,
         }
     }
 }
@@ -95,27 +89,23 @@ pub fn seek(
     able: Set,
     roots: Set,
     slack: Set,
-    lefts: &mut [usize; ELEMENTS],
-    rights: &mut [usize; ELEMENTS],
+    parents: &mut Parents,
 ) -> Search
-    ensures { reached (looked result) lefts.new rights.new ≡ reach elements rows.now givers.now (number_of slack) (reached (begun (number_of able) (number_of roots)) lefts.old rights.old) }
+    ensures within { Found result }
+    ensures value { reached_of result parents.new ≡ reach elements rows.now givers.now (number_of slack) (reached (begun (number_of able) (number_of roots)) (takers_of parents.old.lefts) parents.old.rights) }
 {
-    let begin = roots.meet(able);
     let mut s = Search {
-        frontier: begin,
+        frontier: roots.meet(able),
         next: Set::EMPTY,
         left: roots,
         right: Set::EMPTY,
-        at: ELEMENTS,
+        at: None,
     };
-    let mut k: usize = 0;
-    while k < ELEMENTS {
-        let frontier = s.frontier;
-        if frontier.is_empty() {
+    for _ in 0..ELEMENTS {
+        let Some(i) = s.frontier.lowest() else {
             return s;
-        }
-        s = turn(rows, givers, slack, lefts, rights, s);
-        k += 1;
+        };
+        s = turn(rows, givers, slack, parents, s, i);
     }
     s
 }

@@ -10,3 +10,4 @@ pub mod Maxima
 pub mod Tables
 pub mod Loops
 pub mod Kept
+pub mod Zipped

@@ -28,21 +28,37 @@ module _ {S : Type 0} (k : ℕ) (f : S → ℕ → S) where
   unfolding each
   each_more s w p h = ap (fold f s) (members_more k w p h)
 
-  -- What a loop asks whose invariant is `(each k f s w ≡ r) × (w < 2 ^ k)`, with r the run from the start and w as its measure:
-  -- the turn at the lowest member b, on to the rest v, keeps it; v falls (`rest_less`); and at 0 the state is r.
-  pub each_again : (s : S) (w b : ℕ) {v : ℕ} {s' r : S} → (w ≡ 0 → ⊥) → (each k f s w ≡ r) × (w < 2 ^ k) → b ≡ first k (bit w) → s' ≡ f s b
-      → v ≡ rest w → (each k f s' v ≡ r) × (v < 2 ^ k)
+  -- What a loop over the members asks whose invariant is `each k f s w ≡ r`, with r the run from the start: the turn at
+  -- the first member b, on to the rest v, keeps it, and at the end the state is r.
+  pub each_listed : (s : S) (w b v : ℕ) {s' r : S} → members k w ≡ b ∷ members k v → each k f s w ≡ r → s' ≡ f s b
+      → each k f s' v ≡ r
+  unfolding each
+  each_listed s w b v e i t = ap (λ x. fold f x (members k v)) t ∙ sym (ap (fold f s) e) ∙ i
+
+  pub each_listed_end : (s : S) (w : ℕ) {r : S} → members k w ≡ [] → each k f s w ≡ r → s ≡ r
+  unfolding each
+  each_listed_end s w e i = sym (ap (fold f s) e) ∙ i
+
+  -- What a loop asks whose invariant is `(each k f s w ≡ r) × (w < 2 ^ k)`, with r the run from the start and w as
+  -- its measure: the turn at the lowest member b, on to the rest v, keeps it; v falls (`rest_less`); and at 0 the
+  -- state is r.
+  pub each_again : (s : S) (w b : ℕ) {v : ℕ} {s' r : S} → (w ≡ 0 → ⊥) → (each k f s w ≡ r) × (w < 2 ^ k)
+      → b ≡ first k (bit w) → s' ≡ f s b → v ≡ rest w → (each k f s' v ≡ r) × (v < 2 ^ k)
   each_again s w b {v} n i q t e = (
-    ap (each k f _) e ∙ ap (λ x. each k f x (rest w)) t ∙ ap (λ (x : ℕ). each k f (f s x) (rest w)) q ∙ sym (each_more s w (omega arith) i.1) ∙ i.0,
+    ap (each k f _) e ∙ ap (λ x. each k f x (rest w)) t
+        ∙ ap (λ (x : ℕ). each k f (f s x) (rest w)) q ∙ sym (each_more s w (omega arith) i.1) ∙ i.0,
     omega (arith, rest_le w),
   )
 
   pub each_end : (s : S) (w : ℕ) {r : S} → w ≡ 0 → (each k f s w ≡ r) × (w < 2 ^ k) → s ≡ r
   each_end s w z i = sym (each_none s) ∙ ap (each k f s) (sym z) ∙ i.0
 
-  pub each_still : (s : S) (w : ℕ) {r : S} → ((b : ℕ) → f s b ≡ s) → (each k f s w ≡ r) × (w < 2 ^ k) → s ≡ r
+  pub each_kept : (s : S) (w : ℕ) {r : S} → ((b : ℕ) → f s b ≡ s) → each k f s w ≡ r → s ≡ r
   unfolding each
-  each_still s w h i = sym (fold_still f s h (members k w)) ∙ i.0
+  each_kept s w h i = sym (fold_still f s h (members k w)) ∙ i
+
+  pub each_still : (s : S) (w : ℕ) {r : S} → ((b : ℕ) → f s b ≡ s) → (each k f s w ≡ r) × (w < 2 ^ k) → s ≡ r
+  each_still s w h i = each_kept s w h i.0
 
 -- ---- a loop of at most n turns
 

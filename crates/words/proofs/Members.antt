@@ -84,12 +84,12 @@ low_member k w p h = at_first k (bit w) (low_lt k w p h)
 pub rest_lt : (w : ℕ) → (w ≡ 0 → ⊥) → rest w < w
 rest_lt w n = omega (arith, and_le_r w (w - 1))
 
-pub rest_le : (w : ℕ) → rest w ≤ w
-rest_le w = and_le_l w (w - 1)
-
 -- the same of a number v that code has in hand
 pub rest_less : {v : ℕ} (w : ℕ) → (w ≡ 0 → ⊥) → v ≡ rest w → v < w
 rest_less w n e = rw e (rest_lt w n)
+
+pub rest_le : (w : ℕ) → rest w ≤ w
+rest_le w = and_le_l w (w - 1)
 
 rest_none : (w i : ℕ) (t : Bool) → w ≡ 0 → bit (rest w) i ≡ bit w i && t
 rest_none w i t z =
@@ -187,6 +187,33 @@ has_member (suc k) w zero h = (omega (arith, Bits.digit_first w, lead_zero (w % 
 has_member (suc k) w (suc b) h =
     let r = has_member k (w / 2) b (lead_suc (w % 2) b (members k (w / 2)) h) in
     (Bits.digit_next w b ∙ r.0, omega (arith, r.1))
+
+-- the list goes on with larger members
+ascend_suc : (ys : List ℕ) → ((y c : ℕ) (zs : List ℕ) → ys ≡ y ∷ zs → Has c zs → y < c)
+    → (b c : ℕ) (xs : List ℕ) → map suc ys ≡ b ∷ xs → Has c xs → b < c
+ascend_suc [] ih b c xs e h = absurd (cc)
+ascend_suc (y ∷ zs) ih b c xs e h =
+    let p : b ≡ suc y = cc in
+    let q : xs ≡ map suc zs = cc in
+    later c (rw q at h) p
+  where
+    later : (c : ℕ) → Has c (map suc zs) → b ≡ suc y → b < c
+    later zero m p = absurd (not_zero zs m)
+    later (suc c) m p = omega (arith, ih y c zs refl (has_pred c zs m))
+
+pub members_ascend : (k w b c : ℕ) (xs : List ℕ) → members k w ≡ b ∷ xs → Has c xs → b < c
+unfolding members
+members_ascend zero w b c xs e h = absurd (cc)
+members_ascend (suc k) w b c xs e h =
+    ⊎_elim
+    (λ z. ascend_suc (members k (w / 2)) (λ y d zs. members_ascend k (w / 2) y d zs) b c xs
+    (sym (ap (λ (d : ℕ). lead d (map suc (members k (w / 2)))) z) ∙ e) h)
+    (λ o. odd (members k (w / 2)) c (sym (ap (λ (d : ℕ). lead d (map suc (members k (w / 2)))) o) ∙ e) h)
+    (Bits.even_or_odd w)
+  where
+    odd : (ys : List ℕ) (c : ℕ) → 0 ∷ map suc ys ≡ b ∷ xs → Has c xs → b < c
+    odd ys zero e h = let q : xs ≡ map suc ys = cc in absurd (not_zero ys (rw q at h))
+    odd ys (suc c) e h = let p : b ≡ 0 = cc in omega arith
 
 -- the members below k + 1 are those below k, and k if it is one
 abbrev pub only : Bool → ℕ → List ℕ

@@ -1,12 +1,16 @@
 -- Finite sums.
 use mathlib.Core.Path.{◌≡◌, refl, sym, ap}
 use mathlib.Core.Bool.{Bool, true, false, cond}
+use mathlib.Core.List.{List, [], ◌∷◌}
 use Prim.Native.Nat.{ℕ, zero, suc, ◌+◌, ◌*◌, ◌≤◌, ◌<◌}
 use native.Mathlib.Nat.{suc-mul}
 use native.Mathlib.Decide.{ℕ_discrete, dec_le}
 use mathlib.Core.Logic.{by_cases}
 use native.Mathlib.Numerals.{add-one}
 use native.Mathlib.Omega.{arith}
+use lib.ListN.{length, get_or}
+use Rattle.std.proofs.lemmas.List.Sums.{sum_by-cons}
+use Rattle.std.specs.List
 use Rattle.words.specs.Sums.{sum}
 
 -- equal terms, equal sums
@@ -132,6 +136,12 @@ pub sum_bound : (n c : ℕ) (g : ℕ → ℕ) → ((i : ℕ) → i < n → g i �
 unfolding sum
 sum_bound zero c g e = omega arith
 sum_bound (suc n) c g e = omega (arith, sum_bound n c g (λ i l. e i (omega arith)), e n (omega arith), suc-mul n c)
+
+-- a list is added up by its places
+pub sum_listed : (xs : List ℕ) → List.sum xs ≡ sum (length xs) (λ k. get_or xs k 0)
+sum_listed [] = sym (sum_zero 0 (λ k. get_or {A = ℕ} [] k 0) (λ k l. absurd (omega arith)))
+sum_listed (x ∷ xs) =
+    omega (arith, sum_by-cons (λ y. y) x xs, sum_listed xs, sum_first (length xs) (λ k. get_or (x ∷ xs) k 0))
 
 -- one turn of a loop that adds up
 pub sum_next : (n : ℕ) (f : ℕ → ℕ) (b v x : ℕ) → b ≡ sum n f → f n ≡ v → x ≡ b + v → x ≡ sum (n + 1) f

@@ -1,7 +1,7 @@
 // The smallest functions on words and numbers: each is one operation of the machine, with its meaning.
 #![tactic(auto)]
 
-ghost use Rattle.std.specs.Prelude.{◌≡◌, max, min, ◌^◌, ◌<◌};
+ghost use Rattle.std.specs.Prelude.{◌≡◌, ◌^◌, ◌<◌};
 ghost use Rattle.words.specs.Bits.{word_bits, bit, with_bit, minus, rest};
 ghost use Rattle.words.specs.Members.{count, first};
 
@@ -9,6 +9,7 @@ ghost use Rattle.words.specs.Members.{count, first};
 pub type Word = u64;
 
 // Whether i is a member of the word: whether its bit is 1.
+#[tactic(auto, unfolding(crate::specs::Bits::bit, crate::specs::Bits::digit))]
 pub fn has(w: Word, i: usize) -> bool
     requires { i < word_bits }
     ensures { result ≡ bit w i }
@@ -17,6 +18,7 @@ pub fn has(w: Word, i: usize) -> bool
 }
 
 // The word with the member i.
+#[tactic(auto, using(crate::proofs::Bits::shl_one))]
 pub fn with_bit(w: Word, i: usize) -> Word
     requires { i < word_bits }
     ensures { result ≡ with_bit w i }
@@ -25,6 +27,7 @@ pub fn with_bit(w: Word, i: usize) -> Word
 }
 
 // The word without the member i.
+#[tactic(auto, using(crate::proofs::Bits::shl_one))]
 pub fn without_bit(w: Word, i: usize) -> Word
     requires { i < word_bits }
     ensures { result ≡ minus w (2 ^ i) }
@@ -39,25 +42,21 @@ pub fn without(a: Word, b: Word) -> Word
     a - (a & b)
 }
 
-// A count of bits, as an index.
-fn index(x: u32) -> usize
-    ensures { result ≡ x }
-{
-    x as usize
-}
-
 // How many members the word has.
+#[tactic(auto, using(crate::proofs::Sizes::ones_count))]
 pub fn size(w: Word) -> usize
     ensures { result ≡ count word_bits (bit w) }
 {
-    index(u64::count_ones(w))
+    w.count_ones() as usize
 }
 
-// The lowest member of the word, and the number of bits where there is none.
+// The lowest member of the word, and the number of bits where there is none. (A number, as `first` of the specs and the
+// machine have it; `Set::lowest` of order makes the `Option`.)
+#[tactic(auto, using(crate::proofs::Members::trailing_first))]
 pub fn lowest(w: Word) -> usize
     ensures { result ≡ first word_bits (bit w) }
 {
-    index(u64::trailing_zeros(w))
+    w.trailing_zeros() as usize
 }
 
 // The word without its lowest member. A loop over the members of a word ends where the word is 0.
@@ -66,25 +65,4 @@ pub fn without_lowest(w: Word) -> Word
     ensures { result ≡ rest w }
 {
     w & (w - 1)
-}
-
-// The larger of two numbers.
-pub fn larger(a: u32, b: u32) -> u32
-    ensures { result ≡ max a b }
-{
-    if a < b { b } else { a }
-}
-
-// The smaller of two numbers.
-pub fn smaller(a: u32, b: u32) -> u32
-    ensures { result ≡ min a b }
-{
-    if a < b { a } else { b }
-}
-
-// A number, in 64 bits.
-pub fn wide(x: u32) -> u64
-    ensures { (result ≡ x) × (result < 2 ^ 32) }
-{
-    x as u64
 }

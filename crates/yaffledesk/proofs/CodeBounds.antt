@@ -10,12 +10,12 @@ use native.Mathlib.Omega.{arith}
 use lib.Dec.{ltb}
 use lib.ListN.{length, get_or}
 use lib.Pow.{pow_pos}
+use Rattle.std.specs.Prelude.{Ok, Err}
 use Rattle.words.proofs.Counts.{count_le}
 use Rattle.words.proofs.Tests.{cond_has, cond_least}
 use Rattle.records.specs.Bytes.{AreBytes}
 use Rattle.order.specs.Stored.{elements}
 use Rattle.order.specs.Sets.{member}
-use Rattle.order.proofs.Stored.{number_none}
 use Rattle.plan.specs.Records.{record_count, activities}
 use Rattle.schedule.specs.Network.{Network}
 use Rattle.schedule.specs.Checks.{Work, broken_to, broken_from, lowest_kind, first_period, check_of}
@@ -25,7 +25,7 @@ use Rattle.schedule.proofs.Arcs.{broken_first, broken_to_first}
 use Rattle.schedule.proofs.Periods.{lowest_first, period_bound}
 use Rattle.planner.specs.Numbers.{refusal_of}
 use Rattle.planner.specs.Open.{plan_in}
-use Rattle.planner.specs.Faults.{is_fine}
+use Rattle.planner.specs.Faults.{Fault, Output, is_fine}
 use Rattle.planner.specs.Output.{output_of}
 use Rattle.planner.specs.Need.{is_overloaded}
 use Rattle.planner.specs.Verdict.{verdict_fault, verdict_of, verdict_answer}
@@ -38,10 +38,9 @@ use Rattle.planner.specs.Overload.{overload_fault, over_count, overload_answer}
 use Rattle.planner.specs.CrewCheck.{crew_check_fault, crew_work, crew_arcs, crew_found, checked_of, crew_check_answer}
 use Rattle.planner.specs.declared.Cause.{Cause}
 use Rattle.planner.specs.declared.Cause.TheVariants.{Short}
-use Rattle.planner.specs.declared.Fault.{Fault}
-use Rattle.planner.specs.declared.Output.{Output}
 use Rattle.planner.specs.declared.Refusal.{Refusal}
-use Rattle.planner.specs.declared.Fault.TheVariants.{Fine, Refused}
+use Rattle.planner.specs.declared.Values.{Values}
+use Rattle.planner.specs.declared.Values.TheVariants.{Nothing, One, Need}
 use Rattle.planner.proofs.FaultLaws.{every_fine, every_turn}
 use Rattle.planner.proofs.OpenLaws.{count_few}
 use Rattle.planner.proofs.QuotedNeeds.{kinds_few}
@@ -49,31 +48,42 @@ use Rattle.planner.proofs.FlowLaws.{flow_few}
 use Rattle.planner.proofs.SheetLaws.{sheet_few}
 use Rattle.planner.proofs.TrimLaws.{trim_few}
 use Rattle.planner.proofs.CrewCheckLaws.{crew_fine}
-use Rattle.planner.proofs.RefusalBounds.{Small, SmallFault, verdict_refuses, needs_refuses, starts_refuses, overload_refuses, flow_refuses, sheet_refuses, trim_refuses, crew_refuses}
+use Rattle.planner.proofs.RefusalBounds.{SmallValues, Small, SmallFault, verdict_refuses, needs_refuses, starts_refuses, overload_refuses, flow_refuses, sheet_refuses, trim_refuses, crew_refuses}
 use Rattle.report_lines.specs.Report.{text_room, report_of}
 use Rattle.report_lines.proofs.ReportLength.{report_short}
-use Rattle.yaffledesk.specs.Codes.{refusal_code, verdict_code, output_code, found_code, crew_check_code, shown_word}
+use Rattle.yaffledesk.specs.Codes.{values_code, refusal_code, verdict_code, output_code, found_code, crew_check_code}
+use Rattle.yaffledesk.specs.Codes.{values_word, shown_word}
 use Rattle.yaffledesk.specs.Report.{report_fault, report_answer}
 
 -- ---- a refusal, by what it tells: a set has at most all members
 
+values_small : (v : Values) → SmallValues v → values_code v < 2 ^ 48
+values_small Nothing h = omega arith
+values_small (One n) h = omega (arith, h)
+values_small (Need k need set) h = omega (arith, h.0, h.1, count_le elements (member set))
+
 refusal_small : (r : Refusal) → Small r → refusal_code r < 2 ^ 64
-refusal_small r h = omega (arith, h.number, h.first, h.second, count_le elements (member r.set))
+refusal_small r h = omega (arith, h.number, values_small r.values h.values)
 
 -- ---- Verdict
 
 verdict_by_lem : (f : Fault) (m n : ℕ) → SmallFault f → m ≤ elements → n ≤ 8 → verdict_code (verdict_of f m n) < 2 ^ 64
-verdict_by_lem Fine m n small a b = omega arith
-verdict_by_lem (Refused c) m n small a b = refusal_small (refusal_of c) (small c refl)
+verdict_by_lem (Ok _) m n small a b = omega arith
+verdict_by_lem (Err c) m n small a b = refusal_small (refusal_of c) (small c refl)
 
 pub verdict_small : (s : List ℕ) → AreBytes s → verdict_code (verdict_answer s) < 2 ^ 64
 verdict_small s small = verdict_by_lem (verdict_fault s) (plan_in s).count (plan_in s).kinds (verdict_refuses s small) (count_few s) (kinds_few s)
 
 -- and the set that it shows has a digit for each activity that a file may have
 
+word_small : (v : Values) → SmallValues v → values_word v < 2 ^ activities
+word_small Nothing h = pow_pos activities
+word_small (One n) h = pow_pos activities
+word_small (Need k need set) h = h.2
+
 shown_by : (f : Fault) (m n : ℕ) → SmallFault f → shown_word (verdict_of f m n) < 2 ^ activities
-shown_by Fine m n small = pow_pos activities
-shown_by (Refused c) m n small = (small c refl).members
+shown_by (Ok _) m n small = pow_pos activities
+shown_by (Err c) m n small = word_small (refusal_of c).values (small c refl).values
 
 pub shown_small : (s : List ℕ) → AreBytes s → shown_word (verdict_answer s) < 2 ^ activities
 shown_small s small = shown_by (verdict_fault s) (plan_in s).count (plan_in s).kinds (verdict_refuses s small)
@@ -82,8 +92,8 @@ shown_small s small = shown_by (verdict_fault s) (plan_in s).count (plan_in s).k
 
 output_small : (f : Fault) (n : ℕ) → SmallFault f → (is_fine f ≡ true → n ≤ 1048576) → output_code (output_of f n) < 2 ^ 64
 unfolding output_code
-output_small Fine n small few = let h = few refl in omega arith
-output_small (Refused c) n small few = refusal_small (refusal_of c) (small c refl)
+output_small (Ok _) n small few = let h = few refl in omega arith
+output_small (Err c) n small few = refusal_small (refusal_of c) (small c refl)
 
 pub needs_small : (s : List ℕ) (n : ℕ) → output_code (needs_answer s n) < 2 ^ 64
 needs_small s n = output_small (needs_fault s n) (plan_in s).kinds (needs_refuses s n) (λ o. omega (arith, kinds_few s))
@@ -112,8 +122,8 @@ trim_small s small n = output_small (trim_fault s n) (record_count (trimmed_file
 report_refuses : (n : ℕ) → SmallFault (report_fault n)
 report_refuses n =
     let P : Cause → Type 0 = λ (c : Cause). Small (refusal_of c) in
-    every_turn P Fine (ltb n text_room) (Short text_room) (every_fine P)
-    (λ _ _. record { number = omega arith; first = omega arith; second = omega arith; members = rw number_none (pow_pos activities) })
+    every_turn P (Ok tt) (ltb n text_room) (Short text_room) (every_fine P)
+    (λ _ _. record { number = omega arith; values = omega arith })
 
 pub report_small : (s : List ℕ) → AreBytes s → (n : ℕ) → output_code (report_answer s n) < 2 ^ 64
 report_small s small n = output_small (report_fault n) (length (report_of s)) (report_refuses n) (λ e. omega (arith, report_short s small))
@@ -133,8 +143,8 @@ check_small g c few kinds starts =
     (λ _. omega arith))
 
 crew_by : (f : Fault) (x : Checked) → SmallFault f → (is_fine f ≡ true → found_code x < 2 ^ 64) → crew_check_code (checked_of f x) < 2 ^ 64
-crew_by Fine x small found = found refl
-crew_by (Refused c) x small found = refusal_small (refusal_of c) (small c refl)
+crew_by (Ok _) x small found = found refl
+crew_by (Err c) x small found = refusal_small (refusal_of c) (small c refl)
 
 pub crew_small : (s starts worked : List ℕ) → ((i : ℕ) → get_or starts i 0 < 2 ^ 32) → crew_check_code (crew_check_answer s starts worked) < 2 ^ 64
 unfolding crew_found

@@ -1,9 +1,10 @@
-// Answers as numbers.
+// Answers as numbers: C gets one of 64 bits (include/yaffledesk.h). (A function for each answer, as specs/Codes has
+// them.)
 ghost use Rattle.std.specs.Prelude.{◌≡◌, ◌<◌, ◌%◌, ◌^◌};
 ghost use Rattle.yaffledesk.specs.Codes.{packed, refusal_code, cause_code, verdict_code, output_code, found_code};
 ghost use Rattle.yaffledesk.specs.Codes.{crew_check_code, cause_word, shown_word};
 
-use planner::{Cause, CrewChecked, Decision, Output, Refusal};
+use planner::{Accepted, Cause, Refusal, Values};
 use schedule::Checked;
 
 // A number with its values above it.
@@ -14,14 +15,20 @@ fn pack(number: u64, rest: u64) -> u64
     number + 256 * rest
 }
 
-// A refusal's number, with its two values and its set's size above it.
+// A refusal's number, with what is returned with it above: of a set its size.
 fn refusal_code(r: Refusal) -> u64
     requires { refusal_code r < 2 ^ 64 }
     ensures { result ≡ refusal_code r }
 {
-    let set = r.set;
-    let size = set.size() as u64;
-    pack(r.number, r.first + 256 * r.second + 1099511627776 * size)
+    match r.values {
+        Values::Nothing => pack(r.number, 0),
+        Values::One(n) => pack(r.number, n as u64),
+        Values::Need { kind, need, set } => {
+            let size = set.size() as u64;
+            let rest = kind as u64 + 256 * u64::from(need) + 1099511627776 * size;
+            pack(r.number, rest)
+        }
+    }
 }
 
 fn cause_code(c: Cause) -> u64
@@ -31,26 +38,23 @@ fn cause_code(c: Cause) -> u64
     refusal_code(planner::refusal_of(c))
 }
 
-pub fn verdict_code(v: Decision) -> u64
+pub fn verdict_code(v: Result<Accepted, Cause>) -> u64
     requires { verdict_code v < 2 ^ 64 }
     ensures { result ≡ verdict_code v }
 {
     match v {
-        Decision::Accepted { activities, kinds } => pack(
-            0,
-            activities as u64 + 256 * (kinds as u64),
-        ),
-        Decision::Refused(c) => cause_code(c),
+        Ok(Accepted { activities, kinds }) => pack(0, activities as u64 + 256 * (kinds as u64)),
+        Err(c) => cause_code(c),
     }
 }
 
-pub fn output_code(o: Output) -> u64
+pub fn output_code(o: Result<usize, Cause>) -> u64
     requires { output_code o < 2 ^ 64 }
     ensures { result ≡ output_code o }
 {
     match o {
-        Output::Written(n) => pack(0, n as u64),
-        Output::Refused(c) => cause_code(c),
+        Ok(n) => pack(0, n as u64),
+        Err(c) => cause_code(c),
     }
 }
 
@@ -65,13 +69,13 @@ fn found_code(c: Checked) -> u64
     }
 }
 
-pub fn crew_check_code(c: CrewChecked) -> u64
+pub fn crew_check_code(c: Result<Checked, Cause>) -> u64
     requires { crew_check_code c < 2 ^ 64 }
     ensures { result ≡ crew_check_code c }
 {
     match c {
-        CrewChecked::Found(found) => found_code(found),
-        CrewChecked::Refused(c) => cause_code(c),
+        Ok(found) => found_code(found),
+        Err(c) => cause_code(c),
     }
 }
 
@@ -79,16 +83,17 @@ pub fn crew_check_code(c: CrewChecked) -> u64
 fn cause_word(c: Cause) -> u64
     ensures { result ≡ cause_word c % 2 ^ 64 }
 {
-    let r = planner::refusal_of(c);
-    let set = r.set;
-    set.first_word()
+    match planner::refusal_of(c).values {
+        Values::Nothing | Values::One(_) => 0,
+        Values::Need { set, .. } => set.first_word(),
+    }
 }
 
-pub fn shown_word(v: Decision) -> u64
+pub fn shown_word(v: Result<Accepted, Cause>) -> u64
     ensures { result ≡ shown_word v % 2 ^ 64 }
 {
     match v {
-        Decision::Accepted { activities, kinds } => 0,
-        Decision::Refused(c) => cause_word(c),
+        Ok(_) => 0,
+        Err(c) => cause_word(c),
     }
 }

@@ -13,4 +13,4 @@ begun a b e f = rw (f, e) (order_begun a b)
 pub returns : goal.returns
 returns c =
     let e = c.of-first.ensures in
-    (c.after_rows-j.ensures ∙ ap after_rows e, c.after_rows-p.ensures ∙ ap after_rows (begun _ _ e c.with_arcs.ensures))
+    (c.after_rows.ensures ∙ ap after_rows e, c.after_rows-2.ensures ∙ ap after_rows (begun _ _ e c.with_arcs.ensures))

@@ -13,8 +13,8 @@ returns c =
     let a = c.args in
     let e = c.of.ensures in
     let d = a.demand.now in
-    let q = c.quote-q.ensures.0 ∙ ap (λ (o : Order). quote_of a.m o d) e in (
+    let q = c.quote-quoted.ensures.0 ∙ ap (λ (o : Order). quote_of a.m o d) e in (
       ap (λ (x : Quoted). x.need) q,
-      c.first_word-word.ensures ∙ ap (λ (x : Quoted). number_of x.set % 2 ^ 64) q,
-      c.quote-q.ensures.1 ∙ ap (λ (o : Order). flow_of a.m o d) e,
+      c.first_word.ensures ∙ ap (λ (x : Quoted). number_of x.set % 2 ^ 64) q,
+      c.quote-quoted.ensures.1 ∙ ap (λ (o : Order). flow_of a.m o d) e,
     )

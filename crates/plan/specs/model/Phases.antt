@@ -1,19 +1,17 @@
 -- How the code goes about it: the steps of the loops that fill the plan's arrays, and the phases of a file.
 -- Only proofs need this: that it comes to `read_of` is `file_read` of proofs/Phases.antt.
-use Rattle.std.specs.Prelude.{not, List, ℕ, zero, suc, ◌+◌, ◌-◌, ◌*◌, set, drop, replicate}
+use Rattle.std.specs.Prelude.{not, Ok, Err, List, ℕ, zero, suc, ◌+◌, ◌-◌, ◌*◌, set, drop, replicate}
 use Rattle.words.specs.model.Loops.{upto}
 use Rattle.words.specs.Members.{first}
 use Rattle.words.specs.Tables.{table}
 use Rattle.records.specs.Bytes.{byte}
 use Rattle.order.specs.Stored.{elements, cells}
-use Rattle.plan.specs.declared.Answer.{Answer}
-use Rattle.plan.specs.declared.Answer.TheVariants.{Readable, Refused}
 use Rattle.plan.specs.declared.Cause.TheVariants.{RecordType, RepeatedArc}
-use Rattle.plan.specs.declared.Reading.{Reading}
 use Rattle.plan.specs.Records.{record_at, leading, arc_repeats, duration_in, demand_in, available_in}
 use Rattle.plan.specs.model.ArcRows.{arcs_after}
 use Rattle.plan.specs.model.Plans.{empty_plan}
-use Rattle.plan.specs.Causes.{rule, is_readable, activity_cause, crew_cause, arc_cause, first_refusal}
+use Rattle.plan.specs.model.Reads.{Reading}
+use Rattle.plan.specs.Causes.{Answer, rule, is_readable, activity_cause, crew_cause, arc_cause, first_refusal}
 
 abbrev pub put_duration : List ℕ → ℕ → List ℕ → List ℕ
 put_duration s i durations = set durations i (duration_in (record_at s i))
@@ -49,14 +47,14 @@ arcs_fine type place m t n = first n (λ i. not (is_readable (arc_in type place 
 abbrev pub refusal_of : Answer → Reading
 refusal_of answer = record { plan = empty_plan; answer = answer }
 
--- what follows where nothing was refused
+-- what follows where nothing was refused (by a test, `then_on` and `then_refused` of proofs/ReaderLoops.antt)
 abbrev pub unless_refused : Answer → Reading → Reading
-unless_refused Readable next = next
-unless_refused (Refused c) next = refusal_of (Refused c)
+unless_refused (Ok _) next = next
+unless_refused (Err c) next = refusal_of (Err c)
 
 -- the rest of the file from its crew record on, n records, after m activities
 unfoldable pub rest_of : ℕ → List ℕ → List ℕ → ℕ → List ℕ → Reading
-rest_of m duration demand zero t = refusal_of (Refused (RecordType m))
+rest_of m duration demand zero t = refusal_of (Err (RecordType m))
 rest_of m duration demand (suc n) t =
     let arcs = drop 24 t in
     let j = leading 3 n arcs in
@@ -74,7 +72,7 @@ rest_of m duration demand (suc n) t =
         job = upto (put_arc 3 arcs) j (replicate (cells elements) 0);
         extra = upto (put_arc 4 more) (n - j) (replicate (cells elements) 0);
       };
-      answer = Readable;
+      answer = Ok tt;
     })))
 
 -- a file of n records: its activities, and then the rest

@@ -1,7 +1,7 @@
 -- The waits of a file's arcs, as a table: that of the arc from element i to element j stands at
 -- elements * j + i, so that the arcs into j stand together. A plan does not hold it: whoever goes
 -- by the waits has them read.
-use Rattle.std.specs.Prelude.{List, ℕ, ◌+◌, ◌-◌, ◌*◌, ◌/◌, ◌%◌, ◌<◌, max, get_or, set}
+use Rattle.std.specs.Prelude.{List, [], ℕ, ◌+◌, ◌-◌, ◌*◌, ◌/◌, ◌%◌, ◌<◌, max, length, get_or, set}
 use Rattle.words.specs.Tables.{table}
 use Rattle.records.specs.Bytes.{byte}
 use Rattle.order.specs.Stored.{elements}
@@ -29,3 +29,7 @@ put_wait t p waits = with_wait (record_at t p) waits
 -- the first n records of t are arcs
 abbrev pub ArcRecords : ℕ → List ℕ → Type 0
 ArcRecords n t = (p : ℕ) → p < n → ArcRecord (record_at t p)
+
+-- and so is each of a list of records
+abbrev pub AreArcs : List (List ℕ) → Type 0
+AreArcs rs = (p : ℕ) → p < length rs → ArcRecord (get_or rs p [])

@@ -1,37 +1,42 @@
--- What the code holds of a plan after each of the two steps, and 7 in its turn, alone or after 8 and 9.
-use Rattle.std.specs.Prelude.{not, List, ℕ, ◌+◌, ltb}
+-- What the code holds of a plan that opens, and 7 in its turn, alone or after 8 and 9.
+use Rattle.std.specs.Prelude.{not, List, ℕ, ◌+◌, ◌≤◌, ltb}
+use Rattle.std.specs.Borrow.{Bor}
+use Rattle.order.specs.Stored.{elements}
 use Rattle.order.specs.declared.Order.{Order}
 use Rattle.plan.specs.declared.Plan.{Plan}
 use Rattle.kinds.specs.Needs.{lowest_overload}
 use Rattle.kinds.specs.declared.Overload.{Overload}
-use Rattle.planner.specs.Faults.{or_cause, or_short}
-use Rattle.planner.specs.Open.{plan_in, rows_for, rows_of, job_order_for, job_order, order_for, plan_order}
-use Rattle.planner.specs.Open.{read_fault, or_circles, fault_of}
+use Rattle.planner.specs.Faults.{Fault, or_cause, or_short}
+use Rattle.planner.specs.Open.{plan_in, rows_for, job_order_for, order_for}
 use Rattle.planner.specs.Flow.{is_kind}
 use Rattle.planner.specs.declared.Cause.TheVariants.{Overloaded, NoKind}
-use Rattle.planner.specs.declared.Fault.{Fault}
-use Rattle.planner.specs.declared.open.Read.{Read}
 use Rattle.planner.specs.declared.open.Opened.{Opened}
 
--- the file is read
-abbrev pub read_plan : List ℕ → Read
-read_plan s = record { plan = plan_in s; fault = read_fault s }
+-- a plan, with its rows and its orders
+pub record Held : Type 0 where
+  pub plan : Plan
+  pub rows : List ℕ
+  pub job : Order
+  pub order : Order
 
--- the orders of a plan are built, after a fault
-abbrev pub ordered_of : Plan → Fault → Opened
-ordered_of q f =
-    record {
-      plan = q;
-      rows = rows_for q;
-      job = job_order_for q;
-      order = order_for q;
-      fault = or_circles f (job_order_for q) (order_for q);
-    }
+abbrev pub held_of : Plan → Held
+held_of q = record { plan = q; rows = rows_for q; job = job_order_for q; order = order_for q }
 
--- both
-abbrev pub opened_of : List ℕ → Opened
-opened_of s =
-    record { plan = plan_in s; rows = rows_of s; job = job_order s; order = plan_order s; fault = fault_of s }
+-- the file is read, and the orders of its plan are built
+abbrev pub opened_of : List ℕ → Held
+opened_of s = held_of (plan_in s)
+
+-- the code holds the plan behind a reference
+abbrev pub held_in : Opened → Held
+held_in o = record { plan = o.plan.now; rows = o.rows; job = o.job; order = o.order }
+
+abbrev pub opened_by : Bor Plan → Opened
+opened_by q = record { plan = q; rows = rows_for q.now; job = job_order_for q.now; order = order_for q.now }
+
+-- a plan that is read fits: it has no more activities than there are elements, and no more kinds than the
+-- eight that there is room for
+abbrev pub Fits : Plan → Type 0
+Fits q = (q.count ≤ elements) × (q.kinds ≤ 8)
 
 -- the overload that a search finds in a plan, by its order
 abbrev pub overload_in : Order → Plan → Overload

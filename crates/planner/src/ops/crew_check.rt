@@ -6,22 +6,12 @@ ghost use Rattle.schedule.specs.Lists.{at};
 ghost use Rattle.schedule.specs.Checks.{check_of};
 ghost use Rattle.schedule.specs.model.Arrays.{crew_net, work_of, Listed};
 ghost use Rattle.planner.specs.Times.{arc_weight};
-ghost use Rattle.planner.specs.CrewCheck.{checked_of, misworked, some_misworked, bad_lists, crew_check_answer};
+ghost use Rattle.planner.specs.CrewCheck.{misworked, some_misworked, bad_lists, crew_check_answer};
 
-use crate::faults::{is_fine, or_cause};
-use crate::open::open_plan;
-use crate::{Cause, CrewChecked, Fault};
-use order::{ELEMENTS, Rows};
-
-// The answer, by the fault and what was found.
-fn checked_of(fault: Fault, value: schedule::Checked) -> CrewChecked
-    ensures { result ≡ checked_of fault value }
-{
-    match fault {
-        Fault::Fine => CrewChecked::Found(value),
-        Fault::Refused(c) => CrewChecked::Refused(c),
-    }
-}
+use crate::Cause;
+use crate::open::Opened;
+use order::ELEMENTS;
+use schedule::Checked;
 
 // Whether a worked duration does not fit the duration in the file: a milestone is worked in 0, any other activity
 // in 1 or more.
@@ -40,9 +30,8 @@ fn some_misworked(durations: &[u32; ELEMENTS], worked: &[u32]) -> bool
     requires { length worked.now ≤ elements }
     ensures { result ≡ some_misworked durations.now worked.now }
 {
-    let n = worked.len();
-    for i in 0..n {
-        if misworked(durations[i], worked[i]) {
+    for (d, w) in durations.iter().zip(worked) {
+        if misworked(*d, *w) {
             return true;
         }
     }
@@ -64,43 +53,34 @@ fn bad_lists(m: usize, durations: &[u32; ELEMENTS], starts: &[u32], worked: &[u3
 }
 
 // What is found, by arcs, demands and availabilities that were opened, and by the file's waits, which are read here.
-fn found_in(
-    s: &[u8],
-    rows: &Rows,
-    q: plan::Plan,
-    starts: &[u32],
-    worked: &[u32],
-) -> schedule::Checked
+fn found_in(s: &[u8], opened: &Opened, starts: &[u32], worked: &[u32]) -> Checked
     requires { Readable s.now × Listed starts.now worked.now }
     ensures { result ≡ check_of
-        (crew_net rows.now (arc_weight s.now (at worked.now)) starts.now)
-        (work_of q.demand q.available starts.now worked.now) }
+        (crew_net opened.now.rows (arc_weight s.now (at worked.now)) starts.now)
+        (work_of opened.now.plan.now.demand opened.now.plan.now.available starts.now worked.now) }
 {
     let mut waits = [0u32; ELEMENTS * ELEMENTS];
     plan::store_waits(s, &mut waits);
-    let demands = q.demand;
-    let available = q.available;
-    schedule::crew_check(rows, &waits, &demands, &available, starts, worked)
+    let plan = opened.plan;
+    schedule::crew_check(
+        &opened.rows,
+        &waits,
+        &plan.demand,
+        &plan.available,
+        starts,
+        worked,
+    )
 }
 
 // Crew check of a start and a worked duration for each activity of the plan.
-pub fn crew_check(s: &[u8], starts: &[u32], worked: &[u32]) -> CrewChecked
+pub fn crew_check(s: &[u8], starts: &[u32], worked: &[u32]) -> Result<Checked, Cause>
     ensures { result ≡ crew_check_answer s.now starts.now worked.now }
 {
-    let opened = open_plan(s);
-    let q = opened.plan;
-    let m = q.count;
-    let durations = q.duration;
-    let before = opened.fault;
-    let fault = or_cause(
-        before,
-        bad_lists(m, &durations, starts, worked),
-        Cause::Lists(m),
-    );
-    if !is_fine(fault) {
-        return checked_of(fault, schedule::Checked::Fits);
+    let plan = plan::read(s)?;
+    let opened = Opened::of(&plan)?;
+    let m = opened.plan.count;
+    if bad_lists(m, &opened.plan.duration, starts, worked) {
+        return Err(Cause::Lists(m));
     }
-    let rows = opened.rows;
-    let value = found_in(s, &rows, q, starts, worked);
-    checked_of(fault, value)
+    Ok(found_in(s, &opened, starts, worked))
 }

@@ -2,26 +2,19 @@
 ghost use Rattle.std.specs.Prelude.{◌≡◌, length};
 ghost use Rattle.planner.specs.Overload.{overload_answer, overload_out};
 
-use crate::Output;
-use crate::answer::output_of;
-use crate::faults::{is_fine, lowest_of, or_short};
-use crate::open::open_plan;
+use crate::Cause;
+use crate::faults::enough;
+use crate::open::Opened;
 
-// Overload: its record, to the front of the lent bytes, or none where the plan is accepted.
-pub fn overload(s: &[u8], out: &mut [u8]) -> Output
+// Overload: its record, to the front of the lent bytes, or none where the plan is accepted. Answers how many records
+// that are.
+pub fn overload(s: &[u8], out: &mut [u8]) -> Result<usize, Cause>
     ensures value { result ≡ overload_answer s.now (length out.old) }
     ensures out_after { out.new ≡ overload_out s.now out.old }
 {
-    let opened = open_plan(s);
-    let before = opened.fault;
-    let fault = or_short(before, out.len(), 24);
-    if !is_fine(fault) {
-        return output_of(fault, 0);
-    }
-    let q = opened.plan;
-    let n = q.kinds;
-    let order = opened.order;
-    let over = lowest_of(order, q);
-    let value = kinds::put_overload(out, over, n);
-    output_of(fault, value)
+    let plan = plan::read(s)?;
+    let opened = Opened::of(&plan)?;
+    enough(out.len(), 24)?;
+    let over = opened.lowest_overload();
+    Ok(kinds::put_overload(out, over))
 }

@@ -10,10 +10,9 @@ ghost use Rattle.schedule.specs.model.Arrays.{AllAtMost, starts_of};
 ghost use Rattle.planner.specs.Times.{arc_weight};
 ghost use Rattle.planner.specs.Starts.{starts_answer, starts_out, with_end};
 
-use crate::Output;
-use crate::answer::output_of;
-use crate::faults::{is_fine, or_short};
-use crate::open::open_plan;
+use crate::Cause;
+use crate::faults::enough;
+use crate::open::Opened;
 use order::{ELEMENTS, Rows};
 
 // Writes m starts and the start of the end to the front of the lent numbers.
@@ -21,9 +20,7 @@ pub fn put_starts(out: &mut [u32], starts: &[u32; ELEMENTS], m: usize, end: u32)
     requires { (m ≤ elements) × (m + 1 ≤ length out.old) }
     ensures { out.new ≡ over (m + 1) (with_end m starts.now end) out.old }
 {
-    for i in 0..m {
-        out[i] = starts[i];
-    }
+    out[..m].copy_from_slice(&starts[..m]);
     out[m] = end;
 }
 
@@ -38,24 +35,19 @@ pub fn first_starts(s: &[u8], rows: &Rows, durations: &[u32; ELEMENTS]) -> [u32;
     schedule::earliest(rows, durations, &waits)
 }
 
-// Starts: those of the m activities, and then that of the end, to the front of the lent numbers.
-pub fn starts(s: &[u8], out: &mut [u32]) -> Output
+// Starts: those of the m activities, and then that of the end, to the front of the lent numbers. Answers how many.
+pub fn starts(s: &[u8], out: &mut [u32]) -> Result<usize, Cause>
     ensures value { result ≡ starts_answer s.now (length out.old) }
     ensures out_after { out.new ≡ starts_out s.now out.old }
 {
-    let opened = open_plan(s);
-    let q = opened.plan;
-    let m = q.count;
+    let plan = plan::read(s)?;
+    let opened = Opened::of(&plan)?;
+    let m = opened.plan.count;
     let needed = m + 1;
-    let before = opened.fault;
-    let fault = or_short(before, out.len(), needed);
-    if !is_fine(fault) {
-        return output_of(fault, 0);
-    }
-    let rows = opened.rows;
-    let durations = q.duration;
-    let first = first_starts(s, &rows, &durations);
-    let end = schedule::end_start(&first, &durations, m);
+    enough(out.len(), needed)?;
+    let durations = &opened.plan.duration;
+    let first = first_starts(s, &opened.rows, durations);
+    let end = schedule::end_start(&first, durations, m);
     put_starts(out, &first, m, end);
-    output_of(fault, needed)
+    Ok(needed)
 }

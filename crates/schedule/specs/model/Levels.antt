@@ -1,6 +1,6 @@
 -- ONLY FOR THE PROOFS OF THE CODE: the words and lists by which it comes to the earliest starts, level by
 -- level, and how it finds the first period. Nothing here is needed to read what the crate promises.
-use Rattle.std.specs.Prelude.{◌≡◌, Bool, true, cond, List, ℕ, suc, ◌≤◌, ◌<◌, eqb, ltb, set}
+use Rattle.std.specs.Prelude.{◌≡◌, true, false, cond, List, ℕ, suc, ◌≤◌, ◌<◌, ltb, set, Option, Some, None}
 use Rattle.std.specs.Int.Bits.{bit_or}
 use Rattle.words.specs.Bits.{bit, minus}
 use Rattle.words.specs.Tables.{table}
@@ -8,7 +8,7 @@ use Rattle.words.specs.model.Loops.{each, upto}
 use Rattle.order.specs.Stored.{row}
 use Rattle.schedule.specs.Network.{Network, Schedule, Ranked}
 use Rattle.schedule.specs.Starts.{asked, earliest_of}
-use Rattle.schedule.specs.Checks.{Work, overloaded}
+use Rattle.schedule.specs.Checks.{Work, lowest_kind, overloaded}
 use Rattle.schedule.specs.model.Arrays.{net_of}
 use Rattle.order.specs.Stored.{elements, everyone}
 
@@ -45,13 +45,16 @@ RanksDone rows weight done r =
 -- ---- the first period. What is occupied rises only after a start,
 -- so only the periods that follow one are tried.
 
--- `best` is 0 or an overloaded period, and no later than any overloaded period that follows the
--- start of one of the first n
-pub record Best (c : Work) (n best : ℕ) : Type 0 where
-  pub real : 0 < best → overloaded c best ≡ true
-  pub least : (i : ℕ) → i < n → overloaded c (suc (c.start i)) ≡ true
-      → (0 < best) × (best ≤ suc (c.start i))
+-- what is found: nothing, or an overloaded period and the lowest kind that is exceeded in it, no later than
+-- any overloaded period that follows the start of one of the first n
+abbrev pub Soonest : Work → ℕ → Option (ℕ × ℕ) → Type 0
+Soonest c n None = (i : ℕ) → i < n → overloaded c (suc (c.start i)) ≡ false
+Soonest c n (Some f) =
+    (overloaded c f.0 ≡ true)
+    × (f.1 ≡ lowest_kind c f.0)
+    × ((i : ℕ) → i < n → overloaded c (suc (c.start i)) ≡ true → f.0 ≤ suc (c.start i))
 
--- the sooner of the periods `best` and t, where t counts if it is over, and `best` if it is not 0
-abbrev pub sooner_of : Bool → ℕ → ℕ → ℕ
-sooner_of over best t = cond over (cond (eqb best 0) t (cond (ltb t best) t best)) best
+-- the sooner of what is found and another period, each with its kind
+abbrev pub sooner_over : Option (ℕ × ℕ) → ℕ × ℕ → ℕ × ℕ
+sooner_over None o = o
+sooner_over (Some f) o = cond (ltb o.0 f.0) o f

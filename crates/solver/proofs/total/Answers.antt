@@ -1,14 +1,14 @@
 -- `total` meets its contract. The invariant: the sum is that of the entries passed.
-use Rattle.std.proofs.Common.{ℕ, ap, ◌∙◌, arith}
-use Rattle.solver.specs.model.Quote.{amount}
+use Rattle.std.proofs.Common.{ℕ, ◌+◌, ◌%◌, ◌^◌, ap, arith, get_or-take, length-take}
 use Rattle.solver.proofs.Steps.{amount_none, amount_more}
 use Rattle.solver.proofs.total.Goals as goal
 
-pub loop-i-init : goal.loop-i-init
-loop-i-init c = (amount_none _, omega arith)
+pub loop-x-init : goal.loop-x-init
+loop-x-init c = amount_none _
 
-pub loop-i-preserved : goal.loop-i-preserved
-loop-i-preserved c = (amount_more _ _ _ _ c.loop-i.invariant.0 c.wrapping_add_u32-t.ensures.value, omega arith)
-
-pub returns : goal.returns
-returns c = c.loop-i.invariant.0 ∙ ap (λ (x : ℕ). amount x c.args.a.now) (omega arith)
+pub loop-x-preserved : goal.loop-x-preserved
+loop-x-preserved c =
+    let a = c.args.a.now in
+    let l = c.loop-x in
+    amount_more a l.x-index l.t _ l.invariant
+    (ap (λ (x : ℕ). (l.t + x) % 2 ^ 32) (get_or-take c.args.m a l.x-index 0 (omega (arith, length-take c.args.m a))))

@@ -5,6 +5,7 @@ use Rattle.words.specs.Bits.{with_bit, minus}
 use Rattle.words.specs.model.Loops.{each, run}
 use Rattle.order.specs.Stored.{elements, row as set_at, put_row}
 use Rattle.order.specs.model.Places.{nonzero}
+use Rattle.solver.specs.declared.Handover.{Handover}
 
 pub record Network : Type 0 where
   pub flow : List ℕ
@@ -14,6 +15,10 @@ pub record Network : Type 0 where
 
 abbrev pub network : List ℕ → List ℕ → List ℕ → List ℕ → Network
 network f g l r = record { flow = f; givers = g; left = l; right = r }
+
+-- the handover that the code has under way
+abbrev pub network_of : Handover → Network
+network_of h = network h.flow.now h.givers h.left h.right
 
 -- a sum in 32 bits
 abbrev pub wrap : ℕ → ℕ

@@ -1,10 +1,12 @@
 -- The search for a way to hand over more, as functions on words and lists. Every element stands once on the
 -- left, as a giver, and once on the right, as a taker.
-use Rattle.std.specs.Prelude.{ℕ, Bool, cond, List, ◌==◌, bit_and, bit_or, slice_set}
+use Rattle.std.specs.Prelude.{ℕ, ◌%◌, ◌<◌, Bool, cond, List, map, ◌==◌, bit_and, bit_or, slice_set}
+use Rattle.std.specs.Prelude.{Option, Some, None, MatchOption}
 use Rattle.words.specs.Bits.{bit, minus, rest}
 use Rattle.words.specs.Members.{first}
 use Rattle.words.specs.model.Loops.{each, run}
 use Rattle.order.specs.Stored.{elements, number_of, row as set_at}
+use Rattle.solver.specs.declared.Parents.{Parents}
 use Rattle.solver.specs.declared.Search.{Search}
 
 -- what a search carries, as numbers
@@ -15,6 +17,11 @@ pub record Look : Type 0 where
   pub right : ℕ
   pub at : ℕ
 
+-- the taker that a search ended at, or elements where it has found none
+abbrev pub ended_at : Option ℕ → ℕ
+ended_at None = elements
+ended_at (Some j) = j
+
 abbrev pub looked : Search → Look
 looked s =
     record {
@@ -22,19 +29,32 @@ looked s =
       next = number_of s.next;
       left = number_of s.left;
       right = number_of s.right;
-      at = s.at;
+      at = ended_at s.at;
     }
+
+-- what it found is a taker
+abbrev pub Found : Search → Type 0
+Found s = MatchOption s.at (Unit {0}) (λ j. j < elements)
 
 -- the lowest member of a word
 abbrev pub low : ℕ → ℕ
 low w = first elements (bit w)
 
 -- each member of w gets the parent v
-abbrev pub put : ℕ → List ℕ → ℕ → List ℕ
+abbrev pub put : {A : Type 0} → A → List A → ℕ → List A
 put v parents i = slice_set parents i v
 
-abbrev pub marks : List ℕ → ℕ → ℕ → List ℕ
+abbrev pub marks : {A : Type 0} → List A → ℕ → A → List A
 marks parents w v = each elements (put v) parents w
+
+-- the taker that led to a giver, or elements where the search began there; the remainder bounds it, as that
+-- of `source` in Network bounds a giver, and a search has no other
+abbrev pub taker_of : Option ℕ → ℕ
+taker_of None = elements
+taker_of (Some j) = j % elements
+
+unfoldable pub takers_of : List (Option ℕ) → List ℕ
+takers_of lefts = map taker_of lefts
 
 -- the givers that a search has seen, and the takers that led to them
 pub record Seen : Type 0 where
@@ -58,6 +78,9 @@ pub record Reached : Type 0 where
 
 abbrev pub reached : Look → List ℕ → List ℕ → Reached
 reached s lefts rights = record { search = s; lefts = lefts; rights = rights }
+
+abbrev pub reached_of : Search → Parents → Reached
+reached_of s parents = reached (looked s) (takers_of parents.lefts) parents.rights
 
 -- the takers that the frontier's lowest giver reaches first
 abbrev pub fresh : List ℕ → Look → ℕ

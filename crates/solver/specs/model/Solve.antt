@@ -1,13 +1,12 @@
 -- The solver, as functions on lists: a start, a round (a search, and the walk back where it found
 -- something), and rounds until a search finds nothing. m is the number of elements in use: those from m on
 -- have no units, and are passed over.
-use Rattle.std.specs.Prelude.{◌≡◌, ℕ, ◌%◌, Bool, cond, List, replicate, ◌==◌, nat_le, nat_lt}
+use Rattle.std.specs.Prelude.{ℕ, ◌%◌, Bool, cond, List, replicate, ◌==◌, nat_le, nat_lt}
 use Rattle.words.specs.Bits.{bit, with_bit}
 use Rattle.words.specs.Members.{count}
 use Rattle.words.specs.model.Loops.{each, upto, run}
-use Rattle.order.specs.Stored.{elements, cells, number_of, row as set_at, put_row}
+use Rattle.order.specs.Stored.{elements, cells, row as set_at, put_row}
 use Rattle.order.specs.model.Places.{positive}
-use Rattle.solver.specs.declared.Leads.{Leads}
 use Rattle.solver.specs.model.Search.{Look, Reached, reached, begun, reach}
 use Rattle.solver.specs.model.Network.{Network, leaders, walk, augmented, handing}
 
@@ -44,10 +43,6 @@ hand_rank rows b s c = each elements (hand_over rows) s (set_at b c)
 
 unfoldable pub started : List ℕ → List ℕ → Network → Network
 started rows b s = each elements (hand_rank rows b) s (leaders elements b)
-
--- what the rounds ask of an order and its ranking
-abbrev pub LeadsOf : ℕ → List ℕ → List ℕ → Leads → Type 0
-LeadsOf m rows b l = (number_of l.numbers ≡ leaders elements b) × (number_of l.able ≡ leaders m rows)
 
 -- ---- rounds
 

@@ -9,7 +9,9 @@ abbrev pub fold : {S : Type 0} → (S → ℕ → S) → S → List ℕ → S
 fold f s [] = s
 fold f s (b ∷ bs) = fold f (f s b) bs
 
--- the step f at each member of w below k, lowest first, from the state s
+-- the step f at each member of w below k, lowest first, from the state s. (A loop that takes the lowest by
+-- hand goes by `each_again` and `each_still` of proofs/Loops.antt, and one over a set by `listed_below`,
+-- `listing_less`, `listing_again`, `listing_end` and `listing_still` of order's Listing.)
 unfoldable pub each : {S : Type 0} → ℕ → (S → ℕ → S) → S → ℕ → S
 each k f s w = fold f s (members k w)
 

@@ -2,8 +2,8 @@
 use mathlib.Core.Path.{◌≡◌, sym, ap, ◌∙◌, subst}
 use Prim.Native.Nat.{◌<◌, ◌^◌}
 use native.Mathlib.Omega.{arith}
+use Rattle.planner.specs.Faults.{CrewChecked}
 use Rattle.planner.specs.CrewCheck.{crew_check_answer}
-use Rattle.planner.specs.declared.CrewChecked.{CrewChecked}
 use Rattle.yaffledesk.specs.Codes.{crew_check_code}
 use Rattle.yaffledesk.proofs.CodeBounds.{crew_small}
 use Rattle.yaffledesk.proofs.yaffledesk_crew_check.Goals as goal

@@ -3,10 +3,10 @@ use mathlib.Core.Path.{ap, ◌∙◌}
 use Prim.Native.Nat.{◌%◌, ◌^◌}
 use native.Mathlib.Nat.{mod-eq_of_lt}
 use native.Mathlib.Omega.{arith}
-use Rattle.planner.specs.declared.Decision.{Decision}
 use Rattle.yaffledesk.specs.Codes.{shown_word}
 use Rattle.yaffledesk.proofs.CodeBounds.{shown_small}
 use Rattle.yaffledesk.proofs.yaffledesk_set.Goals as goal
+use Rattle.planner.specs.Faults.{Decision}
 
 pub returns : goal.returns
 returns c =

@@ -2,10 +2,10 @@
 use mathlib.Core.Path.{sym, ap, ◌∙◌, subst}
 use Prim.Native.Nat.{◌<◌, ◌^◌}
 use native.Mathlib.Omega.{arith}
-use Rattle.planner.specs.declared.Decision.{Decision}
 use Rattle.yaffledesk.specs.Codes.{verdict_code}
 use Rattle.yaffledesk.proofs.CodeBounds.{verdict_small}
 use Rattle.yaffledesk.proofs.yaffledesk_verdict.Goals as goal
+use Rattle.planner.specs.Faults.{Decision}
 
 pub verdict_code-requires : goal.verdict_code-requires
 verdict_code-requires c =

@@ -1,31 +1,36 @@
 -- `crew_sheet::fill::put_lines` meets its contract: each turn writes one line more (`Putting`).
+use mathlib.Core.Path.{refl, sym, ◌∙◌}
 use native.Mathlib.Omega.{arith}
 use Rattle.lines.specs.Text.{text}
 use Rattle.lines.proofs.Putting.{putting_none, putting_length, putting_next, putting_end}
 use Rattle.crew_sheet.proofs.Filling.{line_short, page_end, row_put}
 use Rattle.crew_sheet.proofs.fill.put_lines.Goals as goal
 
-pub loop-l-init : goal.loop-l-init
-loop-l-init c = putting_none
+pub loop-i-init : goal.loop-i-init
+loop-i-init c = (putting_none, refl)
 
-pub put_record-end-requires : goal.put_record-end-requires
-put_record-end-requires c =
-    let asked = c.requires in
-    let long = putting_length c.loop-l.invariant (omega arith) in
-    let short = c.loop-l.invariant.short in
-    (asked.0, asked.1, omega arith)
+pub put_record-requires : goal.put_record-requires
+put_record-requires c =
+    let long = putting_length c.loop-i.invariant.0 (omega arith) in
+    let short = c.loop-i.invariant.0.short in
+    omega arith
 
-pub loop-l-preserved : goal.loop-l-preserved
-loop-l-preserved c =
-    let a = c.args in
-    putting_next c.loop-l.invariant (omega arith) (omega arith)
-    (row_put a.flow.now a.starts.now a.n a.page (text c.loop-l.end c.loop-l.out) c.loop-l.l (omega arith) c.page_rows-rows.ensures c.put_record-end.ensures)
-    (line_short a.flow.now a.starts.now a.n a.page c.loop-l.l)
-
-pub shape_of-out : goal.shape_of-out
-shape_of-out c = putting_length c.loop-l.invariant (omega arith)
+pub loop-i-preserved : goal.loop-i-preserved
+loop-i-preserved c =
+    let f = c.args.flow.now in
+    let l = c.loop-i in
+    let page = c.args.page in
+    let put =
+    row_put f.records.now f.starts.now f.n page (text l.draft.at l.draft.out.now) l.i-index (omega arith) c.page_rows-rows.ensures c.put_record.ensures.written in
+    let next = putting_next l.invariant.0 (omega arith) (omega arith) put (line_short f.records.now f.starts.now f.n page l.i-index) in
+    (next, c.put_record.ensures.same_reference ∙ l.invariant.1)
 
 pub returns : goal.returns
 returns c =
-    let a = c.args in
-    (c.pages.ensures, page_end a.flow.now a.starts.now a.n a.page a.at c.loop-l.end a.out.now c.loop-l.out (putting_end c.loop-l.invariant (omega arith) (omega arith)).0)
+    let f = c.args.flow.now in
+    let l = c.loop-i in
+    let all = (putting_end l.invariant.0 (omega arith) (omega arith)).0 in (
+      c.pages.ensures,
+      c.out-1.given.1.1 (sym l.invariant.1)
+          ∙ page_end f.records.now f.starts.now f.n c.args.page c.args.at l.draft.at c.args.out.now l.draft.out.now all,
+    )

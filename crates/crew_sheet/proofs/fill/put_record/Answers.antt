@@ -1,29 +1,18 @@
 -- `crew_sheet::fill::put_record` meets its contract: the line of what it read.
-use native.Mathlib.Omega.{arith}
+use mathlib.Core.Path.{◌∙◌}
 use Rattle.lines.specs.Text.{text}
 use Rattle.crew_sheet.proofs.Filling.{record_put, blank_put}
 use Rattle.crew_sheet.proofs.fill.put_record.Goals as goal
 
-pub four-units-requires : goal.four-units-requires
-four-units-requires c =
-    let i = c.if-i-n.true in
-    let asked = c.requires in
-    omega arith
+pub returns-then-i-flow-clause-written : goal.returns-then-i-flow-clause-written
+returns-then-i-flow-clause-written c =
+    let f = c.args.flow.now in
+    let t = text c.args.page.now.at c.args.page.now.out.now in
+    record_put f.records.now f.starts.now f.n t c.args.i c.if-i-flow.true (c.from-from.ensures ∙ c.sender.ensures)
+    (c.from-to.ensures ∙ c.receiver.ensures) (c.from-units.ensures ∙ c.units.ensures) (c.from-start.ensures ∙ c.start_of.ensures) c.put_row.ensures.written
 
-pub start_of-start-requires : goal.start_of-start-requires
-start_of-start-requires c =
-    let i = c.if-i-n.true in
-    let asked = c.requires in
-    (omega arith, omega arith)
-
-pub returns-then-i-n : goal.returns-then-i-n
-returns-then-i-n c =
-    let a = c.args in
-    record_put a.flow.now a.starts.now a.n (text a.at a.out.now) a.i c.if-i-n.true
-    c.wide-from.ensures.0 c.wide-to.ensures.0
-    c.four-units.ensures c.start_of-start.ensures c.put_row.ensures
-
-pub returns : goal.returns
-returns c =
-    let a = c.args in
-    blank_put a.flow.now a.starts.now a.n (text a.at a.out.now) a.i c.if-i-n.false c.put_blank.ensures
+pub returns-clause-written : goal.returns-clause-written
+returns-clause-written c =
+    let f = c.args.flow.now in
+    let t = text c.args.page.now.at c.args.page.now.out.now in
+    blank_put f.records.now f.starts.now f.n t c.args.i c.if-i-flow.false c.put_blank.ensures.written

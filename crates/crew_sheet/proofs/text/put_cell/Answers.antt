@@ -14,16 +14,19 @@ use Rattle.crew_sheet.proofs.text.put_cell.Goals as goal
 first : (at : ℕ) (out : List ℕ) (w x : ℕ) {e : ℕ} {o : List ℕ} → text e o ≡ more (text at out) (column w x) → Grown at out w (column w x) e o
 first at out w x done = record { done = done; long = length_column w x }
 
-pub put_column-end-requires : goal.put_column-end-requires
-put_column-end-requires c = omega arith
+pub put_column-requires : goal.put_column-requires
+put_column-requires c = omega arith
 
 pub put_blanks-requires : goal.put_blanks-requires
 put_blanks-requires c =
     let a = c.args in
-    grown_room (first a.at a.out.now a.w a.x c.put_column-end.ensures) a.gap c.requires
+    let d = a.draft.now in
+    grown_room (first d.at d.out.now a.w a.x c.put_column.ensures.written) a.gap c.requires
 
-pub returns : goal.returns
+pub returns-clause-written : goal.returns-clause-written
 unfolding cell
-returns c =
+returns-clause-written c =
     let a = c.args in
-    (grown_more (first a.at a.out.now a.w a.x c.put_column-end.ensures) (record { done = c.put_blanks.ensures; long = length-replicate _ 32 }) c.requires).done
+    let d = a.draft.now in
+    (grown_more (first d.at d.out.now a.w a.x c.put_column.ensures.written)
+    (record { done = c.put_blanks.ensures.written; long = length-replicate _ 32 }) c.requires).done

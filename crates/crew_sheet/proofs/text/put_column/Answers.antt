@@ -1,38 +1,35 @@
 -- `crew_sheet::text::put_column` meets its contract: each turn writes one character more,
 -- from the last on (`Aligning`).
+use mathlib.Core.Path.{◌≡◌, refl, ◌∙◌}
+use Prim.Native.Nat.{◌+◌, ◌-◌}
 use native.Mathlib.Omega.{arith}
-use borrow.Author.Rules.{rules}
-use Rattle.crew_sheet.proofs.Columns.{aligning_none, aligning_next, aligning_length, aligning_end}
+use lib.ListN.{length-set}
+use Rattle.crew_sheet.proofs.Columns.{aligning_none, aligning_next, aligning_end}
 use Rattle.crew_sheet.proofs.text.put_column.Goals as goal
 
 pub loop-i-init : goal.loop-i-init
-loop-i-init c = aligning_none
+loop-i-init c =
+    let d = c.args.draft.now in
+    let e : d.at + c.args.w - d.at ≡ c.args.w = omega arith in
+    (omega arith, rw e aligning_none, refl, refl)
 
-pub overflow_sub-w : goal.overflow_sub-w
-overflow_sub-w c = c.loop-i.invariant.some
-
-pub overflow_add-out : goal.overflow_add-out
-overflow_add-out c =
-    let some = c.loop-i.invariant.some in
-    let fits = c.requires in
+pub bounds-draft-i : goal.bounds-draft-i
+bounds-draft-i c =
+    let long = c.loop-i.invariant.2 in
     omega arith
-
-pub bounds-out-at : goal.bounds-out-at
-bounds-out-at c =
-    let some = c.loop-i.invariant.some in
-    let fits = c.requires in
-    let long = aligning_length c.loop-i.invariant fits in
-    omega (arith, c.loop-i-test.true)
 
 pub loop-i-preserved : goal.loop-i-preserved
 loop-i-preserved c =
-    aligning_next c.loop-i.invariant c.requires (omega arith) (omega arith) c.figure-c.ensures
+    let d = c.args.draft.now in
+    let l = c.loop-i in
+    let less : l.i - d.at - 1 ≡ l.i - 1 - d.at = omega arith in
+    let here : d.at + (l.i - 1 - d.at) ≡ l.i - 1 = omega arith in
+    let right : d.at + c.args.w - 1 - (l.i - 1) ≡ c.args.w - (l.i - d.at) = omega arith in
+    let next = aligning_next l.invariant.1 c.requires (omega arith) (omega arith) (rw right at c.figure.ensures) in
+    (omega arith, rw (less, here) at next, length-set l.draft.out.now _ _ ∙ l.invariant.2, l.invariant.3)
 
-pub overflow_add-result : goal.overflow_add-result
-overflow_add-result c = search rules
+pub returns-clause-same_reference : goal.returns-clause-same_reference
+returns-clause-same_reference c = c.loop-i.invariant.3
 
-pub shape_of-out : goal.shape_of-out
-shape_of-out c = aligning_length c.loop-i.invariant c.requires
-
-pub returns : goal.returns
-returns c = aligning_end c.loop-i.invariant c.requires (omega arith)
+pub returns-clause-written : goal.returns-clause-written
+returns-clause-written c = aligning_end c.loop-i.invariant.1 c.requires (omega arith)

@@ -1,12 +1,12 @@
 -- `crew_sheet::text::put_row` meets its contract: four cells and the line's end, one after another.
-use mathlib.Core.Path.{◌≡◌, ◌∙◌}
+use mathlib.Core.Path.{◌≡◌, refl}
 use mathlib.Core.List.{List, ◌++◌}
 use Prim.Native.Nat.{ℕ, ◌+◌, ◌≤◌}
 use native.Mathlib.Omega.{arith}
-use lib.ListN.{length, length-set}
+use lib.ListN.{length}
 use Rattle.lines.specs.Text.{text, more}
 use Rattle.crew_sheet.specs.Sheet.{cell, row_line}
-use Rattle.crew_sheet.proofs.LinesWritten.{Grown, grown_length, grown_room, grown_one, grown_cell, length_cell}
+use Rattle.crew_sheet.proofs.LinesWritten.{Grown, grown_room, grown_more, grown_cell, length_cell}
 use Rattle.crew_sheet.proofs.text.put_row.Goals as goal
 
 -- what is written after each cell
@@ -28,46 +28,43 @@ module _ (at : ℕ) (out : List ℕ) (from to units start : ℕ) (fits : at + 41
             → Grown at out 40 (((cell 3 1 from ++ cell 3 1 to) ++ cell 8 1 units) ++ cell 10 13 start) d od
         fourth pd = grown_cell third 10 13 start pd (omega arith)
 
-pub put_cell-b-requires : goal.put_cell-b-requires
-put_cell-b-requires c =
+pub put_cell-requires-2 : goal.put_cell-requires-2
+put_cell-requires-2 c =
     let a = c.args in
-    omega (arith, grown_room (first a.at a.out.now a.from a.to a.units a.start c.requires c.put_cell-a.ensures) 37 (omega arith))
+    let d = a.row.now in
+    grown_room (first d.at d.out.now a.from a.to a.units a.start c.requires c.put_cell.ensures.written) 4 (omega arith)
 
-pub put_cell-c-requires : goal.put_cell-c-requires
-put_cell-c-requires c =
+pub put_cell-requires-3 : goal.put_cell-requires-3
+put_cell-requires-3 c =
     let a = c.args in
-    omega (arith, grown_room (second a.at a.out.now a.from a.to a.units a.start c.requires c.put_cell-a.ensures c.put_cell-b.ensures) 33 (omega arith))
+    let d = a.row.now in
+    let f = second d.at d.out.now a.from a.to a.units a.start c.requires c.put_cell.ensures.written c.put_cell-2.ensures.written in
+    grown_room f 9 (omega arith)
 
-pub put_cell-d-requires : goal.put_cell-d-requires
-put_cell-d-requires c =
+pub put_cell-requires-4 : goal.put_cell-requires-4
+put_cell-requires-4 c =
     let a = c.args in
-    omega (
-      arith,
-      grown_room (third a.at a.out.now a.from a.to a.units a.start c.requires c.put_cell-a.ensures c.put_cell-b.ensures c.put_cell-c.ensures) 24 (omega arith),
-    )
+    let d = a.row.now in
+    let f =
+    third d.at d.out.now a.from a.to a.units a.start c.requires c.put_cell.ensures.written c.put_cell-2.ensures.written
+    c.put_cell-3.ensures.written in
+    grown_room f 23 (omega arith)
 
-pub bounds-out-d : goal.bounds-out-d
-bounds-out-d c =
+pub put_bytes-requires : goal.put_bytes-requires
+put_bytes-requires c =
     let a = c.args in
-    let f = fourth a.at a.out.now a.from a.to a.units a.start c.requires c.put_cell-a.ensures c.put_cell-b.ensures c.put_cell-c.ensures c.put_cell-d.ensures in
-    omega (arith, grown_room f 1 (omega arith))
+    let d = a.row.now in
+    let f =
+    fourth d.at d.out.now a.from a.to a.units a.start c.requires c.put_cell.ensures.written c.put_cell-2.ensures.written
+    c.put_cell-3.ensures.written c.put_cell-4.ensures.written in
+    grown_room f 1 (omega arith)
 
-pub overflow_add-result : goal.overflow_add-result
-overflow_add-result c =
-    let a = c.args in
-    let f = fourth a.at a.out.now a.from a.to a.units a.start c.requires c.put_cell-a.ensures c.put_cell-b.ensures c.put_cell-c.ensures c.put_cell-d.ensures in
-    let same = grown_length f (omega arith) in
-    omega (arith, grown_room f 1 (omega arith))
-
-pub shape_of-out : goal.shape_of-out
-shape_of-out c =
-    let a = c.args in
-    let f = fourth a.at a.out.now a.from a.to a.units a.start c.requires c.put_cell-a.ensures c.put_cell-b.ensures c.put_cell-c.ensures c.put_cell-d.ensures in
-    length-set c.put_cell-d.new.out c.put_cell-d.result _ ∙ grown_length f (omega arith)
-
-pub returns : goal.returns
+pub returns-clause-written : goal.returns-clause-written
 unfolding row_line
-returns c =
+returns-clause-written c =
     let a = c.args in
-    let f = fourth a.at a.out.now a.from a.to a.units a.start c.requires c.put_cell-a.ensures c.put_cell-b.ensures c.put_cell-c.ensures c.put_cell-d.ensures in
-    (grown_one f 10 c.requires).done
+    let d = a.row.now in
+    let f =
+    fourth d.at d.out.now a.from a.to a.units a.start c.requires c.put_cell.ensures.written c.put_cell-2.ensures.written
+    c.put_cell-3.ensures.written c.put_cell-4.ensures.written in
+    (grown_more f (record { done = c.put_bytes.ensures.written; long = refl }) c.requires).done

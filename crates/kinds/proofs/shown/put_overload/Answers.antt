@@ -1,20 +1,25 @@
--- `kinds::shown::put_overload` meets its contract, by whether the kind is one of the first n.
-use mathlib.Core.Path.{◌∙◌}
+-- `kinds::shown::put_overload` meets its contract, by whether there is an overload, of a kind that a file has.
+use mathlib.Core.Path.{refl}
+use Prim.Native.Nat.{◌+◌}
 use native.Mathlib.Omega.{arith}
 use Rattle.order.proofs.Sets.{size_le}
-use Rattle.kinds.proofs.KindLoops.{shown_none, shown_one}
+use Rattle.kinds.proofs.KindLoops.{given_none, shown_none, shown_one}
 use Rattle.kinds.proofs.shown.put_overload.Goals as goal
 
-pub returns-then-kind-n : goal.returns-then-kind-n
-returns-then-kind-n c =
-    let a = c.args in
-    shown_none a.over a.n a.out.now (omega arith)
+pub returns-in_default : goal.returns-in_default
+returns-in_default c = rw c.in_default.is (given_none c.args.out.now)
 
-pub byte-requires-2 : goal.byte-requires-2
-byte-requires-2 c = omega (arith, c.size.ensures, size_le c.args.over.set)
+pub returns-then-kind-ge-KINDS : goal.returns-then-kind-ge-KINDS
+returns-then-kind-ge-KINDS c =
+    let a = c.args in
+    rw c.in-Some.is (shown_none c.in-Some.shown a.out.now (omega arith))
+
+pub overflow_cast-size : goal.overflow_cast-size
+overflow_cast-size c = omega (arith, c.size.ensures, size_le c.in-Some.shown.set)
 
 pub returns : goal.returns
 returns c =
     let a = c.args in
-    shown_one a.over a.n a.out.now c.byte.result c.byte-2.result c.first_word.result _ (omega arith) c.byte.ensures
-    (c.byte-2.ensures ∙ c.size.ensures) c.first_word.ensures c.write_overload.ensures
+    rw c.in-Some.is
+    (shown_one c.in-Some.shown a.out.now (c.in-Some.shown.kind + 1) c.size.result c.first_word.result _ (omega arith) refl
+    c.size.ensures c.first_word.ensures c.write_overload.ensures)

@@ -16,11 +16,10 @@ pub loop-i-init : goal.loop-i-init
 unfolding cells
 loop-i-init c =
     let rows = c.args.self.rows in
-    (refl, omega arith, search rules, words_fit rows (λ k. let f : Fits w64 (get_or rows k 0) = search rules in f.fits))
+    (refl, search rules, words_fit rows (λ k. let f : Fits w64 (get_or rows k 0) = search rules in f.fits))
 
 pub add_row-requires : goal.add_row-requires
-add_row-requires c =
-    (omega (arith, c.loop-i.invariant.1), c.loop-i.invariant.2, c.loop-i.invariant.3)
+add_row-requires c = (omega arith, c.loop-i.invariant.1, c.loop-i.invariant.2)
 
 pub loop-i-preserved : goal.loop-i-preserved
 loop-i-preserved c =
@@ -28,8 +27,8 @@ loop-i-preserved c =
     let i = c.loop-i.i in
     let rows = c.loop-i.rows in
     let turn = c.add_row.ensures ∙ ap (grow_from elements rows _) (number_of_lem _ c.row.ensures) in
-    let kept = from_keeps elements rows (i - 1) (row arcs (i - 1)) (c.loop-i.invariant.2, c.loop-i.invariant.3) in
-    (grow_again elements arcs i rows (omega arith) c.loop-i.invariant.0 turn, omega arith, ap length turn ∙ kept.0, subst (RowsFit elements) (sym turn) kept.1)
+    let kept = from_keeps elements rows (i - 1) (row arcs (i - 1)) (c.loop-i.invariant.1, c.loop-i.invariant.2) in
+    (grow_again elements arcs i rows (omega arith) c.loop-i.invariant.0 turn, ap length turn ∙ kept.0, subst (RowsFit elements) (sym turn) kept.1)
 
 pub returns : goal.returns
 unfolding extended_by

@@ -26,4 +26,4 @@ unfolding number_of digit
 returns c =
     let e = c.args in
     let fits : e.gain.word < 2 ^ word_bits = search rules in
-    picks e.k e.self.word e.gain.word c.wrapping_sub_u64-all.result fits (search rules) c.wrapping_sub_u64-all.ensures.value
+    picks e.k e.self.word e.gain.word c.wrapping_neg-all.result fits (search rules) c.wrapping_neg-all.ensures

@@ -11,7 +11,8 @@ use Rattle.order.specs.model.Growing.{grown}
 use Rattle.order.specs.model.Warshall.{gaining}
 use Rattle.order.specs.declared.Set.{Set}
 use Rattle.order.proofs.Stored.{number_of_lem, number_none, in_bound}
-use Rattle.order.proofs.Listing.{is_none, is_some, listed_below, listing_end}
+use Rattle.order.proofs.Sets.{given_lowest, given_some, given_none}
+use Rattle.order.proofs.Listing.{is_none}
 use Rattle.order.proofs.Growing.{fresh_start}
 use Rattle.order.proofs.Gaining.{Gains, gains_start, gains_again, gains_less}
 use Rattle.order.proofs.transitive.add_row.Goals as goal
@@ -31,36 +32,36 @@ returns-then-is_empty c =
       in_bound c.is_empty.ensures.1,
     )
 
-pub loop-w-init : goal.loop-w-init
-loop-w-init c =
+pub loop-j-init : goal.loop-j-init
+loop-j-init c =
     let rows = c.args.rows.now in
     let i = c.args.i in
     subst (λ (g : ℕ). Gains elements rows i (number_of c.minus-w.result) g (number_of c.minus-w.result)) (sym number_none)
     (gains_start elements rows c.requires.1 i c.requires.0 c.requires.2 _ (fresh_start elements i c.requires.0 rows _ (less _ _ _ _ c.minus-w.ensures c.row.ensures)).1)
 
-pub row-requires-in-loop-w : goal.row-requires-in-loop-w
-row-requires-in-loop-w c =
-    listed_below _ _ c.is_empty-in-loop-w.ensures c.loop-w-test.true c.lowest-j.ensures
+pub row-requires-in-Some : goal.row-requires-in-Some
+row-requires-in-Some c =
+    (given_lowest _ c.lowest.ensures c.in-Some.is).1
 
 pub with-requires : goal.with-requires
 with-requires c =
-    listed_below _ _ c.is_empty-in-loop-w.ensures c.loop-w-test.true c.lowest-j.ensures
+    (given_lowest _ c.lowest.ensures c.in-Some.is).1
 
-pub loop-w-smaller : goal.loop-w-smaller
-loop-w-smaller c =
-    gains_less elements c.args.rows.now c.requires.1 c.args.i c.requires.0 _ _ _ c.lowest-j.result (is_some _ _ c.is_empty-in-loop-w.ensures c.loop-w-test.true)
-    (in_bound c.is_empty-in-loop-w.ensures.1) c.loop-w.invariant c.lowest-j.ensures (more _ _ _ _ _ _ c.union-gain.ensures c.with.ensures c.row-in-loop-w.ensures)
-    (number_of_lem _ c.minus-w-in-loop-w.ensures)
+pub loop-j-smaller : goal.loop-j-smaller
+loop-j-smaller c =
+    gains_less elements c.args.rows.now c.requires.1 c.args.i c.requires.0 _ _ _ _ (given_some _ c.lowest.ensures c.in-Some.is)
+    (in_bound c.lowest.ensures.1) c.loop-j.invariant (given_lowest _ c.lowest.ensures c.in-Some.is).0 (more _ _ _ _ _ _ c.union-gain.ensures c.with.ensures c.row-in-Some.ensures)
+    (number_of_lem _ c.minus-w-in-Some.ensures)
 
-pub loop-w-preserved : goal.loop-w-preserved
-loop-w-preserved c =
-    gains_again elements c.args.rows.now c.requires.1 c.args.i c.requires.0 _ _ _ c.lowest-j.result (is_some _ _ c.is_empty-in-loop-w.ensures c.loop-w-test.true)
-    (in_bound c.is_empty-in-loop-w.ensures.1) c.loop-w.invariant c.lowest-j.ensures (more _ _ _ _ _ _ c.union-gain.ensures c.with.ensures c.row-in-loop-w.ensures)
-    (number_of_lem _ c.minus-w-in-loop-w.ensures)
+pub loop-j-preserved : goal.loop-j-preserved
+loop-j-preserved c =
+    gains_again elements c.args.rows.now c.requires.1 c.args.i c.requires.0 _ _ _ _ (given_some _ c.lowest.ensures c.in-Some.is)
+    (in_bound c.lowest.ensures.1) c.loop-j.invariant (given_lowest _ c.lowest.ensures c.in-Some.is).0 (more _ _ _ _ _ _ c.union-gain.ensures c.with.ensures c.row-in-Some.ensures)
+    (number_of_lem _ c.minus-w-in-Some.ensures)
 
 pub returns : goal.returns
 returns c =
     c.gain_all.ensures
-    ∙ listing_end _ _ c.is_empty-in-loop-w.ensures (grown elements c.args.i) (gaining elements c.args.i (number_of c.loop-w.gain) c.args.rows.now) c.loop-w.invariant.0
-    c.loop-w-test.false
+    ∙ each_end elements (grown elements c.args.i) (gaining elements c.args.i (number_of c.loop-j.gain) c.args.rows.now) _ (given_none _ c.lowest.ensures c.in_default.is)
+    (c.loop-j.invariant.0, in_bound c.lowest.ensures.1)
     ∙ (fresh_start elements c.args.i c.requires.0 c.args.rows.now _ (less _ _ _ _ c.minus-w.ensures c.row.ensures)).0

@@ -4,8 +4,8 @@ use Rattle.order.specs.Stored.{elements, number_of}
 use Rattle.order.proofs.Gaining.{Gains}
 use Rattle.order.proofs.transitive.add_row.Given as goal
 
-abbrev pub invariant-loop-w : goal.invariant-loop-w
-invariant-loop-w l = Gains elements l.rows l.i (number_of l.initial.w) (number_of l.gain) (number_of l.w)
+abbrev pub invariant-loop-j : goal.invariant-loop-j
+invariant-loop-j l = Gains elements l.rows l.i (number_of l.initial.w) (number_of l.gain) (number_of l.w)
 
-abbrev pub decreases-loop-w : goal.decreases-loop-w
-decreases-loop-w l = number_of l.w
+abbrev pub decreases-loop-j : goal.decreases-loop-j
+decreases-loop-j l = number_of l.w

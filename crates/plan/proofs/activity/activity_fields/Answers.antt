@@ -1,16 +1,13 @@
--- `plan::activity::activity_fields` meets its contract: each `return` rewrites with the test that led there.
+-- `plan::activity::activity_fields` meets its contract, by the test of the place.
 use native.Mathlib.Omega.{arith}
 use borrow.Author.Tests.{lt-ltb, le-ltb}
 use Rattle.plan.specs.Records.{activity_fields, activities}
 use Rattle.plan.proofs.activity.activity_fields.Goals as goal
 
-pub returns-then-place-ge-ACTIVITIES : goal.returns-then-place-ge-ACTIVITIES
+pub returns-then-place-lt-ACTIVITIES : goal.returns-then-place-lt-ACTIVITIES
 unfolding activity_fields
-returns-then-place-ge-ACTIVITIES c = rw (le-ltb c.args.place activities (omega arith))
+returns-then-place-lt-ACTIVITIES c = rw (lt-ltb c.args.place activities (omega arith), c.from.ensures)
 
-pub overflow_cast-number : goal.overflow_cast-number
-overflow_cast-number c = omega (arith, c.shared_slice_known-1.given 1)
-
-pub returns : goal.returns
+pub returns-else-place-lt-ACTIVITIES : goal.returns-else-place-lt-ACTIVITIES
 unfolding activity_fields
-returns c = rw (lt-ltb c.args.place activities (omega arith))
+returns-else-place-lt-ACTIVITIES c = rw (le-ltb c.args.place activities (omega arith))

@@ -1,12 +1,11 @@
 -- `plan::activity::store_demands` meets its contract: the array is what the steps so far make of it.
 use mathlib.Core.Path.{◌≡◌}
-use Prim.Native.Nat.{◌-◌, ◌≤◌}
+use mathlib.Core.List.{List}
+use Prim.Native.Nat.{ℕ}
 use Rattle.words.specs.model.Loops.{upto}
+use Rattle.plan.specs.model.Lists.{RecordsOf}
 use Rattle.plan.specs.model.Phases.{put_demands}
 use Rattle.plan.proofs.activity.store_demands.Given as goal
 
 abbrev pub invariant-loop-i : goal.invariant-loop-i
-invariant-loop-i l = (l.demands ≡ upto (put_demands l.s) l.i l.initial.demands) × (l.i ≤ l.m)
-
-abbrev pub decreases-loop-i : goal.decreases-loop-i
-decreases-loop-i l = l.m - l.i
+invariant-loop-i l = (s : List ℕ) → RecordsOf s l.activities → l.demands ≡ upto (put_demands s) l.i l.initial.demands

@@ -1,18 +1,25 @@
 -- `plan::activity::store_demands_of` meets its contract: the array is what the steps so far make of it.
+use mathlib.Core.Path.{ap, ◌∙◌}
+use mathlib.Core.List.{List}
+use Prim.Native.Nat.{ℕ, ◌+◌, ◌*◌}
 use native.Mathlib.Omega.{arith}
-use Rattle.words.proofs.Loops.{up_none, up_again, up_end}
+use lib.ListN.{get_or, set}
+use Rattle.words.proofs.Loops.{up_none}
+use Rattle.words.proofs.Tables.{get_d_table}
+use Rattle.order.specs.Stored.{elements}
+use Rattle.plan.specs.Records.{demand_in}
 use Rattle.plan.specs.model.Phases.{put_demand}
+use Rattle.plan.proofs.ReaderLoops.{up_next}
 use Rattle.plan.proofs.activity.store_demands_of.Goals as goal
 
 pub loop-k-init : goal.loop-k-init
-loop-k-init c = (up_none _ _, omega arith)
+loop-k-init c = up_none _ _
 
 pub loop-k-preserved : goal.loop-k-preserved
 loop-k-preserved c =
     let a = c.args in
-    up_again (put_demand a.r.now a.i) 8 c.loop-k.k a.demands.now (omega arith) c.loop-k.invariant (rw c.half.ensures.value)
-
-pub returns : goal.returns
-returns c =
-    let a = c.args in
-    up_end (put_demand a.r.now a.i) 8 c.loop-k.k a.demands.now (omega arith) c.loop-k.invariant
+    let k = c.loop-k.k in
+    let here = ap (λ (l : List ℕ). get_or l k 0) c.eight.ensures
+    ∙ get_d_table 8 (demand_in a.r.now) k 0 (omega arith) in
+    up_next (put_demand a.r.now a.i) k a.demands.now c.loop-k.invariant
+    (ap (λ (v : ℕ). set c.loop-k.demands (elements * k + a.i) v) here)

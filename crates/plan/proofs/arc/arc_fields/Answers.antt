@@ -1,16 +1,30 @@
--- `plan::arc::arc_fields` meets its contract: each `return` rewrites with the tests and the calls that led there.
+-- `plan::arc::arc_fields` meets its contract, by the tests of the ends.
+use mathlib.Core.Path.{sym, ◌∙◌}
+use Rattle.words.proofs.Tests.{clash}
 use Rattle.plan.specs.Records.{arc_fields}
-use Rattle.plan.proofs.ReaderLoops.{told, told_not}
+use Rattle.plan.proofs.arc.arc_fields.Goals.{then-is_end, else-is_end}
 use Rattle.plan.proofs.arc.arc_fields.Goals as goal
 
-pub returns-then-not-is_end : goal.returns-then-not-is_end
+pub returns-then-is_end-2 : goal.returns-then-is_end-2
 unfolding arc_fields
-returns-then-not-is_end c = rw (told_not c.is_end.ensures c.if-not-is_end.true)
+returns-then-is_end-2 c =
+    elim c.if-is_end.branch [
+      | then-is_end w ↦ rw (
+        sym c.is_end.ensures ∙ w.if-is_end.true,
+        sym w.is_end-then-is_end.ensures ∙ sym w.value-is
+            ∙ c.if-is_end-2.true,
+      )
+      | else-is_end w ↦ clash c.if-is_end-2.true (w.value-is ∙ w.if-is_end.false)
+    ]
 
-pub returns-then-not-is_end-2 : goal.returns-then-not-is_end-2
+pub returns-else-is_end-2 : goal.returns-else-is_end-2
 unfolding arc_fields
-returns-then-not-is_end-2 c = rw (told c.is_end.ensures c.if-not-is_end.false, told_not c.is_end-2.ensures c.if-not-is_end-2.true)
-
-pub returns : goal.returns
-unfolding arc_fields
-returns c = rw (told c.is_end.ensures c.if-not-is_end.false, told c.is_end-2.ensures c.if-not-is_end-2.false)
+returns-else-is_end-2 c =
+    elim c.if-is_end.branch [
+      | then-is_end w ↦ rw (
+        sym c.is_end.ensures ∙ w.if-is_end.true,
+        sym w.is_end-then-is_end.ensures ∙ sym w.value-is
+            ∙ c.if-is_end-2.false,
+      ) c.if-is_end-2.false
+      | else-is_end w ↦ rw (sym c.is_end.ensures ∙ w.if-is_end.false) c.if-is_end-2.false
+    ]

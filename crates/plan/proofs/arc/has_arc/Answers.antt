@@ -3,5 +3,4 @@ use Rattle.order.proofs.Stored.{number_of_lem}
 use Rattle.plan.proofs.arc.has_arc.Goals as goal
 
 pub returns : goal.returns
-returns c =
-    simp (c.has.ensures, number_of_lem c.row.result c.row.ensures, c.index-j.ensures.value, c.index-i.ensures.value)
+returns c = simp (c.has.ensures, number_of_lem c.row.result c.row.ensures, c.ends-i.ensures.from, c.ends-i.ensures.to)

@@ -6,4 +6,10 @@ use Rattle.plan.proofs.arc.store_arc.Goals as goal
 pub returns : goal.returns
 unfolding with_arc
 returns c =
-    simp (c.put_row.ensures, number_of_lem c.with-arcs.result c.with-arcs.ensures, number_of_lem c.row.result c.row.ensures, c.index-j.ensures.value, c.index-i.ensures.value)
+    simp (
+      c.put_row.ensures,
+      number_of_lem c.with-arcs.result c.with-arcs.ensures,
+      number_of_lem c.row.result c.row.ensures,
+      c.ends-i.ensures.from,
+      c.ends-i.ensures.to,
+    )

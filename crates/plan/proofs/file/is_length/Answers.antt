@@ -1,21 +1,14 @@
--- `plan::file::is_length` meets its contract: each `return` rewrites with the tests and the calls that led there.
+-- `plan::file::is_length` meets its contract.
 use native.Mathlib.Omega.{arith}
-use borrow.Author.Tests.{lt-ltb, le-ltb, lt-leb, le-leb}
+use borrow.Author.Tests.{lt-ltb, le-leb}
+use Rattle.std.proofs.lemmas.Bool.Decides.{nat_tests}
 use Rattle.plan.specs.Causes.{is_length}
 use Rattle.plan.proofs.file.is_length.Goals as goal
 
-pub returns-then-n-eq0 : goal.returns-then-n-eq0
+pub returns-then-n-le49152 : goal.returns-then-n-le49152
 unfolding is_length
-returns-then-n-eq0 c = rw (le-ltb 0 c.args.n (omega arith))
+returns-then-n-le49152 c = rw (lt-ltb 0 c.args.n (omega arith), le-leb c.args.n 49152 (omega arith))
 
-pub returns-then-n-gt49152 : goal.returns-then-n-gt49152
+pub returns-else-n-le49152 : goal.returns-else-n-le49152
 unfolding is_length
-returns-then-n-gt49152 c =
-    let n = c.args.n in
-    rw (lt-ltb 0 n (omega arith), lt-leb n 49152 (omega arith))
-
-pub returns : goal.returns
-unfolding is_length
-returns c =
-    let n = c.args.n in
-    rw (lt-ltb 0 n (omega arith), le-leb n 49152 (omega arith))
+returns-else-n-le49152 c = grind (arith, nat_tests)

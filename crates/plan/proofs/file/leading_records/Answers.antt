@@ -1,29 +1,22 @@
--- `plan::file::leading_records` meets its contract: the run of what is left, from here, equals the run
--- of the whole from the start.
-use Prim.Native.Nat.{◌*◌}
-use native.Mathlib.Nat.{sub-zero, zero-add}
-use native.Mathlib.Omega.{arith}
-use lib.ListN.{drop}
-use Rattle.plan.proofs.ReaderLoops.{leading_done, leading_turn, leading_stop}
+-- `plan::file::leading_records` meets its contract: the position is where the run of the type ends.
+use mathlib.Core.Path.{◌≡◌}
+use mathlib.Core.Bool.{true, false}
+use mathlib.Core.List.{[]}
+use Prim.Native.Nat.{ℕ, ◌≤◌, ◌<◌}
+use borrow.Author.Rules.{rules}
+use lib.ListN.{length, get_or}
+use lib.Dec.{eqb}
+use Rattle.records.specs.Bytes.{byte}
+use Rattle.plan.specs.model.Lists.{type_number}
+use Rattle.plan.proofs.RecordLists.{leading_here}
 use Rattle.plan.proofs.file.leading_records.Goals as goal
 
-pub loop-i-init : goal.loop-i-init
-loop-i-init c = (omega arith, simp (sub-zero, zero-add))
-
-pub returns-then-s-i : goal.returns-then-s-i
-returns-then-s-i c =
-    let a = c.args in
-    let e = leading_stop a.of a.n c.loop-i.i a.s.now (omega arith) c.if-s-i.true in
-    record { value = omega arith; upper_bound = omega arith }
-
-pub loop-i-preserved : goal.loop-i-preserved
-loop-i-preserved c =
-    let a = c.args in
-    let e = leading_turn a.of a.n c.loop-i.i a.s.now (omega arith) c.if-s-i.false in
-    (omega arith, omega arith)
-
-pub returns : goal.returns
-returns c =
-    let a = c.args in
-    let e = leading_done a.of a.n c.loop-i.i (drop (24 * c.loop-i.i) a.s.now) (omega arith) in
-    record { value = omega arith; upper_bound = omega arith }
+pub returns-clause-value : goal.returns-clause-value
+returns-clause-value c =
+    let rs = c.args.records.now in
+    let type = type_number c.args.of in
+    let p = c.unwrap_or.result in
+    let few : p ≤ length rs = search rules in
+    let before : (k : ℕ) → k < p → eqb (byte (get_or rs k []) 0) type ≡ true = search rules in
+    let here : p < length rs → eqb (byte (get_or rs p []) 0) type ≡ false = search rules in
+    λ s R. leading_here s rs R type p few before here

@@ -1,7 +1,6 @@
--- `planner::open::available` meets its contract: the opened plan is the one that is read.
-use mathlib.Core.Path.{ap}
-use Rattle.planner.specs.declared.open.Opened.{Opened}
+-- `planner::open::available` meets its contract: of a file that is not readable nothing is available.
+use Rattle.planner.proofs.OpenLaws.{none_available}
 use Rattle.planner.proofs.open.available.Goals as goal
 
-pub returns : goal.returns
-returns c = ap (λ (o : Opened). o.plan.available) c.open_plan-opened.ensures
+pub returns-in-Err : goal.returns-in-Err
+returns-in-Err c = none_available c.args.s.now c.in-Err.ensures

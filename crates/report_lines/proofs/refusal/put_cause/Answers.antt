@@ -1,24 +1,23 @@
--- `report_lines::refusal::put_cause` meets its contract: the number and the plain values of what the cause tells,
--- then the members of its set.
-use mathlib.Core.Path.{ap, ◌∙◌}
+-- `report_lines::refusal::put_cause` meets its contract, by what is returned with the cause's number.
+use mathlib.Core.Path.{◌∙◌}
 use native.Mathlib.Omega.{arith}
-use lib.ListN.{length-set}
-use Rattle.report_lines.specs.Lines.{refusal_numbers}
-use Rattle.report_lines.proofs.RefusalLine.{values_first}
+use Rattle.report_lines.proofs.RefusalLine.{fronts, told}
 use Rattle.report_lines.proofs.refusal.put_cause.Goals as goal
 
-pub put_members-requires : goal.put_members-requires
-put_members-requires c = (rw (length-set, length-set, length-set) (omega arith), omega (arith, c.plain_values.ensures))
+pub returns-in-Nothing : goal.returns-in-Nothing
+returns-in-Nothing c =
+    let r = c.refusal_of-r in
+    (omega arith, (fronts c.args.numbers.now r.result.number 0 0 c.requires).0 ∙ told r.ensures c.in-Nothing.is)
 
-pub returns : goal.returns
-returns c =
+pub returns-in-One : goal.returns-in-One
+returns-in-One c =
+    let r = c.refusal_of-r in
+    (omega arith, (fronts c.args.numbers.now r.result.number c.in-One.n 0 c.requires).1 ∙ told r.ensures c.in-One.is)
+
+pub returns-in-Need : goal.returns-in-Need
+returns-in-Need c =
+    let r = c.refusal_of-r in
+    let v = c.in-Need in
     let w = c.put_members.ensures in
-    let r = c.refusal_of-r.result in
-    let front = values_first c.args.numbers.now r.number r.first r.second r.values c.requires in
-    (w.0, w.1 ∙ rw (c.plain_values.ensures, front) (ap refusal_numbers c.refusal_of-r.ensures))
-
-pub bounds-numbers-1 : goal.bounds-numbers-1
-bounds-numbers-1 c = rw length-set (omega arith)
-
-pub bounds-numbers-2 : goal.bounds-numbers-2
-bounds-numbers-2 c = rw (length-set, length-set) (omega arith)
+    let front = (fronts c.args.numbers.now r.result.number v.kind c.from.result c.requires).2 in
+    (w.0, w.1 ∙ rw (front, c.from.ensures) (told r.ensures v.is))

@@ -3,8 +3,9 @@ use mathlib.Core.Path.{◌≡◌}
 use native.Mathlib.Omega.{arith}
 use lib.ListN.{length}
 use borrow.Author.Rules.{rules}
+use Rattle.lines.specs.Text.{text}
 use Rattle.report_lines.specs.Lines.{refused_numbers, refused_line, slots}
-use Rattle.report_lines.proofs.RefusalLine.{numbers_few, refused_end, refused_within}
+use Rattle.report_lines.proofs.RefusalLine.{numbers_few, refused_end}
 use Rattle.report_lines.proofs.refusal.refused_text.Goals as goal
 
 pub put_line-requires : goal.put_line-requires
@@ -12,18 +13,9 @@ put_line-requires c =
     let x = c.put_cause-n in
     let e : length x.new.numbers ≡ slots = search rules in
     let a = c.args in
-    let few = numbers_few x.result x.new.numbers (refused_numbers a.c) a.out.now x.ensures e c.requires in
+    let d = a.draft.now in
+    let few = numbers_few x.result x.new.numbers (refused_numbers a.c) (text d.at d.out.now) x.ensures e c.requires in
     omega arith
-
-pub shape_of-out : goal.shape_of-out
-shape_of-out c =
-    let x = c.put_cause-n in
-    let e : length x.new.numbers ≡ slots = search rules in
-    let a = c.args in
-    let few = numbers_few x.result x.new.numbers (refused_numbers a.c) a.out.now x.ensures e c.requires in
-    let w = c.put_line in
-    (refused_within x.result x.new.numbers (refused_numbers a.c) a.out.now x.ensures e c.requires
-    w.result w.new.out w.ensures).1
 
 pub returns : goal.returns
 unfolding refused_line
@@ -31,12 +23,8 @@ returns c =
     let x = c.put_cause-n in
     let e : length x.new.numbers ≡ slots = search rules in
     let a = c.args in
-    let few = numbers_few x.result x.new.numbers (refused_numbers a.c) a.out.now x.ensures e c.requires in
-    let w = c.put_line in
-    let within =
-    refused_within x.result x.new.numbers (refused_numbers a.c) a.out.now x.ensures e c.requires
-    w.result w.new.out w.ensures in
-    let whole =
-    refused_end x.result x.new.numbers (refused_numbers a.c) a.out.now x.ensures e c.requires
-    w.result w.new.out w.ensures in
-    record { out_after = whole; upper_bound = within.0 }
+    let d = a.draft.now in
+    let end =
+    refused_end x.result x.new.numbers (refused_numbers a.c) (text d.at d.out.now) x.ensures e c.requires
+    c.put_line.ensures.written in
+    record { same_reference = c.put_line.ensures.same_reference; written = end.0; upper_bound = end.1 }

@@ -10,20 +10,25 @@ pub put_records-requires : goal.put_records-requires
 put_records-requires c =
     let a = c.args in
     let held =
-    written_lines a.s.now c.requires.0 a.kind c.requires.1 c.requires.2 c.flow_buffer-records.result (omega arith) c.flow-written.ensures.value
-    (λ i. omega (arith, c.shared_slice_known-1.given i)) _ c.in-Written.is c.flow-written.ensures.out_after in
+    written_lines a.s.now c.requires.0 a.kind c.requires.1 c.requires.2 c.flow_buffer-records.result (omega arith) c.flow.ensures.value
+    (λ i. omega (arith, c.type_inv.s i)) _ c.in-Ok.is c.flow.ensures.out_after in
     (held.0, omega arith, omega arith)
 
-pub returns-in-Written : goal.returns-in-Written
-returns-in-Written c =
+pub returns-in-Ok : goal.returns-in-Ok
+returns-in-Ok c =
     let a = c.args in
+    let d = a.draft.now in
     let held =
-    written_lines a.s.now c.requires.0 a.kind c.requires.1 c.requires.2 c.flow_buffer-records.result (omega arith) c.flow-written.ensures.value
-    (λ i. omega (arith, c.shared_slice_known-1.given i)) _ c.in-Written.is c.flow-written.ensures.out_after in
-    record { out_after = c.put_records.ensures.out_after ∙ ap (more (text a.at a.out.now)) held.1; upper_bound = omega arith }
+    written_lines a.s.now c.requires.0 a.kind c.requires.1 c.requires.2 c.flow_buffer-records.result (omega arith) c.flow.ensures.value
+    (λ i. omega (arith, c.type_inv.s i)) _ c.in-Ok.is c.flow.ensures.out_after in
+    record {
+      same_reference = c.put_records.ensures.same_reference;
+      written = c.put_records.ensures.written ∙ ap (more (text d.at d.out.now)) held.1;
+      upper_bound = omega arith;
+    }
 
-pub returns-in-Refused : goal.returns-in-Refused
-returns-in-Refused c =
+pub returns-in_default : goal.returns-in_default
+returns-in_default c =
     let a = c.args in
-    absurd (not_refused a.s.now c.requires.0 a.kind c.requires.1 c.requires.2 c.flow_buffer-records.result (omega arith) c.flow-written.ensures.value
-    _ c.in-Refused.is)
+    absurd (not_refused a.s.now c.requires.0 a.kind c.requires.1 c.requires.2 c.flow_buffer-records.result (omega arith) c.flow.ensures.value
+    _ c.in_default.is)

@@ -9,8 +9,10 @@ head_text-requires c =
     let few = sizes_few c.args.s.now c.requires.1 c.requires.2 in
     (few.0, few.1, c.requires.3)
 
-pub returns : goal.returns
-returns c =
+pub returns-clause-written : goal.returns-clause-written
+returns-clause-written c =
     let a = c.args in
-    head_read a.s.now c.requires.1 c.requires.2 c.requires.0 _ _ (omega arith) (omega arith) c.needs.ensures.out_after c.starts.ensures.out_after
-    c.available-available.ensures (text 0 a.out.now) c.head_text.ensures
+    let d = a.draft.now in
+    head_read a.s.now c.requires.1 c.requires.2 c.requires.0 _ _ (omega arith) (omega arith)
+    c.needs.ensures.out_after c.starts.ensures.out_after
+    c.available-available.ensures (text d.at d.out.now) c.head_text.ensures.written

@@ -11,8 +11,6 @@ use Rattle.schedule.proofs.early.waiting.Given as goal
 abbrev pub step : List ℕ → ℕ → ℕ → ℕ
 step rows w i = bit_or w (row rows i)
 
-abbrev pub invariant-loop-left : goal.invariant-loop-left
-invariant-loop-left l = each elements (step l.rows) (number_of l.held) (number_of l.left) ≡ each elements (step l.rows) (number_of l.initial.held) (number_of l.initial.left)
-
-abbrev pub decreases-loop-left : goal.decreases-loop-left
-decreases-loop-left l = number_of l.left
+abbrev pub invariant-loop-i : goal.invariant-loop-i
+invariant-loop-i l =
+    each elements (step l.rows) (number_of l.held) (number_of l.i-iterator.left) ≡ each elements (step l.rows) (number_of l.initial.held) (number_of l.initial.i-iterator.left)

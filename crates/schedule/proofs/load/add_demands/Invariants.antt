@@ -1,7 +1,7 @@
 -- `schedule::load::add_demands` meets its contract. The invariant: the kinds passed have the demand added, and
 -- the others are as they were.
 use mathlib.Core.Path.{◌≡◌}
-use Prim.Native.Nat.{ℕ, ◌+◌, ◌*◌, ◌-◌, ◌^◌, ◌≤◌, ◌<◌}
+use Prim.Native.Nat.{ℕ, ◌+◌, ◌*◌, ◌^◌, ◌≤◌, ◌<◌}
 use lib.ListN.{length}
 use Rattle.order.specs.Stored.{elements}
 use Rattle.schedule.specs.Lists.{at}
@@ -10,11 +10,7 @@ use Rattle.schedule.proofs.load.add_demands.Given as goal
 
 abbrev pub invariant-loop-k : goal.invariant-loop-k
 invariant-loop-k l =
-    (l.k ≤ 8)
-    × (length l.load ≡ 8)
+    (length l.load ≡ 8)
     × ((x : ℕ) → x < l.k → at l.load x ≡ at l.initial.load x + at l.demands (elements * x + l.i))
     × ((x : ℕ) → l.k ≤ x → at l.load x ≡ at l.initial.load x)
     × AllAtMost ((l.i + 1) * 2 ^ 32) l.load
-
-abbrev pub decreases-loop-k : goal.decreases-loop-k
-decreases-loop-k l = 8 - l.k

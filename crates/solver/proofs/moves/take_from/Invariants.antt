@@ -6,8 +6,6 @@ use Rattle.order.specs.Stored.{elements, number_of}
 use Rattle.solver.specs.model.Network.{dropping}
 use Rattle.solver.proofs.moves.take_from.Given as goal
 
-abbrev pub invariant-loop-w : goal.invariant-loop-w
-invariant-loop-w l = each elements (dropping l.j) l.flow (number_of l.w) ≡ each elements (dropping l.j) l.initial.flow (number_of l.initial.w)
-
-abbrev pub decreases-loop-w : goal.decreases-loop-w
-decreases-loop-w l = number_of l.w
+abbrev pub invariant-loop-i : goal.invariant-loop-i
+invariant-loop-i l = each elements (dropping l.j) l.flow (number_of l.i-iterator.left)
+    ≡ each elements (dropping l.j) l.initial.flow (number_of l.fn.set)

@@ -5,8 +5,6 @@ use Rattle.order.specs.Stored.{number_of}
 use Rattle.solver.specs.model.Search.{marks}
 use Rattle.solver.proofs.reach.mark.Given as goal
 
-abbrev pub invariant-loop-w : goal.invariant-loop-w
-invariant-loop-w l = marks l.parents (number_of l.w) l.from ≡ marks l.initial.parents (number_of l.initial.w) l.from
-
-abbrev pub decreases-loop-w : goal.decreases-loop-w
-decreases-loop-w l = number_of l.w
+abbrev pub invariant-loop-b : goal.invariant-loop-b
+invariant-loop-b g l = marks l.parents (number_of l.b-iterator.left) l.from
+    ≡ marks l.initial.parents (number_of l.fn.set) l.from

@@ -1,45 +1,46 @@
 -- `planner::ops::crew_check::crew_check` meets its contract, from what was opened and what the schedule gave.
-use mathlib.Core.Bool.{true≢false}
-use mathlib.Core.List.{List}
-use mathlib.Core.Path.{sym, ◌∙◌}
-use Prim.Native.Nat.{ℕ}
-use Rattle.planner.specs.CrewCheck.{crew_check_fault}
-use Rattle.planner.proofs.OutputLaws.{Ends, stops, goes_on}
-use Rattle.planner.proofs.OpenLaws.{opened_few}
-use Rattle.planner.proofs.CrewCheckLaws.{ends, looks, answered}
-use Rattle.planner.proofs.ops.crew_check.crew_check.Goals.{After-is_fine}
+use mathlib.Core.Path.{sym, ap, ◌∙◌}
+use Rattle.planner.specs.Faults.{Fault}
+use Rattle.planner.specs.CrewCheck.{crew_found, checked_of}
+use Rattle.planner.proofs.OutputLaws.{passed}
+use Rattle.planner.proofs.OpenLaws.{not_read, not_opened, opened_is}
+use Rattle.planner.proofs.QuotedNeeds.{opened_fits}
+use Rattle.planner.proofs.CrewCheckLaws.{crew_before, crew_refused, looks, crew_done}
 use Rattle.planner.proofs.ops.crew_check.crew_check.Goals as goal
 
--- what the code has found when it looks at its fault
-module _ (t : After-is_fine) where
-  abbrev s : List ℕ
-  s = t.args.s.now
+pub returns-in_err-plan : goal.returns-in_err-plan
+returns-in_err-plan c =
+    let a = c.args in
+    passed c.from_residual.ensures
+    ∙ sym (ap (λ (f : Fault). checked_of f (crew_found a.s.now a.starts.now a.worked.now))
+    (crew_before a.s.now a.starts.now a.worked.now (not_read a.s.now c.in_err-plan.ensures)))
 
-  abbrev starts : List ℕ
-  starts = t.args.starts.now
-
-  abbrev worked : List ℕ
-  worked = t.args.worked.now
-
-  found : Ends (crew_check_fault s starts worked) t.or_cause-fault.result t.is_fine.result
-  found = ends s starts worked t.open_plan-opened.ensures t.bad_lists.ensures t.or_cause-fault.ensures t.is_fine.ensures
+pub returns-in_err-opened : goal.returns-in_err-opened
+returns-in_err-opened c =
+    let a = c.args in
+    passed c.from_residual-in_err-opened.ensures
+    ∙ sym (ap (λ (f : Fault). checked_of f (crew_found a.s.now a.starts.now a.worked.now))
+    (crew_before a.s.now a.starts.now a.worked.now
+    (not_opened a.s.now _ c.in_err-opened.ensures c.in_ok-plan.ensures)))
 
 pub bad_lists-requires : goal.bad_lists-requires
 bad_lists-requires c =
-    opened_few c.args.s.now c.open_plan-opened.ensures
+    (opened_fits c.args.s.now (opened_is c.args.s.now _ c.in_ok-opened.ensures c.in_ok-plan.ensures).1).0
 
-pub returns-then-not-is_fine : goal.returns-then-not-is_fine
-returns-then-not-is_fine c =
-    let t = (goal.at.returns-then-not-is_fine c).After-is_fine in
-    answered (s t) (starts t) (worked t) t.open_plan-opened.ensures _ (found t) c.checked_of.ensures
-    (λ e. absurd (true≢false (sym e ∙ stops (found t) c.if-not-is_fine.true)))
+pub returns-then-bad_lists : goal.returns-then-bad_lists
+returns-then-bad_lists c =
+    let a = c.args in
+    let held = opened_is a.s.now _ c.in_ok-opened.ensures c.in_ok-plan.ensures in
+    crew_refused a.s.now a.starts.now a.worked.now held.0 held.1 c.bad_lists.ensures c.if-bad_lists.true
 
-pub found_in-value-requires : goal.found_in-value-requires
-found_in-value-requires c =
-    let t = (goal.at.found_in-value-requires c).After-is_fine in
-    looks (s t) (starts t) (worked t) t.open_plan-opened.ensures (goes_on (found t) c.if-not-is_fine.false)
+pub found_in-requires : goal.found_in-requires
+found_in-requires c =
+    let a = c.args in
+    let held = opened_is a.s.now _ c.in_ok-opened.ensures c.in_ok-plan.ensures in
+    looks a.s.now a.starts.now a.worked.now held.0 held.1 c.bad_lists.ensures c.if-bad_lists.false
 
 pub returns : goal.returns
 returns c =
-    let t = (goal.at.returns c).After-is_fine in
-    answered (s t) (starts t) (worked t) t.open_plan-opened.ensures _ (found t) c.checked_of-2.ensures (λ _. c.found_in-value.ensures)
+    let a = c.args in
+    let held = opened_is a.s.now _ c.in_ok-opened.ensures c.in_ok-plan.ensures in
+    crew_done a.s.now a.starts.now a.worked.now held.0 held.1 c.bad_lists.ensures c.if-bad_lists.false c.found_in.ensures

@@ -15,8 +15,9 @@ pub returns : goal.returns
 returns c =
     let a = c.args in
     let listed = c.requires.1 in
-    let work = work_of a.q.demand a.q.available a.starts.now a.worked.now in
+    let work = work_of a.opened.now.plan.now.demand a.opened.now.plan.now.available a.starts.now a.worked.now in
     c.crew_check.ensures
-    ∙ ap (λ (waits : List ℕ). check_of (crew_net a.rows.now (with_waits a.worked.now waits) a.starts.now) work) c.store_waits.ensures
-    ∙ check_weights (length a.starts.now) (after a.rows.now) _ _
+    ∙ ap (λ (waits : List ℕ). check_of
+    (crew_net a.opened.now.rows (with_waits a.worked.now waits) a.starts.now) work) c.store_waits.ensures
+    ∙ check_weights (length a.starts.now) (after a.opened.now.rows) _ _
     (λ i j l h. weights_in a.s.now a.worked.now i j (omega (arith, listed.few)) (omega (arith, listed.few))) work

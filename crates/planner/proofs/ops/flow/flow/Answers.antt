@@ -1,62 +1,87 @@
 -- `planner::ops::flow::flow` meets its contract, from what was opened and what the solver hands over.
-use mathlib.Core.List.{List}
-use Prim.Native.Nat.{ℕ, ◌-◌}
+use mathlib.Core.Path.{sym, ap}
+use Prim.Native.Nat.{◌-◌}
 use native.Mathlib.Omega.{arith}
 use lib.ListN.{length}
-use Rattle.records.specs.Bytes.{AreBytes}
+use Rattle.planner.specs.Faults.{is_fine}
 use Rattle.planner.specs.Open.{plan_in}
-use Rattle.planner.specs.Flow.{flow_fault, flow_count, record_bytes, flow_out}
-use Rattle.planner.proofs.OutputLaws.{Ends, goes_on, refused, done}
-use Rattle.planner.proofs.OpenLaws.{opened_few}
-use Rattle.planner.proofs.QuotedNeeds.{opened_kinds}
-use Rattle.planner.proofs.FlowLaws.{ends, positive, flow_asked, written}
-use Rattle.planner.proofs.ops.flow.flow.Goals.{After-is_fine}
+use Rattle.planner.specs.Flow.{flow_count, record_bytes, flow_out}
+use Rattle.planner.proofs.OutputLaws.{passed, refused, done}
+use Rattle.planner.proofs.OpenLaws.{not_read, not_opened, opened_is}
+use Rattle.planner.proofs.QuotedNeeds.{opened_fits}
+use Rattle.planner.proofs.FlowLaws.{flow_turns, positive, flow_asked, written}
+use Rattle.planner.proofs.SheetFaults.{flow_before}
 use Rattle.planner.proofs.ops.flow.flow.Goals as goal
 
-pub flow_length-needed-requires : goal.flow_length-needed-requires
-flow_length-needed-requires c = opened_few c.args.s.now c.open_plan-opened.ensures
-
-pub kind_fault-fault-requires : goal.kind_fault-fault-requires
-kind_fault-fault-requires c =
-    let s = c.args.s.now in
-    (opened_few s c.open_plan-opened.ensures, opened_kinds s c.open_plan-opened.ensures)
-
--- what the code has found when it looks at its fault
-module _ (t : After-is_fine) where
-  abbrev s : List ℕ
-  s = t.args.s.now
-
-  abbrev out : List ℕ
-  out = t.args.out.now
-
-  bytes : AreBytes s
-  bytes i = let known = t.shared_slice_known-1.given in omega (arith, known i)
-
-  abbrev kind : ℕ
-  kind = t.args.kind
-
-  found : Ends (flow_fault s kind (length out)) t.kind_fault-fault.result t.is_fine.result
-  found = ends s kind out bytes t.open_plan-opened.ensures t.flow_length-needed.ensures t.kind_fault-fault.ensures t.is_fine.ensures
-
-pub returns-then-not-is_fine : goal.returns-then-not-is_fine
+pub returns-in_err-plan : goal.returns-in_err-plan
 unfolding flow_out
-returns-then-not-is_fine c =
-    let t = (goal.at.returns-then-not-is_fine c).After-is_fine in
-    let w = refused (found t) (flow_count (plan_in (s t)) (kind t - 1)) (record_bytes (plan_in (s t)) (kind t - 1)) (out t) c.if-not-is_fine.true c.output_of.ensures in
+returns-in_err-plan c =
+    let s = c.args.s.now in
+    let k = c.args.kind - 1 in
+    let w = refused (flow_count (plan_in s) k) (record_bytes (plan_in s) k) c.args.out.now
+    (flow_before s _ c.args.kind (length c.args.out.now) (not_read s c.in_err-plan.ensures))
+    (passed c.from_residual.ensures) in
     record { value = w.0; out_after = w.1 }
 
-pub overflow_sub-k : goal.overflow_sub-k
-overflow_sub-k c = let t = (goal.at.overflow_sub-k c).After-is_fine in positive (s t) (kind t) (out t) (bytes t) t.open_plan-opened.ensures (goes_on (found t) c.if-not-is_fine.false)
+pub returns-in_err-opened : goal.returns-in_err-opened
+unfolding flow_out
+returns-in_err-opened c =
+    let s = c.args.s.now in
+    let k = c.args.kind - 1 in
+    let w = refused (flow_count (plan_in s) k) (record_bytes (plan_in s) k) c.args.out.now
+    (flow_before s _ c.args.kind (length c.args.out.now) (not_opened s _ c.in_err-opened.ensures c.in_ok-plan.ensures))
+    (passed c.from_residual-in_err-opened.ensures) in
+    record { value = w.0; out_after = w.1 }
 
-pub write_records-value-requires : goal.write_records-value-requires
-write_records-value-requires c =
-    let t = (goal.at.write_records-value-requires c).After-is_fine in
-    flow_asked (s t) (kind t) (out t) (bytes t) t.open_plan-opened.ensures (goes_on (found t) c.if-not-is_fine.false)
+pub flow_length-needed-requires : goal.flow_length-needed-requires
+flow_length-needed-requires c =
+    (opened_fits c.args.s.now (opened_is c.args.s.now _ c.in_ok-opened.ensures c.in_ok-plan.ensures).1).0
+
+pub kind_shown-requires : goal.kind_shown-requires
+kind_shown-requires c =
+    opened_fits c.args.s.now (opened_is c.args.s.now _ c.in_ok-opened.ensures c.in_ok-plan.ensures).1
+
+pub returns-in_err-kind_shown : goal.returns-in_err-kind_shown
+unfolding flow_out
+returns-in_err-kind_shown c =
+    let s = c.args.s.now in
+    let k = c.args.kind - 1 in
+    let held = opened_is s _ c.in_ok-opened.ensures c.in_ok-plan.ensures in
+    let bytes = c.shared_slice_known-1.given in
+    let w = refused (flow_count (plan_in s) k) (record_bytes (plan_in s) k) c.args.out.now
+    (sym (flow_turns s c.args.kind c.args.out.now
+    (λ i. omega (arith, bytes i)) held.1 held.0 c.flow_length-needed.ensures c.in_err-kind_shown.ensures))
+    (passed c.from_residual-in_err-kind_shown.ensures) in
+    record { value = w.0; out_after = w.1 }
+
+pub overflow_sub-kind : goal.overflow_sub-kind
+overflow_sub-kind c =
+    let s = c.args.s.now in
+    let held = opened_is s _ c.in_ok-opened.ensures c.in_ok-plan.ensures in
+    let bytes = c.shared_slice_known-1.given in
+    positive s c.args.kind c.args.out.now (λ i. omega (arith, bytes i)) held.1
+    (sym (ap is_fine (flow_turns s c.args.kind c.args.out.now
+    (λ i. omega (arith, bytes i)) held.1 held.0 c.flow_length-needed.ensures c.in_ok-kind_shown.ensures)))
+
+pub write_records-requires : goal.write_records-requires
+write_records-requires c =
+    let s = c.args.s.now in
+    let held = opened_is s _ c.in_ok-opened.ensures c.in_ok-plan.ensures in
+    let bytes = c.shared_slice_known-1.given in
+    flow_asked s c.args.kind c.args.out.now (λ i. omega (arith, bytes i)) held.1
+    (sym (ap is_fine (flow_turns s c.args.kind c.args.out.now
+    (λ i. omega (arith, bytes i)) held.1 held.0 c.flow_length-needed.ensures c.in_ok-kind_shown.ensures)))
 
 pub returns : goal.returns
 unfolding flow_out
 returns c =
-    let t = (goal.at.returns c).After-is_fine in
-    let w = written (s t) (kind t) (out t) (bytes t) t.open_plan-opened.ensures (goes_on (found t) c.if-not-is_fine.false) c.write_records-value.ensures in
-    let w = done (found t) (flow_count (plan_in (s t)) (kind t - 1)) (record_bytes (plan_in (s t)) (kind t - 1)) (out t) c.if-not-is_fine.false c.output_of-2.ensures w.0 w.1 in
+    let s = c.args.s.now in
+    let k = c.args.kind - 1 in
+    let held = opened_is s _ c.in_ok-opened.ensures c.in_ok-plan.ensures in
+    let bytes = c.shared_slice_known-1.given in
+    let fine = flow_turns s c.args.kind c.args.out.now
+    (λ i. omega (arith, bytes i)) held.1 held.0 c.flow_length-needed.ensures c.in_ok-kind_shown.ensures in
+    let put = written s c.args.kind c.args.out.now (λ i. omega (arith, bytes i)) held.1
+    (sym (ap is_fine fine)) c.write_records.ensures in
+    let w = done (flow_count (plan_in s) k) (record_bytes (plan_in s) k) c.args.out.now (sym fine) put.0 put.1 in
     record { value = w.0; out_after = w.1 }

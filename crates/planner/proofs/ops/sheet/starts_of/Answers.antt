@@ -10,8 +10,13 @@ use Rattle.planner.proofs.ops.sheet.starts_of.Goals as goal
 pub end_start-end-requires : goal.end_start-end-requires
 end_start-end-requires c =
     let known = c.shared_slice_known-1.given in
-    let d = c.args.q.duration in
-    record { m_le_elements = c.requires.0; finishes_fit = subst (λ (xs : List ℕ). FinishesFit xs (by_duration d)) (sym c.first_starts-first.ensures) (starts_finish c.args.s.now (λ i. omega (arith, known i)) c.args.rows.now d c.requires.3) }
+    let d = c.args.opened.now.plan.now.duration in
+    record {
+      m_le_elements = c.requires.0;
+      finishes_fit = subst (λ (xs : List ℕ). FinishesFit xs (by_duration d))
+          (sym c.first_starts-first.ensures)
+          (starts_finish c.args.s.now (λ i. omega (arith, known i)) c.args.opened.now.rows d c.requires.3);
+    }
 
 pub returns : goal.returns
 returns c =

@@ -7,6 +7,7 @@ use lib.ListN.{get_or}
 use borrow.Author.Rules.{rules}
 use mir.Syntax.{w64}
 use mir.Val.{Fits}
+use Rattle.std.specs.Prelude.{is_some}
 use Rattle.words.specs.Bits.{bit}
 use Rattle.order.specs.Orders.{after_rows, order_in, joined_rows}
 use Rattle.order.specs.Stored.{cells}
@@ -26,8 +27,8 @@ returns-then-not-has c =
     let h = (goal.at.returns-then-not-has c).After-has in
     let a = c.args in
     let never = sym (tested h) ∙ c.if-not-has.true in record {
-      extra_after = left_held a.m a.job.now a.demand.now a.available.now a.n a.free.now a.afters.now a.extra.now a.i a.j never;
-      afters_after = c.requires.4.1;
+      extra_after = left_held a.plan.now.count a.plan.now.job a.plan.now.demand a.plan.now.available a.plan.now.kinds a.free.now a.afters.now a.extra.now a.i a.j never;
+      afters_after = c.requires.3.1;
     }
 
 pub returns-then-follows : goal.returns-then-follows
@@ -37,21 +38,22 @@ returns-then-follows c =
     let may = sym (tested h) ∙ c.if-not-has.false in
     let e = sym c.follows.ensures ∙ c.if-follows.true in
     let less = c.without_arc.ensures in record {
-      extra_after = less ∙ left_follows a.m a.job.now a.demand.now a.available.now a.n a.free.now a.afters.now a.extra.now a.i a.j may e;
-      afters_after = sym (follows_held a.job.now a.extra.now a.afters.now a.i a.j c.requires.0 c.requires.1 c.requires.4 e)
-          ∙ ap (λ (x : List ℕ). after_rows (order_in (joined_rows a.job.now x))) (sym less);
+      extra_after = less ∙ left_follows a.plan.now.count a.plan.now.job a.plan.now.demand a.plan.now.available a.plan.now.kinds a.free.now a.afters.now a.extra.now a.i a.j may e;
+      afters_after = sym (follows_held a.plan.now.job a.extra.now a.afters.now a.i a.j c.requires.0 c.requires.1 c.requires.3 e)
+          ∙ ap (λ (x : List ℕ). after_rows (order_in (joined_rows a.plan.now.job x))) (sym less);
     }
 
-pub returns-then-over-n : goal.returns-then-over-n
-returns-then-over-n c =
-    let h = (goal.at.returns-then-over-n c).After-has in
+pub returns-then-is_some : goal.returns-then-is_some
+returns-then-is_some c =
+    let h = (goal.at.returns-then-is_some c).After-has in
     let a = c.args in
-    let may = sym (tested h) ∙ c.if-not-has.false in record {
-      extra_after = left_stays a.m a.job.now a.demand.now a.available.now a.n a.free.now a.afters.now a.extra.now a.i a.j may
-          (c.joined-closed.ensures ∙ ap (joined_rows a.job.now) c.without_arc-2.ensures)
-          c.closing-order.ensures.value c.lowest_overload-over.ensures
-          (sym c.follows.ensures ∙ c.if-follows.false) c.if-over-n.true;
-      afters_after = c.requires.4.1;
+    let may = sym (tested h) ∙ c.if-not-has.false in
+    let overloaded = c.is_some.ensures ∙ ap is_some c.lowest_overload-over.ensures in record {
+      extra_after = left_stays a.plan.now.count a.plan.now.job a.plan.now.demand a.plan.now.available a.plan.now.kinds a.free.now a.afters.now a.extra.now a.i a.j may
+          (c.joined-closed.ensures ∙ ap (joined_rows a.plan.now.job) c.without_arc-2.ensures)
+          c.closing-order.ensures.value overloaded
+          (sym c.follows.ensures ∙ c.if-follows.false) c.if-is_some.true;
+      afters_after = c.requires.3.1;
     }
 
 pub returns : goal.returns
@@ -59,11 +61,12 @@ returns c =
     let h = (goal.at.returns c).After-has in
     let a = h.args in
     let may = sym (tested h) ∙ c.if-not-has.false in
-    let joins = c.joined-closed.ensures ∙ ap (joined_rows a.job.now) c.without_arc-2.ensures in record {
+    let overloaded = c.is_some.ensures ∙ ap is_some c.lowest_overload-over.ensures in
+    let joins = c.joined-closed.ensures ∙ ap (joined_rows a.plan.now.job) c.without_arc-2.ensures in record {
       extra_after = c.without_arc-2.ensures
-          ∙ left_fits a.m a.job.now a.demand.now a.available.now a.n a.free.now a.afters.now
+          ∙ left_fits a.plan.now.count a.plan.now.job a.plan.now.demand a.plan.now.available a.plan.now.kinds a.free.now a.afters.now
           a.extra.now a.i a.j may joins c.closing-order.ensures.value
-          c.lowest_overload-over.ensures c.if-over-n.false;
+          overloaded c.if-is_some.false;
       afters_after = c.closing-order.ensures.arcs_after ∙ ap (λ (x : List ℕ). after_rows (order_in x)) c.joined-closed.ensures;
     }
 

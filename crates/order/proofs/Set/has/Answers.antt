@@ -1,7 +1,0 @@
--- `Set::has` meets its contract, by the number of the word.
-use Rattle.order.specs.Stored.{number_of, set_of}
-use Rattle.order.proofs.Set.has.Goals as goal
-
-pub returns : goal.returns
-unfolding number_of set_of
-returns c = c.has.ensures

@@ -1,7 +1,0 @@
--- `planner::open::unread_fault` meets its contract, by the cases of the answer.
-use mathlib.Core.Path.{sym, ap}
-use Rattle.planner.specs.Open.{unread_fault}
-use Rattle.planner.proofs.open.unread_fault.Goals as goal
-
-pub returns-in-Refused : goal.returns-in-Refused
-returns-in-Refused c = sym (ap unread_fault c.in-Refused.is)
