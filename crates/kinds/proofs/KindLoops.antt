@@ -11,9 +11,9 @@ use lib.Dec.{ltb}
 use lib.ListN.{length, get_or, take, drop}
 use borrow.Author.Tests.{lt-ltb, le-ltb, ltb-true, ltb-false}
 use Rattle.words.specs.Tables.{over}
-use Rattle.words.proofs.Firsts.{first_stop, first_end}
+use Rattle.words.proofs.Firsts.{first_le, first_stop, first_end}
 use Rattle.words.proofs.Tables.{is_table, length_table, get_d_table, over_all}
-use Rattle.words.proofs.Tests.{cond_true, cond_false}
+use Rattle.words.proofs.Tests.{cond_true, cond_false, cond_has}
 use Rattle.order.specs.Stored.{elements, number_of}
 use Rattle.order.specs.Sets.{size_of}
 use Rattle.order.specs.Orders.{after_rows}
@@ -22,7 +22,7 @@ use Rattle.records.specs.Records.{overload_record, starting_with}
 use Rattle.records.proofs.Records.{overload_low}
 use Rattle.solver.specs.model.Quote.{quote_in}
 use Rattle.solver.specs.declared.Quoted.{Quoted}
-use Rattle.kinds.specs.Needs.{demand_at, demands_for, quote_for, needs_for, exceeds}
+use Rattle.kinds.specs.Needs.{demand_at, demands_for, quote_for, needs_for, exceeds, lowest_kind}
 use Rattle.kinds.specs.Needs.{overload_of, no_overload, lowest_overload, some_overload}
 use Rattle.kinds.specs.Needs.{shown_count, shown_bytes, given_count, given_bytes}
 use Rattle.kinds.specs.declared.Overload.{Overload}
@@ -112,6 +112,14 @@ module _ (m : ℕ) (o : Order) (demand available : List ℕ) (n : ℕ) where
 
   pub lowest_none : (k : ℕ) → NoneBelow k → k ≡ n → None ≡ some_overload n (lowest_overload m o demand available n)
   lowest_none k h e = none_is n (nowhere k h e) (omega arith)
+
+  pub lowest_le : (lowest_overload m o demand available n).kind ≤ n
+  unfolding lowest_overload
+  lowest_le =
+      let k = lowest_kind m o demand available n in
+      let found = overload_of k (quote_for m o demand k) in
+      cond_has (λ (v : Overload). v.kind ≤ n) (ltb k n) found (no_overload n)
+      (λ e. first_le n (exceeds m o demand available)) (λ e. omega arith)
 
 -- ---- its record
 

@@ -137,6 +137,12 @@ module _ (kind : ℕ) (g mark : ℕ → ℕ → ℕ) (m u : ℕ) where
       (loop_room (pair_step kind g mark u) at (m + 1) (lent n out) takes (fewer (lent n out) r) j h) in
       room_le (count + 1) (count + at j) now (omega (arith, one_some (g u (suc j)) (omega arith))) a
 
+  pub pairs_length : (n j count : ℕ) (out now : List ℕ) → Room (n + pairs_from g (m + 2) u) out → j ≤ m + 1
+      → lent count now ≡ upto (pair_step kind g mark u) j (lent n out) → length now ≡ length out
+  pairs_length n j count out now r h e =
+      ap (λ (s : Lent). length s.out) e
+      ∙ (loop_more (pair_step kind g mark u) at (m + 1) (lent n out) takes (fewer (lent n out) r) j h).long
+
   -- one pair more
   pub pair_next : (n j count to x k c : ℕ) (out now then : List ℕ) → j < m + 1
       → (lent count now ≡ upto (pair_step kind g mark u) j (lent n out)) × (j ≤ m + 1) → to ≡ suc j → x ≡ g u (suc j) → k ≡ mark u (suc j)
@@ -172,6 +178,12 @@ module _ (kind : ℕ) (g mark : ℕ → ℕ → ℕ) (m : ℕ) where
   row_room n u count out now r h e =
       subst (λ (s : Lent). Room (s.count + of u) s.out) (sym e)
       (loop_room (put_row kind g mark m) of (m + 1) (lent n out) rows_take (fewer_rows n out r) u h)
+
+  pub rows_length : (n u count : ℕ) (out now : List ℕ) → Room (n + pairs_of g (m + 2)) out → u ≤ m + 1
+      → lent count now ≡ upto (put_row kind g mark m) u (lent n out) → length now ≡ length out
+  rows_length n u count out now r h e =
+      ap (λ (s : Lent). length s.out) e
+      ∙ (loop_more (put_row kind g mark m) of (m + 1) (lent n out) rows_take (fewer_rows n out r) u h).long
 
   pub rows_end : (n u count : ℕ) (out now : List ℕ) → m + 1 ≤ u
       → (lent count now ≡ upto (put_row kind g mark m) u (lent n out)) × (u ≤ m + 1)

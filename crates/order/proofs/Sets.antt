@@ -3,17 +3,17 @@ use Rattle.std.proofs.Common.{◌≡◌, ℕ, ◌^◌, ◌<◌, ◌≤◌, Bool,
 use native.Mathlib.Decide.{dec_lt}
 use borrow.Author.Tests.{lt-ltb, le-ltb}
 use lib.Bits.{bit_or}
-use Rattle.words.specs.Bits.{bit, minus}
+use Rattle.words.specs.Bits.{bit, minus, rest}
 use Rattle.words.specs.Members.{first}
 use Rattle.std.specs.Bool.{then_some}
 use Rattle.std.specs.Option.{MatchOption}
 use Rattle.words.proofs.Bits.{bit_or_lem, bit_minus, bit_single, bit_zero}
 use Rattle.words.proofs.Counts.{count_le}
-use Rattle.words.proofs.Firsts.{first_none, first_stop}
-use Rattle.words.proofs.Members.{low_place}
+use Rattle.words.proofs.Firsts.{at_first, first_none, first_stop}
+use Rattle.words.proofs.Members.{low_place, bit_rest}
 use Rattle.words.proofs.Tests.{same_or_not}
 use Rattle.order.specs.Stored.{elements, bound, number_of, set_of}
-use Rattle.order.specs.Sets.{member, without_element, union_of, size_of, lowest_of, found}
+use Rattle.order.specs.Sets.{member, without_element, without_lowest, union_of, size_of, lowest_of, found}
 use Rattle.order.specs.declared.Set.{Set}
 use Rattle.order.proofs.Stored.{number_set, in_bound}
 
@@ -37,6 +37,9 @@ lowest_none s z = omega (arith, (first_none elements (member s)).1 (λ i h. ap (
 
 pub lowest_some : (s : Set) → (number_of s ≡ 0 → ⊥) → number_of s < bound → lowest_of s < elements
 lowest_some s n fit = low_place elements (number_of s) n (in_bound fit) refl
+
+pub lowest_member : (s : Set) → lowest_of s < elements → member s (lowest_of s) ≡ true
+lowest_member s h = at_first elements (member s) h
 
 -- ---- a first element as code hands it out: what it says
 
@@ -101,3 +104,9 @@ module _ (s : Set) {r : Option ℕ} (e : Lowest s r) where
 
 pub size_le : (s : Set) → size_of s ≤ elements
 size_le s = count_le elements (member s)
+
+-- ---- without its lowest member. The number of a set has a digit for each element: `is_empty` says so.
+
+pub member_without_lowest : (s : Set) → number_of s < bound → (i : ℕ)
+    → member (without_lowest s) i ≡ member s i && not (eqb i (lowest_of s))
+member_without_lowest s fit i = member_set (rest (number_of s)) i ∙ bit_rest elements (number_of s) i (in_bound fit)

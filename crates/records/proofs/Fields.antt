@@ -10,6 +10,11 @@ use lib.Seq.{get_or-drop}
 use Rattle.records.specs.Bytes.{byte, field, AreBytes}
 use Rattle.records.specs.Records.{bytes}
 
+pub length_bytes : (n x : ℕ) → length (bytes n x) ≡ n
+unfolding bytes
+length_bytes zero x = refl
+length_bytes (suc n) x = ap suc (length_bytes n (x / 256))
+
 power_pos : (n : ℕ) → 0 < 256 ^ n
 power_pos zero = omega (arith, pow-zero 256)
 power_pos (suc n) = omega (arith, pow-suc 256 n, power_pos n)

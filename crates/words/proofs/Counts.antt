@@ -27,6 +27,13 @@ unfolding count
 count_le zero p = zero-le
 count_le (suc n) p = let ih = count_le n (λ i. p (suc i)) in let l = tally_le (p 0) in omega arith
 
+pub count_none : (n : ℕ) (p : ℕ → Bool) → ((i : ℕ) → i < n → p i ≡ false) → count n p ≡ 0
+unfolding count
+count_none zero p none = refl
+count_none (suc n) p none =
+    ap₂ (λ (b : Bool) (m : ℕ). tally b + m) (none 0 (omega arith))
+    (count_none n (λ i. p (suc i)) (λ i h. none (suc i) (omega arith)))
+
 -- the count of two ranges, one after the other
 pub count_cat : (m n : ℕ) (p : ℕ → Bool) → count (m + n) p ≡ count m p + count n (λ i. p (m + i))
 unfolding count

@@ -9,6 +9,7 @@ use native.Mathlib.Numerals.{add-one}
 use lib.Dec.{ltb}
 use lib.ListN.{length, get_or, set, take, drop, replicate, length-set, length-replicate}
 use lib.Seq.{ext_get_or, get_or-set_same, get_or-set_other, paste-suc, length-take-le, take-length, take_at}
+use borrow.Author.Count.{below_more}
 use borrow.Author.Tests.{ltb-true, ltb-false}
 use Rattle.words.specs.Tables.{table, over}
 use Rattle.words.specs.model.Loops.{upto, update}
@@ -28,6 +29,14 @@ get_d_table (suc n) f (suc i) d h = get_d_table n (λ i. f (suc i)) i d (omega a
 -- a list is a table if it is as long and agrees at each place
 pub is_table : {A : Type 0} (n : ℕ) (f : ℕ → A) (l : List A) (d : A) → length l ≡ n → ((i : ℕ) → i < n → get_or l i d ≡ f i) → l ≡ table n f
 is_table n f l d e at = ext_get_or d l (table n f) (e ∙ sym (length_table n f)) (λ i h. at i (omega arith) ∙ sym (get_d_table n f i d (omega arith)))
+
+-- one store of a loop that fills a list from the front
+pub stored_next :
+    {A : Type 0} (d : A) (f : ℕ → A) (xs : List A) (i : ℕ) (v : A) → i < length xs
+    → ((k : ℕ) → k < i → get_or xs k d ≡ f k) → v ≡ f i → (k : ℕ) → k < i + 1 → get_or (set xs i v) k d ≡ f k
+stored_next {A} d f xs i v l h e =
+    below_more (λ k. get_or (set xs i v) k d ≡ f k) i (λ k m. get_or-set_other xs i k v d (omega arith) ∙ h k m)
+    (get_or-set_same xs i v d l ∙ e)
 
 -- ---- a list written over the start of another
 
