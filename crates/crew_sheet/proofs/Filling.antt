@@ -9,6 +9,7 @@ use lib.ListN.{length, get_or, drop, length-append}
 use borrow.Author.Tests.{ltb-true, ltb-false, lt-ltb, le-ltb}
 use Rattle.words.proofs.Tests.{by_test}
 use Rattle.words.proofs.Tables.{get_d_table}
+use Rattle.records.specs.Bytes.{field}
 use Rattle.records.specs.Records.{joined, starting_with, from_of, to_of, units_of}
 use Rattle.records.proofs.Runs.{length_joined}
 use Rattle.lines.specs.Text.{Text, text, more}
@@ -17,6 +18,14 @@ use Rattle.crew_sheet.specs.Sheet.{line_bytes, page_records, page_bytes, start_o
 use Rattle.crew_sheet.specs.Underway.{onto}
 use Rattle.crew_sheet.proofs.LinesWritten.{length_row, length_blank, length_head}
 use Rattle.crew_sheet.proofs.PageRecords.{rows_of}
+
+-- a field of four bytes, by its halves
+pub field_halves : (r : List ℕ) (at : ℕ) {a b : ℕ} → a ≡ field r at 2 → b ≡ field r (at + 2) 2
+    → a + 65536 * b ≡ field r at 4
+unfolding field
+field_halves r at p q =
+    let e : at + 1 + 1 ≡ at + 2 = omega arith in
+    rw (p, q, e) (omega arith)
 
 module _ (flow starts : List ℕ) (n : ℕ) where
   pub record_some : (i : ℕ) → i < n → {a b u s : ℕ} → a ≡ from_of flow i → b ≡ to_of flow i → u ≡ units_of flow i → s ≡ start_of flow starts i

@@ -37,7 +37,8 @@ impl Handovers<'_> {
         self.records[24 * i + 3]
     }
 
-    // Its units.
+    // Its units. (`field_halves` is cited for the wrong version that reads two halves: it is refused for its bytes.)
+    #[tactic(auto, using(crate::proofs::Filling::field_halves))]
     pub fn units(&self, i: usize) -> u32
         requires { i < self.now.n }
         ensures { result ≡ units_of self.now.records.now i }
