@@ -38,7 +38,9 @@ pub fn put_needs(out: &mut [u32], order: Order, m: usize, demand: &[u32; 8 * ELE
     }
 }
 
-// The lowest of the first n kinds that needs more than there is, or none.
+// The lowest of the first n kinds that needs more than there is, or none. (Not inlined: in Trim, which asks it twice,
+// its table of units would take the stack twice.)
+#[inline(never)]
 pub fn lowest_overload(
     order: Order,
     m: usize,
