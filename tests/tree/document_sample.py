@@ -21,7 +21,8 @@ FILES = {
     "crates/words/proofs/Wide.antt": f"-- {WIDE}{WIDE[:10]}\n",
     "crates/words/must-fail/a.edit": f"refuses: words::a, words::b\nwrong: x\nfile: src/a.rt\nold: a\nnew: {WIDE * 2}",
     "crates/promises/specs/PriceList.antt": "-- why\nuse Rattle.words.specs.Few.{\n  a,\n}\n\none : 1\none = 1\n",
-    "crates/words/specs/Few.antt": "two : 2\n",
+    "crates/words/specs/Few.antt": "use Rattle.planner.specs.Faults.{a}\ntwo : 2\n",
+    "crates/planner/specs/Faults.antt": "",
     "tests/old/run": "",
     "tests/command/expected/list": WIDE * 2,
 }
@@ -34,8 +35,9 @@ SAID = {
         "docs/MAP.md does not name tests/old",
         "docs/DECISIONS.md does not link to decisions/two.md",
     ],
-    "counted": ["(3, 2)", "(1, 2)", "2", "1"],
-    "figures": ["README.md does not say: 3 lines of definitions in 2 files"],
+    "counted": ["(3, 3)", "(1, 2)", "2", "1"],
+    "figures": ["README.md does not say: 3 lines of definitions in 3 files"],
+    "coded": ["crates/planner/specs/Faults.antt says what our code does"],
     "widths": [
         "crates/words/proofs: 0 lines are too wide, and the list still has 1",
         "crates/words/specs: 1 lines are too wide, and 0 may be",
@@ -49,7 +51,9 @@ def said(root, names):
     yield "unlisted", documents.unlisted(root)
     counts = figures.reached(root, ["PriceList"]), figures.edits(root), figures.crates(root)
     yield "counted", map(str, (*counts, len(figures.prove.rests_on("words", root))))
-    yield "figures", [next(figures.faults(root))]
+    found = list(figures.faults(root))
+    yield "figures", found[:1]
+    yield "coded", found[-1:]
     yield "widths", widths.faults(root, names, "1 .\n1 crates/words/proofs\n")
 
 

@@ -16,11 +16,14 @@ USE = re.compile(r"^use Rattle\.(\w+)\.specs\.([A-Za-z_.]+?)(?:\.\{| as |\s|$)",
 # a list of names may be laid out over several lines
 IMPORT = re.compile(r"^use [^{\n]*(?:\{[^}]*\})?.*$", re.M)
 STATEMENTS = "crates/promises/specs/{}.antt"
+# of planner's definitions, those that the promises are said with (specs/Lib.antt there); the others say what the
+# operations do, as `model` does
+PROMISED = {"Results", "Numbers", "Answers", "File", "Times"}
 
 
-def reached(root, starts):
-    """How many lines of definitions in how many files statements reach by `use`. Comments, imports and blank lines do
-    not count, nor do the types that the toolchain makes of the code (`declared`)."""
+def reached_files(root, starts):
+    """The files of definitions that statements reach by `use`, each with its lines. Comments, imports and blank lines
+    do not count, nor do the types that the toolchain makes of the code (`declared`)."""
     lines, todo = {}, [root / STATEMENTS.format(name) for name in starts]
     while todo:
         path = todo.pop()
@@ -32,7 +35,21 @@ def reached(root, starts):
                 todo.append(root / "crates" / crate / "specs" / (name.replace(".", "/") + ".antt"))
         rest = IMPORT.sub("", text).splitlines()
         lines[path] = sum(bool(line.strip()) and not line.strip().startswith("--") for line in rest)
+    return lines
+
+
+def reached(root, starts):
+    """How many lines of definitions in how many files statements reach."""
+    lines = reached_files(root, starts)
     return sum(lines.values()), len(lines)
+
+
+def coded(root):
+    """The files that say what our code does, and that the statements of the demands and of trim reach all the same."""
+    for path in sorted(reached_files(root, ["PriceList", "Demands", "Trim"])):
+        crate, *inside = path.relative_to(root / "crates").with_suffix("").parts
+        if "model" in inside or (crate == "planner" and inside[-1] not in PROMISED):
+            yield path.relative_to(root)
 
 
 def edits(root):
@@ -63,3 +80,5 @@ def faults(root):
     for document, words in wanted(root):
         if words not in " ".join((root / document).read_text().split()):
             yield f"{document} does not say: {words}"
+    for path in coded(root):
+        yield f"{path} says what our code does, and the promises reach it"

@@ -9,7 +9,8 @@ use Rattle.std.specs.Prelude.{Ok, Err}
 use Rattle.words.specs.Tables.{over}
 use Rattle.words.proofs.Tables.{over_all}
 use Rattle.crew_sheet.specs.Sheet.{page_bytes}
-use Rattle.planner.specs.Faults.{Fault, Output, is_fine}
+use Rattle.planner.specs.Faults.{Fault, is_fine}
+use Rattle.planner.specs.Results.{Output}
 use Rattle.planner.specs.Output.{output_of, lent_after}
 use Rattle.planner.specs.Flow.{kind_fault}
 use Rattle.planner.specs.Sheet.{is_page, sheet_pages, sheet_fault}

@@ -11,7 +11,8 @@ use Rattle.std.proofs.lemmas.Result.{err_from_is_err_and}
 use Rattle.words.specs.Tables.{over}
 use Rattle.words.proofs.Tables.{over_all}
 use Rattle.words.proofs.Tests.{cond_true, cond_false}
-use Rattle.planner.specs.Faults.{Fault, Output, is_fine}
+use Rattle.planner.specs.Faults.{Fault, is_fine}
+use Rattle.planner.specs.Results.{Output}
 use Rattle.planner.specs.Output.{output_of, lent_after}
 use Rattle.planner.specs.declared.Cause.{Cause}
 

@@ -18,7 +18,8 @@ use Rattle.crew_sheet.proofs.Fronts.{page_front}
 use Rattle.plan.specs.Meaning.{Readable}
 use Rattle.schedule.specs.model.Arrays.{AllAtMost}
 use Rattle.kinds.specs.model.Writing.{lent}
-use Rattle.planner.specs.Faults.{Fault, Output, is_fine, or_cause}
+use Rattle.planner.specs.Faults.{Fault, is_fine, or_cause}
+use Rattle.planner.specs.Results.{Output}
 use Rattle.planner.specs.Open.{plan_in, rows_of, Opens}
 use Rattle.planner.specs.Output.{output_of, lent_after}
 use Rattle.planner.specs.Need.{is_overloaded}

@@ -6,7 +6,7 @@ use Rattle.std.specs.Prelude.{List, [], ◌∷◌, ℕ, get_or, Ok, Err}
 use Rattle.plan.specs.declared.Cause.{Cause as Unread}
 use Rattle.schedule.specs.declared.Checked.{Checked}
 use Rattle.schedule.specs.declared.Checked.TheVariants.{Fits, Broken, Overload}
-use Rattle.planner.specs.Faults.{Decision, Output, CrewChecked}
+use Rattle.planner.specs.Results.{Decision, Output, CrewChecked}
 use Rattle.planner.specs.declared.Cause.{Cause}
 use Rattle.planner.specs.declared.Cause.TheVariants.{Unreadable}
 use Rattle.planner.specs.Numbers.{numbers_of}

@@ -7,7 +7,8 @@ use Rattle.schedule.specs.Checks.{Work, check_of}
 use Rattle.schedule.specs.model.Arrays.{crew_net, work_of}
 use Rattle.schedule.specs.declared.Checked.{Checked}
 use Rattle.planner.specs.Times.{arc_weight}
-use Rattle.planner.specs.Faults.{Fault, CrewChecked, outcome, or_cause}
+use Rattle.planner.specs.Faults.{Fault, outcome, or_cause}
+use Rattle.planner.specs.Results.{CrewChecked}
 use Rattle.planner.specs.Open.{plan_in, rows_of, fault_of}
 use Rattle.planner.specs.declared.Cause.TheVariants.{Lists}
 

@@ -9,7 +9,8 @@ use Rattle.solver.specs.model.Quote.{flow_of}
 use Rattle.kinds.specs.Needs.{demands_for}
 use Rattle.kinds.specs.Flows.{mark_of, flow_bytes, pairs_of}
 use Rattle.planner.specs.File.{flow_length}
-use Rattle.planner.specs.Faults.{Fault, Output, or_cause, or_short}
+use Rattle.planner.specs.Faults.{Fault, or_cause, or_short}
+use Rattle.planner.specs.Results.{Output}
 use Rattle.planner.specs.Open.{plan_in, job_order_for, order_for, fault_of}
 use Rattle.planner.specs.Output.{output_of, lent_after}
 use Rattle.planner.specs.Need.{demand_for, available_for, need_for, or_overloaded}

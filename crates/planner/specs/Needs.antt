@@ -1,7 +1,8 @@
 -- Needs: what it answers, and what the lent numbers then hold.
 use Rattle.std.specs.Prelude.{List, ℕ, length}
 use Rattle.words.specs.Tables.{table}
-use Rattle.planner.specs.Faults.{Fault, Output, or_short}
+use Rattle.planner.specs.Faults.{Fault, or_short}
+use Rattle.planner.specs.Results.{Output}
 use Rattle.planner.specs.Open.{plan_in, fault_of}
 use Rattle.planner.specs.Output.{output_of, lent_after}
 use Rattle.planner.specs.Need.{need_for}

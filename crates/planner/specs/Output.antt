@@ -1,6 +1,7 @@
 -- How the operations that write end (`Ends`, `stops`, `goes_on`, `refused`, `done`, `done_over` of Endings).
 use Rattle.std.specs.Prelude.{cond, List, ◌++◌, ℕ, length, drop}
-use Rattle.planner.specs.Faults.{Fault, Output, outcome, is_fine}
+use Rattle.planner.specs.Faults.{Fault, outcome, is_fine}
+use Rattle.planner.specs.Results.{Output}
 
 -- so many numbers or records are written (of a sheet: so many pages there are), or the cause of the refusal
 abbrev pub output_of : Fault → ℕ → Output

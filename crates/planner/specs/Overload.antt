@@ -4,7 +4,8 @@ use Rattle.order.specs.Stored.{number_of}
 use Rattle.order.specs.Sets.{size_of}
 use Rattle.records.specs.Records.{overload_record}
 use Rattle.plan.specs.declared.Plan.{Plan}
-use Rattle.planner.specs.Faults.{Fault, Output, or_short}
+use Rattle.planner.specs.Faults.{Fault, or_short}
+use Rattle.planner.specs.Results.{Output}
 use Rattle.planner.specs.Open.{plan_in, fault_of}
 use Rattle.planner.specs.Output.{output_of, lent_after}
 use Rattle.planner.specs.Need.{need_for, over_kind, is_overloaded, shown_set}

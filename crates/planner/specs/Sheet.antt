@@ -2,7 +2,8 @@
 -- Quotations are from there.
 use Rattle.std.specs.Prelude.{Bool, not, List, ℕ, ◌-◌, length, Ok}
 use Rattle.crew_sheet.specs.Sheet.{page_bytes, pages_of, sheet_page}
-use Rattle.planner.specs.Faults.{Fault, Output, or_cause}
+use Rattle.planner.specs.Faults.{Fault, or_cause}
+use Rattle.planner.specs.Results.{Output}
 use Rattle.planner.specs.Open.{plan_in}
 use Rattle.planner.specs.Output.{output_of, lent_after}
 use Rattle.planner.specs.Starts.{start_numbers}

@@ -4,7 +4,8 @@ use Rattle.words.specs.Tables.{table}
 use Rattle.schedule.specs.Starts.{end_of}
 use Rattle.schedule.specs.model.Arrays.{starts_of}
 use Rattle.schedule.specs.Lists.{at}
-use Rattle.planner.specs.Faults.{Fault, Output, or_short}
+use Rattle.planner.specs.Faults.{Fault, or_short}
+use Rattle.planner.specs.Results.{Output}
 use Rattle.planner.specs.Open.{plan_in, rows_of, fault_of}
 use Rattle.planner.specs.Times.{arc_weight}
 use Rattle.planner.specs.Output.{output_of, lent_after}

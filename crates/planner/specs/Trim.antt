@@ -9,7 +9,8 @@ use Rattle.plan.specs.Meaning.{extra_wait}
 use Rattle.plan.specs.Filtered.{filtered}
 use Rattle.plan.specs.model.ArcRows.{stays_by}
 use Rattle.plan.specs.model.Plans.{with_extra}
-use Rattle.planner.specs.Faults.{Fault, Output, or_short}
+use Rattle.planner.specs.Faults.{Fault, or_short}
+use Rattle.planner.specs.Results.{Output}
 use Rattle.planner.specs.Open.{plan_in, fault_of}
 use Rattle.planner.specs.Need.{or_overloaded}
 use Rattle.planner.specs.Verdict.{is_accepted}

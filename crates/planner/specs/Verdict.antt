@@ -1,7 +1,8 @@
 -- When a plan is accepted, and Verdict: what it answers.
 use Rattle.std.specs.Prelude.{Bool, List, ℕ, Ok}
 use Rattle.plan.specs.declared.Plan.{Plan}
-use Rattle.planner.specs.Faults.{Fault, Decision, outcome, is_fine}
+use Rattle.planner.specs.Faults.{Fault, outcome, is_fine}
+use Rattle.planner.specs.Results.{Decision}
 use Rattle.planner.specs.Open.{plan_in, job_order_for, order_for, read_fault, or_circles}
 use Rattle.planner.specs.Need.{or_overloaded}
 

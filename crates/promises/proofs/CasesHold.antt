@@ -31,7 +31,8 @@ use Rattle.solver.specs.model.Network.{giver, joined, shifted, handing}
 use Rattle.solver.specs.model.Solve.{blanks, blank_rows, ranked, started, rounded, solved}
 use Rattle.solver.specs.model.Quote.{unused, copied, outcome, amount, quote_in}
 use Rattle.kinds.specs.Needs.{demands_for}
-use Rattle.planner.specs.Faults.{Fault, CrewChecked, or_cause, or_short}
+use Rattle.planner.specs.Faults.{Fault, or_cause, or_short}
+use Rattle.planner.specs.Results.{CrewChecked}
 use Rattle.planner.specs.Answers.{unread_numbers, verdict_numbers, output_numbers, crew_check_numbers}
 use Rattle.planner.specs.Open.{rows_for, fault_of}
 use Rattle.planner.specs.Output.{output_of, lent_after}

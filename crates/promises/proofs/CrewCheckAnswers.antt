@@ -18,7 +18,7 @@ use Rattle.schedule.specs.Lists.{at}
 use Rattle.schedule.specs.declared.Checked.{Checked}
 use Rattle.schedule.specs.declared.Checked.TheVariants.{Fits, Broken, Overload}
 use Rattle.planner.specs.Open.{plan_in, Opens}
-use Rattle.planner.specs.Faults.{CrewChecked}
+use Rattle.planner.specs.Results.{CrewChecked}
 use Rattle.planner.specs.CrewCheck.{bad_lists, crew_work, crew_found, crew_check_answer}
 use Rattle.planner.specs.Times.{arc_weight, crew_occupies}
 use Rattle.planner.proofs.OpenLaws.{opens_readable}

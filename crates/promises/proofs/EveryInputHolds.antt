@@ -13,7 +13,8 @@ use Rattle.words.proofs.Tests.{or_left, or_right, or_cases}
 use Rattle.plan.specs.declared.Cause.{Cause as Unread}
 use Rattle.plan.specs.declared.Cause.TheVariants.{Length, RecordType, Field, MilestoneDemand, Spare, RepeatedArc}
 use Rattle.schedule.specs.declared.Checked.{Checked}
-use Rattle.planner.specs.Faults.{Fault, accepted, or_cause}
+use Rattle.planner.specs.Faults.{Fault, or_cause}
+use Rattle.planner.specs.Results.{accepted}
 use Rattle.planner.specs.Open.{plan_in, fault_of}
 use Rattle.planner.specs.Output.{output_of, lent_after}
 use Rattle.planner.specs.Need.{is_overloaded, over_cause}

@@ -25,7 +25,8 @@ use Rattle.plan.specs.Meaning.{Readable, FileArc, file_demand, file_kinds, file_
 use Rattle.flow_math.specs.Heaviest.{heaviest, need_of}
 use Rattle.kinds.specs.Needs.{demands_for}
 use Rattle.kinds.specs.Reading.{units_read}
-use Rattle.planner.specs.Faults.{Fault, Decision, accepted, is_fine, or_cause}
+use Rattle.planner.specs.Faults.{Fault, is_fine, or_cause}
+use Rattle.planner.specs.Results.{Decision, accepted}
 use Rattle.planner.specs.Open.{plan_in, fault_of}
 use Rattle.planner.specs.Output.{output_of, lent_after}
 use Rattle.planner.specs.Need.{available_for, need_for}

@@ -21,7 +21,8 @@ use Rattle.plan.specs.Records.{activity_count}
 use Rattle.kinds.specs.Needs.{demands_for}
 use Rattle.kinds.specs.Reading.{units_read}
 use Rattle.solver.proofs.QuoteSound.{need_small}
-use Rattle.planner.specs.Faults.{Fault, Decision, accepted, is_fine, or_cause}
+use Rattle.planner.specs.Faults.{Fault, is_fine, or_cause}
+use Rattle.planner.specs.Results.{Decision, accepted}
 use Rattle.planner.specs.Open.{plan_in, plan_order, fault_of, Opens}
 use Rattle.planner.specs.Numbers.{numbers_of}
 use Rattle.planner.specs.Need.{need_for, over_kind, is_overloaded, shown_set, over_cause}

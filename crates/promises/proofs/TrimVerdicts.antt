@@ -17,7 +17,8 @@ use Rattle.plan.specs.declared.Plan.{Plan}
 use Rattle.plan.specs.model.ArcRows.{arc_rows}
 use Rattle.plan.specs.model.Plans.{with_extra}
 use Rattle.plan.proofs.Said.{plan_but}
-use Rattle.planner.specs.Faults.{Fault, accepted, is_fine}
+use Rattle.planner.specs.Faults.{Fault, is_fine}
+use Rattle.planner.specs.Results.{accepted}
 use Rattle.planner.specs.Open.{plan_in, fault_of, Opens}
 use Rattle.planner.specs.Need.{is_overloaded, over_cause}
 use Rattle.planner.specs.Verdict.{is_accepted, verdict_fault, verdict_of}

@@ -3,7 +3,7 @@
 -- `every_input` of proofs/EveryInputHolds.antt, for every list of numbers, bytes or not.
 use Rattle.std.specs.Prelude.{◌≡◌, List, [], ◌∷◌, ◌++◌, ◌⊎◌, ℕ, length, Ok, Err}
 use Rattle.schedule.specs.declared.Checked.{Checked}
-use Rattle.planner.specs.Faults.{accepted}
+use Rattle.planner.specs.Results.{accepted}
 use Rattle.planner.specs.declared.Cause.{Cause}
 use Rattle.planner.specs.Answers.{cause_number}
 use Rattle.promises.specs.Planner.{Writing, Planner}

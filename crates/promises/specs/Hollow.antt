@@ -8,7 +8,8 @@ use Rattle.words.specs.Tables.{table}
 use Rattle.order.specs.Before.{Acyclic}
 use Rattle.plan.specs.Meaning.{Readable, FileArc, file_kinds, file_demand, file_available}
 use Rattle.plan.specs.Records.{activity_count}
-use Rattle.planner.specs.Faults.{Decision, accepted, or_cause}
+use Rattle.planner.specs.Faults.{or_cause}
+use Rattle.planner.specs.Results.{Decision, accepted}
 use Rattle.planner.specs.Open.{plan_in, fault_of}
 use Rattle.planner.specs.Output.{output_of, lent_after}
 use Rattle.planner.specs.Need.{available_for}

@@ -2,7 +2,7 @@
 -- every list of bytes. The demands of document 00 are said of any planner (EveryInput, Paper, PriceList,
 -- Refusals), and name no definition of what our operations do. Ours is `ours` of Ours.
 use Rattle.std.specs.Prelude.{List, ℕ}
-use Rattle.planner.specs.Faults.{Decision, Output, CrewChecked}
+use Rattle.planner.specs.Results.{Decision, Output, CrewChecked}
 
 -- an operation that writes: its answer, by the plan's bytes and how many numbers or bytes are lent, and
 -- what is then in what was lent

@@ -13,7 +13,7 @@ use Rattle.records.specs.Bytes.{AreBytes, byte, field}
 use Rattle.plan.specs.Meaning.{Readable, FileArc, file_kinds, file_demand, file_available}
 use Rattle.plan.specs.Records.{activity_count}
 use Rattle.kinds.specs.Reading.{units_read}
-use Rattle.planner.specs.Faults.{accepted}
+use Rattle.planner.specs.Results.{accepted}
 use Rattle.planner.specs.Numbers.{numbers_of}
 use Rattle.planner.specs.File.{Unrelated, demand_sum, FileFlow, flow_length}
 use Rattle.planner.specs.Times.{FileCrew, crew_occupies}

@@ -11,7 +11,7 @@ use Rattle.records.specs.Bytes.{AreBytes}
 use Rattle.plan.specs.Records.{activity_count}
 use Rattle.plan.specs.Meaning.{Readable, ExtraArc, FileArc, file_kinds, job_wait, extra_wait}
 use Rattle.plan.specs.Filtered.{Selected}
-use Rattle.planner.specs.Faults.{accepted}
+use Rattle.planner.specs.Results.{accepted}
 use Rattle.planner.specs.Answers.{cause_number, output_numbers}
 use Rattle.planner.specs.declared.Cause.{Cause}
 use Rattle.promises.specs.Planner.{Writing, Planner}

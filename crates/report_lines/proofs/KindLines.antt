@@ -6,7 +6,7 @@ use native.Mathlib.Omega.{arith}
 use lib.ListN.{length, drop}
 use Rattle.std.specs.Prelude.{Ok, Err}
 use Rattle.records.specs.Bytes.{AreBytes}
-use Rattle.planner.specs.Faults.{Output}
+use Rattle.planner.specs.Results.{Output}
 use Rattle.planner.specs.Open.{plan_in}
 use Rattle.planner.specs.Flow.{most_records, flow_count, record_bytes, flow_answer, flow_out}
 use Rattle.planner.specs.declared.Cause.{Cause}

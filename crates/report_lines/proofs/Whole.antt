@@ -9,7 +9,7 @@ use Rattle.records.specs.Records.{joined}
 use Rattle.lines.specs.Text.{Text, more}
 use Rattle.lines.proofs.Putting.{Short, short_room, short_more}
 use Rattle.plan.specs.Records.{activities as most}
-use Rattle.planner.specs.Faults.{Decision}
+use Rattle.planner.specs.Results.{Decision}
 use Rattle.planner.specs.Open.{plan_in}
 use Rattle.planner.specs.Verdict.{verdict_answer}
 use Rattle.planner.specs.Needs.{need_numbers, needs_out}

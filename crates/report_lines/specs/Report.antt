@@ -3,7 +3,8 @@
 use Rattle.std.specs.Prelude.{◌≡◌, true, List, ◌++◌, ℕ, ◌+◌, ◌*◌, ◌≤◌, length, take, Ok, Err}
 use Rattle.records.specs.Records.{joined}
 use Rattle.plan.specs.declared.Plan.{Plan}
-use Rattle.planner.specs.Faults.{Decision, is_fine}
+use Rattle.planner.specs.Faults.{is_fine}
+use Rattle.planner.specs.Results.{Decision}
 use Rattle.planner.specs.Open.{plan_in}
 use Rattle.planner.specs.Needs.{need_numbers}
 use Rattle.planner.specs.Starts.{start_numbers}

@@ -25,7 +25,8 @@ use Rattle.schedule.proofs.Arcs.{broken_first, broken_to_first}
 use Rattle.schedule.proofs.Periods.{lowest_first, period_bound}
 use Rattle.planner.specs.Numbers.{refusal_of}
 use Rattle.planner.specs.Open.{plan_in}
-use Rattle.planner.specs.Faults.{Fault, Output, is_fine}
+use Rattle.planner.specs.Faults.{Fault, is_fine}
+use Rattle.planner.specs.Results.{Output}
 use Rattle.planner.specs.Output.{output_of}
 use Rattle.planner.specs.Need.{is_overloaded}
 use Rattle.planner.specs.Verdict.{verdict_fault, verdict_of, verdict_answer}

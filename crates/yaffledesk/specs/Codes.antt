@@ -5,7 +5,7 @@ use Rattle.order.specs.Stored.{number_of}
 use Rattle.order.specs.Sets.{size_of}
 use Rattle.schedule.specs.declared.Checked.{Checked}
 use Rattle.schedule.specs.declared.Checked.TheVariants.{Fits, Broken, Overload}
-use Rattle.planner.specs.Faults.{Decision, Output, CrewChecked}
+use Rattle.planner.specs.Results.{Decision, Output, CrewChecked}
 use Rattle.planner.specs.Numbers.{refusal_of}
 use Rattle.planner.specs.declared.Cause.{Cause}
 use Rattle.planner.specs.declared.Refusal.{Refusal}

@@ -1,7 +1,8 @@
 -- The report for C: the text of a file's bytes (`report_of` of report_lines), written to lent memory as the
 -- planner's operations write. A plan that is refused has a report too, its one line; so the only cause is 9.
 use Rattle.std.specs.Prelude.{List, ℕ, length, Ok}
-use Rattle.planner.specs.Faults.{Fault, Output, or_short}
+use Rattle.planner.specs.Faults.{Fault, or_short}
+use Rattle.planner.specs.Results.{Output}
 use Rattle.planner.specs.Output.{output_of, lent_after}
 use Rattle.report_lines.specs.Report.{text_room, report_of}
 

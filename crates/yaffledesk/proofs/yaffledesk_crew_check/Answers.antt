@@ -2,7 +2,7 @@
 use mathlib.Core.Path.{◌≡◌, sym, ap, ◌∙◌, subst}
 use Prim.Native.Nat.{◌<◌, ◌^◌}
 use native.Mathlib.Omega.{arith}
-use Rattle.planner.specs.Faults.{CrewChecked}
+use Rattle.planner.specs.Results.{CrewChecked}
 use Rattle.planner.specs.CrewCheck.{crew_check_answer}
 use Rattle.yaffledesk.specs.Codes.{crew_check_code}
 use Rattle.yaffledesk.proofs.CodeBounds.{crew_small}

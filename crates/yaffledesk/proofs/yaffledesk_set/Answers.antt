@@ -6,7 +6,7 @@ use native.Mathlib.Omega.{arith}
 use Rattle.yaffledesk.specs.Codes.{shown_word}
 use Rattle.yaffledesk.proofs.CodeBounds.{shown_small}
 use Rattle.yaffledesk.proofs.yaffledesk_set.Goals as goal
-use Rattle.planner.specs.Faults.{Decision}
+use Rattle.planner.specs.Results.{Decision}
 
 pub returns : goal.returns
 returns c =

@@ -5,7 +5,7 @@ use native.Mathlib.Omega.{arith}
 use Rattle.yaffledesk.specs.Codes.{verdict_code}
 use Rattle.yaffledesk.proofs.CodeBounds.{verdict_small}
 use Rattle.yaffledesk.proofs.yaffledesk_verdict.Goals as goal
-use Rattle.planner.specs.Faults.{Decision}
+use Rattle.planner.specs.Results.{Decision}
 
 pub verdict_code-requires : goal.verdict_code-requires
 verdict_code-requires c =

@@ -3,7 +3,7 @@ use mathlib.Core.Path.{sym, ap, ◌∙◌, subst}
 use Prim.Native.Nat.{◌<◌, ◌^◌}
 use Rattle.yaffledesk.specs.Codes.{crew_check_code}
 use Rattle.yaffledesk.proofs.codes.crew_check_code.Goals as goal
-use Rattle.planner.specs.Faults.{CrewChecked}
+use Rattle.planner.specs.Results.{CrewChecked}
 
 pub found_code-requires : goal.found_code-requires
 found_code-requires c = subst (λ (x : CrewChecked). crew_check_code x < 2 ^ 64) c.in-Ok.is c.requires

@@ -1,7 +1,7 @@
 -- `yaffledesk::codes::output_code` meets its contract, by the cases of the answer.
 use mathlib.Core.Path.{sym, ap, ◌∙◌, subst}
 use Prim.Native.Nat.{◌<◌, ◌^◌}
-use Rattle.planner.specs.Faults.{Output}
+use Rattle.planner.specs.Results.{Output}
 use Rattle.yaffledesk.specs.Codes.{output_code}
 use native.Mathlib.Omega.{arith}
 use Rattle.yaffledesk.proofs.codes.output_code.Goals as goal

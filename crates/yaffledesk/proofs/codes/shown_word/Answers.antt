@@ -3,7 +3,7 @@ use mathlib.Core.Path.{sym, ap, ◌∙◌}
 use Prim.Native.Nat.{◌%◌, ◌^◌}
 use Rattle.yaffledesk.specs.Codes.{shown_word}
 use Rattle.yaffledesk.proofs.codes.shown_word.Goals as goal
-use Rattle.planner.specs.Faults.{Decision}
+use Rattle.planner.specs.Results.{Decision}
 
 pub returns-in-Ok : goal.returns-in-Ok
 returns-in-Ok c = sym (ap (λ (x : Decision). shown_word x % 2 ^ 64) c.in-Ok.is)

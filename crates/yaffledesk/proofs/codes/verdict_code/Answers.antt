@@ -4,7 +4,7 @@ use Prim.Native.Nat.{◌<◌, ◌^◌}
 use native.Mathlib.Omega.{arith}
 use Rattle.yaffledesk.specs.Codes.{verdict_code}
 use Rattle.yaffledesk.proofs.codes.verdict_code.Goals as goal
-use Rattle.planner.specs.Faults.{Decision}
+use Rattle.planner.specs.Results.{Decision}
 
 pub overflow_mul-kinds : goal.overflow_mul-kinds
 overflow_mul-kinds c = record { fits = omega (arith, subst (λ (x : Decision). verdict_code x < 2 ^ 64) c.in-Ok.is c.requires) }

@@ -1,7 +1,8 @@
 -- `planner::ops::verdict::verdict` meets its contract, from what was opened and what the kinds need.
 use mathlib.Core.Path.{sym, ap, ◌∙◌}
 use native.Mathlib.Omega.{arith}
-use Rattle.planner.specs.Faults.{Fault, accepted}
+use Rattle.planner.specs.Faults.{Fault}
+use Rattle.planner.specs.Results.{accepted}
 use Rattle.planner.specs.Open.{plan_in}
 use Rattle.planner.specs.Verdict.{verdict_of}
 use Rattle.planner.specs.model.Opening.{Held}
